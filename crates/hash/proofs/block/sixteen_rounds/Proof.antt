@@ -1,0 +1,256 @@
+use borrow.Author.Needs.{needs}
+use Rattle.hash.proofs.block.sixteen_rounds.Statement.{statement}
+use Rattle.hash.proofs.block.sixteen_rounds.Tie as tie
+use Rattle.hash.proofs.block.sixteen_rounds.Reads as reads
+use Rattle.hash.proofs.block.sixteen_rounds.Lts as lts
+use Rattle.hash.proofs.block.round.Reads as round-reads
+
+-- src/block.rt:161:22
+shared-slice-read-round : tie.Need-shared-slice-read-round
+shared-slice-read-round c = search needs
+
+-- src/block.rt:161:28
+element-copy-out-round : tie.Need-element-copy-out-round
+element-copy-out-round c = search needs
+
+-- src/block.rt:161:9
+round-requires : tie.Need-round-requires
+round-requires c κs = search needs
+
+-- src/block.rt:162:22
+shared-slice-read-round-2 : tie.Need-shared-slice-read-round-2
+shared-slice-read-round-2 c = search needs
+
+-- src/block.rt:162:28
+element-copy-out-round-2 : tie.Need-element-copy-out-round-2
+element-copy-out-round-2 c = search needs
+
+-- src/block.rt:162:9
+round-requires-2 : tie.Need-round-requires-2
+round-requires-2 c κs = search needs
+
+-- src/block.rt:163:22
+shared-slice-read-round-3 : tie.Need-shared-slice-read-round-3
+shared-slice-read-round-3 c = search needs
+
+-- src/block.rt:163:28
+element-copy-out-round-3 : tie.Need-element-copy-out-round-3
+element-copy-out-round-3 c = search needs
+
+-- src/block.rt:163:9
+round-requires-3 : tie.Need-round-requires-3
+round-requires-3 c κs = search needs
+
+-- src/block.rt:164:22
+shared-slice-read-round-4 : tie.Need-shared-slice-read-round-4
+shared-slice-read-round-4 c = search needs
+
+-- src/block.rt:164:28
+element-copy-out-round-4 : tie.Need-element-copy-out-round-4
+element-copy-out-round-4 c = search needs
+
+-- src/block.rt:164:9
+round-requires-4 : tie.Need-round-requires-4
+round-requires-4 c κs = search needs
+
+-- src/block.rt:165:22
+shared-slice-read-round-5 : tie.Need-shared-slice-read-round-5
+shared-slice-read-round-5 c = search needs
+
+-- src/block.rt:165:28
+element-copy-out-round-5 : tie.Need-element-copy-out-round-5
+element-copy-out-round-5 c = search needs
+
+-- src/block.rt:165:9
+round-requires-5 : tie.Need-round-requires-5
+round-requires-5 c κs = search needs
+
+-- src/block.rt:166:22
+shared-slice-read-round-6 : tie.Need-shared-slice-read-round-6
+shared-slice-read-round-6 c = search needs
+
+-- src/block.rt:166:28
+element-copy-out-round-6 : tie.Need-element-copy-out-round-6
+element-copy-out-round-6 c = search needs
+
+-- src/block.rt:166:9
+round-requires-6 : tie.Need-round-requires-6
+round-requires-6 c κs = search needs
+
+-- src/block.rt:167:22
+shared-slice-read-round-7 : tie.Need-shared-slice-read-round-7
+shared-slice-read-round-7 c = search needs
+
+-- src/block.rt:167:28
+element-copy-out-round-7 : tie.Need-element-copy-out-round-7
+element-copy-out-round-7 c = search needs
+
+-- src/block.rt:167:9
+round-requires-7 : tie.Need-round-requires-7
+round-requires-7 c κs = search needs
+
+-- src/block.rt:168:22
+shared-slice-read-round-8 : tie.Need-shared-slice-read-round-8
+shared-slice-read-round-8 c = search needs
+
+-- src/block.rt:168:28
+element-copy-out-round-8 : tie.Need-element-copy-out-round-8
+element-copy-out-round-8 c = search needs
+
+-- src/block.rt:168:9
+round-requires-8 : tie.Need-round-requires-8
+round-requires-8 c κs = search needs
+
+-- src/block.rt:169:22
+shared-slice-read-round-9 : tie.Need-shared-slice-read-round-9
+shared-slice-read-round-9 c = search needs
+
+-- src/block.rt:169:28
+element-copy-out-round-9 : tie.Need-element-copy-out-round-9
+element-copy-out-round-9 c = search needs
+
+-- src/block.rt:169:9
+round-requires-9 : tie.Need-round-requires-9
+round-requires-9 c κs = search needs
+
+-- src/block.rt:170:22
+shared-slice-read-round-10 : tie.Need-shared-slice-read-round-10
+shared-slice-read-round-10 c = search needs
+
+-- src/block.rt:170:28
+element-copy-out-round-10 : tie.Need-element-copy-out-round-10
+element-copy-out-round-10 c = search needs
+
+-- src/block.rt:170:9
+round-requires-10 : tie.Need-round-requires-10
+round-requires-10 c κs = search needs
+
+-- src/block.rt:171:22
+shared-slice-read-round-11 : tie.Need-shared-slice-read-round-11
+shared-slice-read-round-11 c = search needs
+
+-- src/block.rt:171:29
+element-copy-out-round-11 : tie.Need-element-copy-out-round-11
+element-copy-out-round-11 c = search needs
+
+-- src/block.rt:171:9
+round-requires-11 : tie.Need-round-requires-11
+round-requires-11 c κs = search needs
+
+-- src/block.rt:172:22
+shared-slice-read-round-12 : tie.Need-shared-slice-read-round-12
+shared-slice-read-round-12 c = search needs
+
+-- src/block.rt:172:29
+element-copy-out-round-12 : tie.Need-element-copy-out-round-12
+element-copy-out-round-12 c = search needs
+
+-- src/block.rt:172:9
+round-requires-12 : tie.Need-round-requires-12
+round-requires-12 c κs = search needs
+
+-- src/block.rt:173:22
+shared-slice-read-round-13 : tie.Need-shared-slice-read-round-13
+shared-slice-read-round-13 c = search needs
+
+-- src/block.rt:173:29
+element-copy-out-round-13 : tie.Need-element-copy-out-round-13
+element-copy-out-round-13 c = search needs
+
+-- src/block.rt:173:9
+round-requires-13 : tie.Need-round-requires-13
+round-requires-13 c κs = search needs
+
+-- src/block.rt:174:22
+shared-slice-read-round-14 : tie.Need-shared-slice-read-round-14
+shared-slice-read-round-14 c = search needs
+
+-- src/block.rt:174:29
+element-copy-out-round-14 : tie.Need-element-copy-out-round-14
+element-copy-out-round-14 c = search needs
+
+-- src/block.rt:174:9
+round-requires-14 : tie.Need-round-requires-14
+round-requires-14 c κs = search needs
+
+-- src/block.rt:175:22
+shared-slice-read-round-15 : tie.Need-shared-slice-read-round-15
+shared-slice-read-round-15 c = search needs
+
+-- src/block.rt:175:29
+element-copy-out-round-15 : tie.Need-element-copy-out-round-15
+element-copy-out-round-15 c = search needs
+
+-- src/block.rt:175:9
+round-requires-15 : tie.Need-round-requires-15
+round-requires-15 c κs = search needs
+
+-- src/block.rt:176:14
+shared-slice-read-round-16 : tie.Need-shared-slice-read-round-16
+shared-slice-read-round-16 c = search needs
+
+-- src/block.rt:176:21
+element-copy-out-round-16 : tie.Need-element-copy-out-round-16
+element-copy-out-round-16 c = search needs
+
+-- src/block.rt:176:5
+round-requires-16 : tie.Need-round-requires-16
+round-requires-16 c κs = search needs
+
+-- src/block.rt:157:1
+returns : tie.Need-returns
+returns c = ?
+
+pub sixteen-rounds-spec : {M : Type 1} → statement M
+sixteen-rounds-spec =
+    tie.close
+    (tie.spec
+    shared-slice-read-round
+    element-copy-out-round
+    round-requires
+    shared-slice-read-round-2
+    element-copy-out-round-2
+    round-requires-2
+    shared-slice-read-round-3
+    element-copy-out-round-3
+    round-requires-3
+    shared-slice-read-round-4
+    element-copy-out-round-4
+    round-requires-4
+    shared-slice-read-round-5
+    element-copy-out-round-5
+    round-requires-5
+    shared-slice-read-round-6
+    element-copy-out-round-6
+    round-requires-6
+    shared-slice-read-round-7
+    element-copy-out-round-7
+    round-requires-7
+    shared-slice-read-round-8
+    element-copy-out-round-8
+    round-requires-8
+    shared-slice-read-round-9
+    element-copy-out-round-9
+    round-requires-9
+    shared-slice-read-round-10
+    element-copy-out-round-10
+    round-requires-10
+    shared-slice-read-round-11
+    element-copy-out-round-11
+    round-requires-11
+    shared-slice-read-round-12
+    element-copy-out-round-12
+    round-requires-12
+    shared-slice-read-round-13
+    element-copy-out-round-13
+    round-requires-13
+    shared-slice-read-round-14
+    element-copy-out-round-14
+    round-requires-14
+    shared-slice-read-round-15
+    element-copy-out-round-15
+    round-requires-15
+    shared-slice-read-round-16
+    element-copy-out-round-16
+    round-requires-16
+    returns)

@@ -1,0 +1,54 @@
+use borrow.Author.Needs.{needs}
+use Rattle.hash.proofs.sha256.blocks.Statement.{statement}
+use Rattle.hash.proofs.sha256.blocks.Tie as tie
+use Rattle.hash.proofs.sha256.blocks.Reads as reads
+use Rattle.hash.proofs.sha256.blocks.Lts as lts
+use Rattle.hash.proofs.block.compress.Reads as compress-reads
+
+abbrev Inv-loop : tie.InvT-loop
+Inv-loop s n x₀ i₀ x i = ?
+
+abbrev μ-loop : tie.MeasureT-loop
+μ-loop s n x₀ i₀ x i = ?
+
+-- src/sha256.rt:35:5
+loop-holds : tie.Need-loop-holds Inv-loop μ-loop
+loop-holds c = ?
+
+-- src/sha256.rt:36:28
+mul-compress : tie.Need-mul-compress Inv-loop μ-loop
+mul-compress c = search needs
+
+-- src/sha256.rt:36:9
+compress-requires : tie.Need-compress-requires Inv-loop μ-loop
+compress-requires c κs = search needs
+
+-- src/sha256.rt:35:9
+add-i : tie.Need-add-i Inv-loop μ-loop
+add-i c = search needs
+
+-- src/sha256.rt:35:5
+loop-less : tie.Need-loop-less Inv-loop μ-loop
+loop-less c = search needs
+
+-- src/sha256.rt:35:5
+loop-again : tie.Need-loop-again Inv-loop μ-loop
+loop-again c = ?
+
+-- src/sha256.rt:30:1
+returns : tie.Need-returns Inv-loop μ-loop
+returns c = ?
+
+pub blocks-spec : {M : Type 1} → statement M
+blocks-spec =
+    tie.close
+    (tie.spec
+    Inv-loop
+    μ-loop
+    loop-holds
+    mul-compress
+    compress-requires
+    add-i
+    loop-less
+    loop-again
+    returns)

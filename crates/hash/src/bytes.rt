@@ -1,0 +1,32 @@
+// Copying bytes, and numbers as bytes, the highest first.
+ghost use mathlib.Core.Path.{_≡_};
+ghost use Prim.Native.Nat.{_+_, _≤_};
+ghost use lib.ListN.{length};
+ghost use lib.Seq.{paste};
+ghost use Rattle.hash.specs.Bytes.{bigEndian};
+
+// Copies src into dst from a place on.
+pub(crate) fn copy_at(dst: &mut [u8], at: usize, src: &[u8])
+    requires { ⌜ at + length (now src) ≤ length (now dst) ⌝ }
+    ensures { λ _. ⌜ now (dst .exit) ≡ paste (now (dst .entry)) at (now (src .entry)) (length (now (src .entry))) ⌝ }
+{
+    let n = src.len();
+    for i in 0..n {
+        dst[at + i] = src[i];
+    }
+}
+
+pub(crate) fn bytes8(x: u64) -> [u8; 8]
+    ensures { λ r. ⌜ r ≡ bigEndian 8 x ⌝ }
+{
+    [
+        (x / 256 / 256 / 256 / 256 / 256 / 256 / 256 % 256) as u8,
+        (x / 256 / 256 / 256 / 256 / 256 / 256 % 256) as u8,
+        (x / 256 / 256 / 256 / 256 / 256 % 256) as u8,
+        (x / 256 / 256 / 256 / 256 % 256) as u8,
+        (x / 256 / 256 / 256 % 256) as u8,
+        (x / 256 / 256 % 256) as u8,
+        (x / 256 % 256) as u8,
+        (x % 256) as u8,
+    ]
+}
