@@ -14,7 +14,7 @@ pub fn hmac(key: &[u8], text: &[u8]) -> [u8; 32] {
     outer.finish()
 }
 
-/// Brings a key to the length of a block: hashed if it is longer, then filled up with zeros (section 2).
+/// Brings a key to the length of a block: a longer one is hashed, then zeros follow (section 2).
 fn key_block(key: &[u8]) -> [u8; BLOCK] {
     let mut block = [0; BLOCK];
     if key.len() > BLOCK {
@@ -80,7 +80,7 @@ mod tests {
         );
     }
 
-    // RFC 2104, section 2: the key is filled up with zeros to a block, and a longer key is hashed first.
+    // RFC 2104, section 2: only a key longer than a block is hashed, and zeros fill up the block.
     #[test]
     fn key_lengths() {
         let key: Vec<u8> = (1..=65).collect();

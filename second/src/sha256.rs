@@ -140,7 +140,7 @@ impl Sha256 {
         self.rest[..rest.len()].copy_from_slice(rest);
     }
 
-    /// Pads the message with a one bit, zeros and its length in bits (section 5.1.1) and gives the digest.
+    /// Appends a one bit, zeros and the length in bits (section 5.1.1) and gives the digest.
     pub fn finish(mut self) -> [u8; 32] {
         let held = (self.length % BLOCK as u64) as usize;
         self.rest[held] = 0x80;

@@ -58,7 +58,7 @@ fn fail(what: &str, length: usize) -> ! {
     exit(1);
 }
 
-/// Compares the digests of one message, and what happens to the bytes around the room for the digest.
+/// Compares the digests of one message, and checks the bytes that must not change.
 fn compare(message: &[u8]) {
     let expected = sha256(message);
     // Two fillings, so that a byte of the digest that is not written cannot pass by chance.

@@ -6,11 +6,11 @@ use Prim.Native.Nat.{ℕ, zero, suc, _+_, _-_, _*_, _≤_, _<_}
 use native.Mathlib.Nat.{add-zero, add-suc}
 use native.Mathlib.Numerals.{add-one}
 use native.Mathlib.Omega.{arith}
-use lib.ListN.{length, getD, take, drop, set, length-append, drop-of-length-le}
-use lib.Seq.{length-take-le, getD-take, getD-drop, getD-append-add, take-suc-set, drop-cons, drop-at}
+use lib.ListN.{length, getD, take, drop, set, length-append, length-drop, take-append-drop, drop-of-length-le, List·getD-append}
+use lib.Seq.{length-take-le, getD-take, getD-drop, getD-append-add, take-append-le, take-all, take-suc-set, drop-cons, drop-at}
 use Rattle.hash.specs.declared.block.HashValue.{HashValue}
-use Rattle.hash.specs.Words.{word}
-use Rattle.hash.specs.Block.{words, mixed, next, extended, round, rounds}
+use Rattle.hash.specs.Words.{word, constants}
+use Rattle.hash.specs.Block.{words, mixed, next, extended, schedule, round, rounds, added, compressed}
 
 -- ---- the words of a block
 
@@ -48,3 +48,159 @@ pub words-step : (w s : List ℕ) (at t v : ℕ) → t < 16 → t < length w →
 words-step w s at t v h k e ev =
     let v' : v ≡ word (take 64 (drop at s)) (4 * t) = ev ∙ sym (word-part s at t h) in
     rw (words-more t (take 64 (drop at s)), ← e, ← v', add-one t, take-suc-set w t v k)
+
+-- ---- the schedule, sixteen words at a time
+
+-- the elements of a list from place i on, n of them
+listed : ℕ → ℕ → List ℕ → List ℕ
+listed i zero w = []
+listed i (suc n) w = getD w i 0 ∷ listed (suc i) n w
+
+listed-drop : (n i : ℕ) (w : List ℕ) → length w ≡ i + n → drop i w ≡ listed i n w
+unfolding listed
+listed-drop zero i w h = drop-of-length-le w {i = i} (omega arith)
+listed-drop (suc n) i w h = drop-cons w i 0 (omega arith) ∙ ap (λ (l : List ℕ). getD w i 0 ∷ l) (listed-drop n (suc i) w (omega arith))
+
+-- the sixteen words after sixteen words, written out
+abbrev nextSixteen : List ℕ → List ℕ
+nextSixteen w =
+    let a = mixed (getD w 14 0) (getD w 9 0) (getD w 1 0) (getD w 0 0) in
+    let b = mixed (getD w 15 0) (getD w 10 0) (getD w 2 0) (getD w 1 0) in
+    let c = mixed a (getD w 11 0) (getD w 3 0) (getD w 2 0) in
+    let d = mixed b (getD w 12 0) (getD w 4 0) (getD w 3 0) in
+    let e = mixed c (getD w 13 0) (getD w 5 0) (getD w 4 0) in
+    let f = mixed d (getD w 14 0) (getD w 6 0) (getD w 5 0) in
+    let g = mixed e (getD w 15 0) (getD w 7 0) (getD w 6 0) in
+    let h = mixed f a (getD w 8 0) (getD w 7 0) in
+    let i = mixed g b (getD w 9 0) (getD w 8 0) in
+    let j = mixed h c (getD w 10 0) (getD w 9 0) in
+    let k = mixed i d (getD w 11 0) (getD w 10 0) in
+    let l = mixed j e (getD w 12 0) (getD w 11 0) in
+    let m = mixed k f (getD w 13 0) (getD w 12 0) in
+    let n = mixed l g (getD w 14 0) (getD w 13 0) in
+    let o = mixed m h (getD w 15 0) (getD w 14 0) in
+    let p = mixed n i a (getD w 15 0) in
+    a ∷ b ∷ c ∷ d ∷ e ∷ f ∷ g ∷ h ∷ i ∷ j ∷ k ∷ l ∷ m ∷ n ∷ o ∷ p ∷ []
+
+next-sixteen-written : (w : List ℕ) → length w ≡ 16 → nextSixteen w ≡ drop 16 (extended 16 w)
+unfolding extended next listed
+next-sixteen-written w h = sym (ap (λ (l : List ℕ). drop 16 (extended 16 l)) (listed-drop 16 0 w h))
+
+-- the same where each word has a name
+pub next-sixteen : (w : List ℕ) (a b c d e f g h i j k l m n o p : ℕ) → length w ≡ 16
+    → a ≡ mixed (getD w 14 0) (getD w 9 0) (getD w 1 0) (getD w 0 0)
+    → b ≡ mixed (getD w 15 0) (getD w 10 0) (getD w 2 0) (getD w 1 0)
+    → c ≡ mixed a (getD w 11 0) (getD w 3 0) (getD w 2 0)
+    → d ≡ mixed b (getD w 12 0) (getD w 4 0) (getD w 3 0)
+    → e ≡ mixed c (getD w 13 0) (getD w 5 0) (getD w 4 0)
+    → f ≡ mixed d (getD w 14 0) (getD w 6 0) (getD w 5 0)
+    → g ≡ mixed e (getD w 15 0) (getD w 7 0) (getD w 6 0)
+    → h ≡ mixed f a (getD w 8 0) (getD w 7 0)
+    → i ≡ mixed g b (getD w 9 0) (getD w 8 0)
+    → j ≡ mixed h c (getD w 10 0) (getD w 9 0)
+    → k ≡ mixed i d (getD w 11 0) (getD w 10 0)
+    → l ≡ mixed j e (getD w 12 0) (getD w 11 0)
+    → m ≡ mixed k f (getD w 13 0) (getD w 12 0)
+    → n ≡ mixed l g (getD w 14 0) (getD w 13 0)
+    → o ≡ mixed m h (getD w 15 0) (getD w 14 0)
+    → p ≡ mixed n i a (getD w 15 0)
+    → a ∷ b ∷ c ∷ d ∷ e ∷ f ∷ g ∷ h ∷ i ∷ j ∷ k ∷ l ∷ m ∷ n ∷ o ∷ p ∷ [] ≡ drop 16 (extended 16 w)
+next-sixteen w a b c d e f g h i j k l m n o p hw ea eb ec ed ee ef eg eh ei ej ek el em en eo ep =
+    rw (ep, eo, en, em, el, ek, ej, ei, eh, eg, ef, ee, ed, ec, eb, ea) (next-sixteen-written w hw)
+
+-- the next word depends on the last sixteen only
+next-tail : (p q : List ℕ) → 16 ≤ length q → next (p ++ q) ≡ next q
+unfolding next
+next-tail p q h =
+    let at : (k : ℕ) → k ≤ 16 → getD (p ++ q) (length (p ++ q) - k) 0 ≡ getD q (length q - k) 0 =
+        λ k hk. let e : length (p ++ q) - k ≡ length p + (length q - k) = omega (arith, length-append p q) in rw e (getD-append-add p q (length q - k) 0) in
+    rw (at 2 (omega arith), at 7 (omega arith), at 15 (omega arith), at 16 (omega arith))
+
+extended-length : (n : ℕ) (w : List ℕ) → length (extended n w) ≡ length w + n
+unfolding extended
+extended-length zero w = rw add-zero
+extended-length (suc n) w = let e = extended-length n w in simp length-append (omega arith)
+
+-- words before the last sixteen stay in front
+extended-tail : (n : ℕ) (p q : List ℕ) → 16 ≤ length q → extended n (p ++ q) ≡ p ++ extended n q
+unfolding extended
+extended-tail zero p q h = refl
+extended-tail (suc n) p q h =
+    let l : 16 ≤ length (extended n q) = omega (arith, extended-length n q) in
+    rw (extended-tail n p q h, next-tail p (extended n q) l) (append-assoc p (extended n q) (next (extended n q) ∷ []))
+
+extended-add : (n k : ℕ) (w : List ℕ) → extended (n + k) w ≡ extended k (extended n w)
+unfolding extended
+extended-add n zero w = rw add-zero
+extended-add n (suc k) w = rw (add-suc, extended-add n k w)
+
+extended-zero : (w : List ℕ) → extended 0 w ≡ w
+unfolding extended
+extended-zero w = refl
+
+extended-front : (n : ℕ) (w : List ℕ) → length w ≡ 16 → take 16 (extended n w) ≡ w
+unfolding extended
+extended-front zero w h = take-all 16 w (omega arith)
+extended-front (suc n) w h = take-append-le 16 (extended n w) (next (extended n w) ∷ []) (omega (arith, extended-length n w)) ∙ extended-front n w h
+
+-- the words w, the sixteen after them, and n more after those
+extended-sixteen : (n : ℕ) (w : List ℕ) → length w ≡ 16 → extended (16 + n) w ≡ w ++ extended n (drop 16 (extended 16 w))
+extended-sixteen n w h =
+    let l : length (drop 16 (extended 16 w)) ≡ 16 = length-drop 16 (extended 16 w) ∙ omega (arith, extended-length 16 w) in
+    let front : take 16 (extended 16 w) ≡ w = extended-front 16 w h in
+    let e : extended 16 w ≡ w ++ drop 16 (extended 16 w) = sym (take-append-drop 16 (extended 16 w)) ∙ ap (λ (x : List ℕ). x ++ drop 16 (extended 16 w)) front in
+    extended-add 16 n w ∙ ap (extended n) e ∙ extended-tail n w (drop 16 (extended 16 w)) (omega arith)
+
+-- ---- the rounds, sixteen at a time
+
+-- one round more, by its values
+pub rounds-zero : (v : HashValue) (k w : List ℕ) → v ≡ rounds 0 v k w
+unfolding rounds
+rounds-zero v k w = refl
+
+pub rounds-step : (n : ℕ) (v r s : HashValue) (k w : List ℕ) → r ≡ rounds n v k w → s ≡ round r (getD k n 0) (getD w n 0) → s ≡ rounds (suc n) v k w
+unfolding rounds
+rounds-step n v r s k w e f = f ∙ rw e
+
+rounds-front : (n : ℕ) (v : HashValue) (c d x y : List ℕ) → n ≤ length c → n ≤ length x → rounds n v (c ++ d) (x ++ y) ≡ rounds n v c x
+unfolding rounds
+rounds-front zero v c d x y hc hx = refl
+rounds-front (suc n) v c d x y hc hx =
+    rw (rounds-front n v c d x y (omega arith) (omega arith), List·getD-append c d 0 n (omega arith), List·getD-append x y 0 n (omega arith))
+
+rounds-append : (n : ℕ) (v : HashValue) (c d x y : List ℕ) → length c ≡ length x
+    → rounds (length x + n) v (c ++ d) (x ++ y) ≡ rounds n (rounds (length x) v c x) d y
+unfolding rounds
+rounds-append zero v c d x y h = rw add-zero (rounds-front (length x) v c d x y (omega arith) (omega arith))
+rounds-append (suc n) v c d x y h =
+    let e : getD (c ++ d) (length x + n) 0 ≡ getD d n 0 = rw (← h) (getD-append-add c d n 0) in
+    rw (add-suc, rounds-append n v c d x y h, e, getD-append-add x y n 0)
+
+rounds-sixteen : (n : ℕ) (v : HashValue) (c d x y : List ℕ) → length c ≡ 16 → length x ≡ 16
+    → rounds (16 + n) v (c ++ d) (x ++ y) ≡ rounds n (rounds 16 v c x) d y
+rounds-sixteen n v c d x y hc hx = rw hx at (rounds-append n v c d x y (hc ∙ sym hx))
+
+words-length : (n : ℕ) (b : List ℕ) → length (words n b) ≡ n
+unfolding words
+words-length zero b = refl
+words-length (suc n) b = let e = words-length n b in simp length-append (omega arith)
+
+-- Four times sixteen rounds, each with its constants and the words that follow the last ones, are the sixty-four of a block:
+-- the schedule is the four sixteens of words one after the other, and rounds over an appended list are rounds after rounds.
+pub four-sixteens : (v v0 v1 v2 v3 : HashValue) (k0 k1 k2 k3 b w0 w1 w2 w3 : List ℕ) → constants ≡ k0 ++ (k1 ++ (k2 ++ k3))
+    → length k0 ≡ 16 → length k1 ≡ 16 → length k2 ≡ 16 → w0 ≡ words 16 b → w1 ≡ drop 16 (extended 16 w0)
+    → w2 ≡ drop 16 (extended 16 w1) → w3 ≡ drop 16 (extended 16 w2) → v0 ≡ rounds 16 v k0 w0 → v1 ≡ rounds 16 v0 k1 w1
+    → v2 ≡ rounds 16 v1 k2 w2 → v3 ≡ rounds 16 v2 k3 w3 → added v v3 ≡ compressed v b
+unfolding compressed schedule
+four-sixteens v v0 v1 v2 v3 k0 k1 k2 k3 b w0 w1 w2 w3 hk l0 l1 l2 e0 e1 e2 e3 r0 r1 r2 r3 =
+    let h0 : length w0 ≡ 16 = ap length e0 ∙ words-length 16 b in
+    let h1 : length w1 ≡ 16 = ap length e1 ∙ length-drop 16 (extended 16 w0) ∙ omega (arith, extended-length 16 w0) in
+    let h2 : length w2 ≡ 16 = ap length e2 ∙ length-drop 16 (extended 16 w1) ∙ omega (arith, extended-length 16 w1) in
+    let s2 : extended 16 w2 ≡ w2 ++ w3 = extended-sixteen 0 w2 h2 ∙ rw (← e3, extended-zero w3) in
+    let s1 : extended 32 w1 ≡ w1 ++ (w2 ++ w3) = extended-sixteen 16 w1 h1 ∙ rw (← e2, s2) in
+    let s0 : extended 48 (words 16 b) ≡ w0 ++ (w1 ++ (w2 ++ w3)) = rw (← e0) (extended-sixteen 32 w0 h0 ∙ rw (← e1, s1)) in
+    let t2 : rounds 32 v1 (k2 ++ k3) (w2 ++ w3) ≡ v3 = rounds-sixteen 16 v1 k2 k3 w2 w3 l2 h2 ∙ rw (← r2, ← r3) in
+    let t1 : rounds 48 v0 (k1 ++ (k2 ++ k3)) (w1 ++ (w2 ++ w3)) ≡ v3 = rounds-sixteen 32 v0 k1 (k2 ++ k3) w1 (w2 ++ w3) l1 h1 ∙ rw (← r1, t2) in
+    let t0 : rounds 64 v (k0 ++ (k1 ++ (k2 ++ k3))) (w0 ++ (w1 ++ (w2 ++ w3))) ≡ v3 =
+        rounds-sixteen 48 v k0 (k1 ++ (k2 ++ k3)) w0 (w1 ++ (w2 ++ w3)) l0 h0 ∙ rw (← r0, t1) in
+    rw (s0, hk, t0)

@@ -113,8 +113,8 @@ fn mixed(w2: u32, w7: u32, w15: u32, w16: u32) -> u32
 }
 
 // Step 1 for the sixteen words after the sixteen words w.
-fn next_words(w: &[u32; 16]) -> [u32; 16]
-    ensures { λ r. ⌜ r ≡ drop 16 (Block.extended 16 (now (w .entry))) ⌝ }
+fn next_words(w: [u32; 16]) -> [u32; 16]
+    ensures { λ r. ⌜ r ≡ drop 16 (Block.extended 16 w) ⌝ }
 {
     let a = mixed(w[14], w[9], w[1], w[0]);
     let b = mixed(w[15], w[10], w[2], w[1]);
@@ -200,11 +200,11 @@ pub(crate) fn compress(v: HashValue, s: &[u8], at: usize) -> HashValue
     let k = K;
     let w0 = first_words(s, at);
     let v0 = sixteen_rounds(v, &k[..16], &w0);
-    let w1 = next_words(&w0);
+    let w1 = next_words(w0);
     let v1 = sixteen_rounds(v0, &k[16..32], &w1);
-    let w2 = next_words(&w1);
+    let w2 = next_words(w1);
     let v2 = sixteen_rounds(v1, &k[32..48], &w2);
-    let w3 = next_words(&w2);
+    let w3 = next_words(w2);
     let v3 = sixteen_rounds(v2, &k[48..], &w3);
     added(v, v3)
 }

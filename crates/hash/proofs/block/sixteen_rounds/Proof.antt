@@ -1,3 +1,5 @@
+use Rattle.hash.proofs.BlockLaws.{rounds-zero, rounds-step}
+use native.Mathlib.Omega.{arith}
 use borrow.Author.Needs.{needs}
 use Rattle.hash.proofs.block.sixteen_rounds.Statement.{statement}
 use Rattle.hash.proofs.block.sixteen_rounds.Tie as tie
@@ -7,7 +9,7 @@ use Rattle.hash.proofs.block.round.Reads as round-reads
 
 -- src/block.rt:161:22
 shared-slice-read-round : tie.Need-shared-slice-read-round
-shared-slice-read-round c = search needs
+shared-slice-read-round c = omega (arith, c .before .before .pre)
 
 -- src/block.rt:161:28
 element-copy-out-round : tie.Need-element-copy-out-round
@@ -19,7 +21,7 @@ round-requires c κs = search needs
 
 -- src/block.rt:162:22
 shared-slice-read-round-2 : tie.Need-shared-slice-read-round-2
-shared-slice-read-round-2 c = search needs
+shared-slice-read-round-2 c = omega (arith, c .before .before .before .before .before .pre)
 
 -- src/block.rt:162:28
 element-copy-out-round-2 : tie.Need-element-copy-out-round-2
@@ -31,7 +33,7 @@ round-requires-2 c κs = search needs
 
 -- src/block.rt:163:22
 shared-slice-read-round-3 : tie.Need-shared-slice-read-round-3
-shared-slice-read-round-3 c = search needs
+shared-slice-read-round-3 c = omega (arith, c .before .before .before .before .before .before .before .before .pre)
 
 -- src/block.rt:163:28
 element-copy-out-round-3 : tie.Need-element-copy-out-round-3
@@ -43,7 +45,7 @@ round-requires-3 c κs = search needs
 
 -- src/block.rt:164:22
 shared-slice-read-round-4 : tie.Need-shared-slice-read-round-4
-shared-slice-read-round-4 c = search needs
+shared-slice-read-round-4 c = omega (arith, c .before .before .before .before .before .before .before .before .before .before .before .pre)
 
 -- src/block.rt:164:28
 element-copy-out-round-4 : tie.Need-element-copy-out-round-4
@@ -55,7 +57,7 @@ round-requires-4 c κs = search needs
 
 -- src/block.rt:165:22
 shared-slice-read-round-5 : tie.Need-shared-slice-read-round-5
-shared-slice-read-round-5 c = search needs
+shared-slice-read-round-5 c = omega (arith, c .before .before .before .before .before .before .before .before .before .before .before .before .before .before .pre)
 
 -- src/block.rt:165:28
 element-copy-out-round-5 : tie.Need-element-copy-out-round-5
@@ -67,7 +69,7 @@ round-requires-5 c κs = search needs
 
 -- src/block.rt:166:22
 shared-slice-read-round-6 : tie.Need-shared-slice-read-round-6
-shared-slice-read-round-6 c = search needs
+shared-slice-read-round-6 c = omega (arith, c .before .before .before .before .before .before .before .before .before .before .before .before .before .before .before .before .before .pre)
 
 -- src/block.rt:166:28
 element-copy-out-round-6 : tie.Need-element-copy-out-round-6
@@ -79,7 +81,7 @@ round-requires-6 c κs = search needs
 
 -- src/block.rt:167:22
 shared-slice-read-round-7 : tie.Need-shared-slice-read-round-7
-shared-slice-read-round-7 c = search needs
+shared-slice-read-round-7 c = omega (arith, c .before .before .before .before .before .before .before .before .before .before .before .before .before .before .before .before .before .before .before .before .pre)
 
 -- src/block.rt:167:28
 element-copy-out-round-7 : tie.Need-element-copy-out-round-7
@@ -91,7 +93,7 @@ round-requires-7 c κs = search needs
 
 -- src/block.rt:168:22
 shared-slice-read-round-8 : tie.Need-shared-slice-read-round-8
-shared-slice-read-round-8 c = search needs
+shared-slice-read-round-8 c = omega (arith, c .before .before .before .before .before .before .before .before .before .before .before .before .before .before .before .before .before .before .before .before .before .before .before .pre)
 
 -- src/block.rt:168:28
 element-copy-out-round-8 : tie.Need-element-copy-out-round-8
@@ -103,7 +105,7 @@ round-requires-8 c κs = search needs
 
 -- src/block.rt:169:22
 shared-slice-read-round-9 : tie.Need-shared-slice-read-round-9
-shared-slice-read-round-9 c = search needs
+shared-slice-read-round-9 c = omega (arith, c .before .before .before .before .before .before .before .before .before .before .before .before .before .before .before .before .before .before .before .before .before .before .before .before .before .before .pre)
 
 -- src/block.rt:169:28
 element-copy-out-round-9 : tie.Need-element-copy-out-round-9
@@ -115,7 +117,7 @@ round-requires-9 c κs = search needs
 
 -- src/block.rt:170:22
 shared-slice-read-round-10 : tie.Need-shared-slice-read-round-10
-shared-slice-read-round-10 c = search needs
+shared-slice-read-round-10 c = omega (arith, c .before .before .before .before .before .before .before .before .before .before .before .before .before .before .before .before .before .before .before .before .before .before .before .before .before .before .before .before .before .pre)
 
 -- src/block.rt:170:28
 element-copy-out-round-10 : tie.Need-element-copy-out-round-10
@@ -127,7 +129,7 @@ round-requires-10 c κs = search needs
 
 -- src/block.rt:171:22
 shared-slice-read-round-11 : tie.Need-shared-slice-read-round-11
-shared-slice-read-round-11 c = search needs
+shared-slice-read-round-11 c = omega (arith, c .before .before .before .before .before .before .before .before .before .before .before .before .before .before .before .before .before .before .before .before .before .before .before .before .before .before .before .before .before .before .before .before .pre)
 
 -- src/block.rt:171:29
 element-copy-out-round-11 : tie.Need-element-copy-out-round-11
@@ -139,7 +141,7 @@ round-requires-11 c κs = search needs
 
 -- src/block.rt:172:22
 shared-slice-read-round-12 : tie.Need-shared-slice-read-round-12
-shared-slice-read-round-12 c = search needs
+shared-slice-read-round-12 c = omega (arith, c .before .before .before .before .before .before .before .before .before .before .before .before .before .before .before .before .before .before .before .before .before .before .before .before .before .before .before .before .before .before .before .before .before .before .before .pre)
 
 -- src/block.rt:172:29
 element-copy-out-round-12 : tie.Need-element-copy-out-round-12
@@ -151,7 +153,7 @@ round-requires-12 c κs = search needs
 
 -- src/block.rt:173:22
 shared-slice-read-round-13 : tie.Need-shared-slice-read-round-13
-shared-slice-read-round-13 c = search needs
+shared-slice-read-round-13 c = omega (arith, c .before .before .before .before .before .before .before .before .before .before .before .before .before .before .before .before .before .before .before .before .before .before .before .before .before .before .before .before .before .before .before .before .before .before .before .before .before .before .pre)
 
 -- src/block.rt:173:29
 element-copy-out-round-13 : tie.Need-element-copy-out-round-13
@@ -163,7 +165,7 @@ round-requires-13 c κs = search needs
 
 -- src/block.rt:174:22
 shared-slice-read-round-14 : tie.Need-shared-slice-read-round-14
-shared-slice-read-round-14 c = search needs
+shared-slice-read-round-14 c = omega (arith, c .before .before .before .before .before .before .before .before .before .before .before .before .before .before .before .before .before .before .before .before .before .before .before .before .before .before .before .before .before .before .before .before .before .before .before .before .before .before .before .before .before .pre)
 
 -- src/block.rt:174:29
 element-copy-out-round-14 : tie.Need-element-copy-out-round-14
@@ -175,7 +177,7 @@ round-requires-14 c κs = search needs
 
 -- src/block.rt:175:22
 shared-slice-read-round-15 : tie.Need-shared-slice-read-round-15
-shared-slice-read-round-15 c = search needs
+shared-slice-read-round-15 c = omega (arith, c .before .before .before .before .before .before .before .before .before .before .before .before .before .before .before .before .before .before .before .before .before .before .before .before .before .before .before .before .before .before .before .before .before .before .before .before .before .before .before .before .before .before .before .before .pre)
 
 -- src/block.rt:175:29
 element-copy-out-round-15 : tie.Need-element-copy-out-round-15
@@ -187,7 +189,7 @@ round-requires-15 c κs = search needs
 
 -- src/block.rt:176:14
 shared-slice-read-round-16 : tie.Need-shared-slice-read-round-16
-shared-slice-read-round-16 c = search needs
+shared-slice-read-round-16 c = omega (arith, c .before .before .before .before .before .before .before .before .before .before .before .before .before .before .before .before .before .before .before .before .before .before .before .before .before .before .before .before .before .before .before .before .before .before .before .before .before .before .before .before .before .before .before .before .before .before .before .pre)
 
 -- src/block.rt:176:21
 element-copy-out-round-16 : tie.Need-element-copy-out-round-16
@@ -199,7 +201,28 @@ round-requires-16 c κs = search needs
 
 -- src/block.rt:157:1
 returns : tie.Need-returns
-returns c = ?
+returns c = 
+    let s = c .before .before .before .before .before .before .before .before .before .before .before .before .before .before .before .before .before .before .before .before .before .before .before .before .before .before .before .before .before .before .before .before .before .before .before .before .before .before .before .before .before .before .before .before .before .before .before .before .before in
+    let v = s .args .v in
+    let k = s .args .k .now in
+    let w = s .args .w .now in
+    let e0 = rounds-zero v k w in
+    let e1 = rounds-step 0 v _ _ k w e0 (c .before .before .before .before .before .before .before .before .before .before .before .before .before .before .before .before .before .before .before .before .before .before .before .before .before .before .before .before .before .before .before .before .before .before .before .before .before .before .before .before .before .before .before .before .before .round .ensures) in
+    let e2 = rounds-step 1 v _ _ k w e1 (c .before .before .before .before .before .before .before .before .before .before .before .before .before .before .before .before .before .before .before .before .before .before .before .before .before .before .before .before .before .before .before .before .before .before .before .before .before .before .before .before .before .before .round2 .ensures) in
+    let e3 = rounds-step 2 v _ _ k w e2 (c .before .before .before .before .before .before .before .before .before .before .before .before .before .before .before .before .before .before .before .before .before .before .before .before .before .before .before .before .before .before .before .before .before .before .before .before .before .before .before .round3 .ensures) in
+    let e4 = rounds-step 3 v _ _ k w e3 (c .before .before .before .before .before .before .before .before .before .before .before .before .before .before .before .before .before .before .before .before .before .before .before .before .before .before .before .before .before .before .before .before .before .before .before .before .round4 .ensures) in
+    let e5 = rounds-step 4 v _ _ k w e4 (c .before .before .before .before .before .before .before .before .before .before .before .before .before .before .before .before .before .before .before .before .before .before .before .before .before .before .before .before .before .before .before .before .before .round5 .ensures) in
+    let e6 = rounds-step 5 v _ _ k w e5 (c .before .before .before .before .before .before .before .before .before .before .before .before .before .before .before .before .before .before .before .before .before .before .before .before .before .before .before .before .before .before .round6 .ensures) in
+    let e7 = rounds-step 6 v _ _ k w e6 (c .before .before .before .before .before .before .before .before .before .before .before .before .before .before .before .before .before .before .before .before .before .before .before .before .before .before .before .round7 .ensures) in
+    let e8 = rounds-step 7 v _ _ k w e7 (c .before .before .before .before .before .before .before .before .before .before .before .before .before .before .before .before .before .before .before .before .before .before .before .before .round8 .ensures) in
+    let e9 = rounds-step 8 v _ _ k w e8 (c .before .before .before .before .before .before .before .before .before .before .before .before .before .before .before .before .before .before .before .before .before .round9 .ensures) in
+    let e10 = rounds-step 9 v _ _ k w e9 (c .before .before .before .before .before .before .before .before .before .before .before .before .before .before .before .before .before .before .round10 .ensures) in
+    let e11 = rounds-step 10 v _ _ k w e10 (c .before .before .before .before .before .before .before .before .before .before .before .before .before .before .before .round11 .ensures) in
+    let e12 = rounds-step 11 v _ _ k w e11 (c .before .before .before .before .before .before .before .before .before .before .before .before .round12 .ensures) in
+    let e13 = rounds-step 12 v _ _ k w e12 (c .before .before .before .before .before .before .before .before .before .round13 .ensures) in
+    let e14 = rounds-step 13 v _ _ k w e13 (c .before .before .before .before .before .before .round14 .ensures) in
+    let e15 = rounds-step 14 v _ _ k w e14 (c .before .before .before .round15 .ensures) in
+    rounds-step 15 v _ _ k w e15 (c .round16 .ensures)
 
 pub sixteen-rounds-spec : {M : Type 1} → statement M
 sixteen-rounds-spec =

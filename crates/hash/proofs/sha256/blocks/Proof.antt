@@ -1,3 +1,9 @@
+use mathlib.Core.Path.{_≡_, refl, sym}
+use Prim.Native.Nat.{_-_, _/_, _≤_}
+use native.Mathlib.Omega.{arith}
+use lib.ListN.{length}
+use Rattle.hash.specs.Sha256.{blocks}
+use Rattle.hash.proofs.MessageLaws.{blocks-zero, blocks-more}
 use borrow.Author.Needs.{needs}
 use Rattle.hash.proofs.sha256.blocks.Statement.{statement}
 use Rattle.hash.proofs.sha256.blocks.Tie as tie
@@ -6,14 +12,14 @@ use Rattle.hash.proofs.sha256.blocks.Lts as lts
 use Rattle.hash.proofs.block.compress.Reads as compress-reads
 
 abbrev Inv-loop : tie.InvT-loop
-Inv-loop s n x₀ i₀ x i = ?
+Inv-loop s n x₀ i₀ x i = (n ≡ length s / 64) × (i ≤ n) × (x ≡ blocks i x₀ s)
 
 abbrev μ-loop : tie.MeasureT-loop
-μ-loop s n x₀ i₀ x i = ?
+μ-loop s n x₀ i₀ x i = n - i
 
 -- src/sha256.rt:35:5
 loop-holds : tie.Need-loop-holds Inv-loop μ-loop
-loop-holds c = ?
+loop-holds c = (refl, omega arith, sym (blocks-zero _ _))
 
 -- src/sha256.rt:36:28
 mul-compress : tie.Need-mul-compress Inv-loop μ-loop
@@ -33,11 +39,11 @@ loop-less c = search needs
 
 -- src/sha256.rt:35:5
 loop-again : tie.Need-loop-again Inv-loop μ-loop
-loop-again c = ?
+loop-again c = (refl, omega arith, cc (blocks-more (c .before .before .loop .i) (c .before .before .before .before .args .v) (c .before .before .before .before .args .s .now)))
 
 -- src/sha256.rt:30:1
 returns : tie.Need-returns Inv-loop μ-loop
-returns c = ?
+returns c = let e : c .before .loop .i ≡ length (c .before .before .before .args .s .now) / 64 = omega arith in rw e at (c .before .loop .inv .2)
 
 pub blocks-spec : {M : Type 1} → statement M
 blocks-spec =

@@ -32,7 +32,7 @@ slice-aggregate-copy-at-3 c = search needs
 
 -- src/sha256.rt:52:9
 copy-at-requires-2 : tie.Need-copy-at-requires-2
-copy-at-requires-2 c κs = search needs
+copy-at-requires-2 c κs = ?
 
 -- src/sha256.rt:55:17
 slice-aggregate-copy-at-4 : tie.Need-slice-aggregate-copy-at-4
@@ -44,7 +44,7 @@ slice-aggregate-copy-at-5 c = search needs
 
 -- src/sha256.rt:55:9
 copy-at-requires-3 : tie.Need-copy-at-requires-3
-copy-at-requires-3 c κs = search needs
+copy-at-requires-3 c κs = ?
 
 -- src/sha256.rt:42:1
 returns : tie.Need-returns

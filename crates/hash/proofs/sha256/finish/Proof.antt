@@ -1,0 +1,63 @@
+use borrow.Author.Needs.{needs}
+use Rattle.hash.proofs.sha256.finish.Statement.{statement}
+use Rattle.hash.proofs.sha256.finish.Tie as tie
+use Rattle.hash.proofs.sha256.finish.Reads as reads
+use Rattle.hash.proofs.sha256.finish.Lts as lts
+use Rattle.hash.proofs.sha256.blocks.Reads as blocks-reads
+use Rattle.hash.proofs.sha256.digest_of.Reads as digest-of-reads
+use Rattle.hash.proofs.sha256.ending.Reads as ending-reads
+
+-- src/sha256.rt:65:13
+ending-requires : tie.Need-ending-requires
+ending-requires c κs = search needs
+
+-- src/sha256.rt:67:29
+array-share-prefix-b : tie.Need-array-share-prefix-b
+array-share-prefix-b c = search needs
+
+-- src/sha256.rt:67:29
+slice-aggregate-blocks : tie.Need-slice-aggregate-blocks
+slice-aggregate-blocks c = ?
+
+-- src/sha256.rt:67:19
+blocks-requires : tie.Need-blocks-requires
+blocks-requires c κs = search needs
+
+-- src/sha256.rt:67:9
+digest-of-requires : tie.Need-digest-of-requires
+digest-of-requires c κs = search needs
+
+-- src/sha256.rt:69:29
+slice-aggregate-blocks-2 : tie.Need-slice-aggregate-blocks-2
+slice-aggregate-blocks-2 c = ?
+
+-- src/sha256.rt:69:19
+blocks-requires-2 : tie.Need-blocks-requires-2
+blocks-requires-2 c κs = search needs
+
+-- src/sha256.rt:69:9
+digest-of-requires-2 : tie.Need-digest-of-requires-2
+digest-of-requires-2 c κs = search needs
+
+-- src/sha256.rt:61:1
+returns : tie.Need-returns
+returns c = ?
+
+-- src/sha256.rt:61:1
+returns-2 : tie.Need-returns-2
+returns-2 c = ?
+
+pub finish-spec : {M : Type 1} → statement M
+finish-spec =
+    tie.close
+    (tie.spec
+    ending-requires
+    array-share-prefix-b
+    slice-aggregate-blocks
+    blocks-requires
+    digest-of-requires
+    slice-aggregate-blocks-2
+    blocks-requires-2
+    digest-of-requires-2
+    returns
+    returns-2)
