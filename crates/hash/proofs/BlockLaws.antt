@@ -113,7 +113,7 @@ next-tail : (p q : List ℕ) → 16 ≤ length q → next (p ++ q) ≡ next q
 unfolding next
 next-tail p q h =
     let at : (k : ℕ) → k ≤ 16 → getD (p ++ q) (length (p ++ q) - k) 0 ≡ getD q (length q - k) 0 =
-        λ k hk. let e : length (p ++ q) - k ≡ length p + (length q - k) = omega (arith, length-append p q) in rw e (getD-append-add p q (length q - k) 0) in
+    λ k hk. let e : length (p ++ q) - k ≡ length p + (length q - k) = omega (arith, length-append p q) in rw e (getD-append-add p q (length q - k) 0) in
     rw (at 2 (omega arith), at 7 (omega arith), at 15 (omega arith), at 16 (omega arith))
 
 extended-length : (n : ℕ) (w : List ℕ) → length (extended n w) ≡ length w + n
@@ -202,5 +202,5 @@ four-sixteens v v0 v1 v2 v3 k0 k1 k2 k3 b w0 w1 w2 w3 hk l0 l1 l2 e0 e1 e2 e3 r0
     let t2 : rounds 32 v1 (k2 ++ k3) (w2 ++ w3) ≡ v3 = rounds-sixteen 16 v1 k2 k3 w2 w3 l2 h2 ∙ rw (← r2, ← r3) in
     let t1 : rounds 48 v0 (k1 ++ (k2 ++ k3)) (w1 ++ (w2 ++ w3)) ≡ v3 = rounds-sixteen 32 v0 k1 (k2 ++ k3) w1 (w2 ++ w3) l1 h1 ∙ rw (← r1, t2) in
     let t0 : rounds 64 v (k0 ++ (k1 ++ (k2 ++ k3))) (w0 ++ (w1 ++ (w2 ++ w3))) ≡ v3 =
-        rounds-sixteen 48 v k0 (k1 ++ (k2 ++ k3)) w0 (w1 ++ (w2 ++ w3)) l0 h0 ∙ rw (← r0, t1) in
+    rounds-sixteen 48 v k0 (k1 ++ (k2 ++ k3)) w0 (w1 ++ (w2 ++ w3)) l0 h0 ∙ rw (← r0, t1) in
     rw (s0, hk, t0)

@@ -1,3 +1,5 @@
+pub mod BytesLaws
 pub mod BlockLaws
-pub mod HmacLaws
 pub mod MessageLaws
+pub mod HasherLaws
+pub mod HmacLaws

@@ -17,7 +17,7 @@ pub(crate) fn copy_at(dst: &mut [u8], at: usize, src: &[u8])
 }
 
 pub(crate) fn bytes8(x: u64) -> [u8; 8]
-    ensures { λ r. ⌜ r ≡ bigEndian 8 x ⌝ }
+    ensures { λ r. ⌜ (length r ≡ 8) × (r ≡ bigEndian 8 x) ⌝ }
 {
     [
         (x / 256 / 256 / 256 / 256 / 256 / 256 / 256 % 256) as u8,

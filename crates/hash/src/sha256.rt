@@ -41,7 +41,7 @@ pub(crate) fn blocks(v: HashValue, s: &[u8]) -> HashValue
 // The last bytes of a message of `total` bytes, fewer than a block, with the padding after them (5.1.1) and zeros after that.
 fn ending(rest: &[u8], total: u64) -> [u8; 128]
     requires { ⌜ (length (now rest) < 64) × (total % 64 ≡ length (now rest)) ⌝ }
-    ensures { λ r. ⌜ r ≡ padded 128 (now (rest .entry) ++ Sha256.padding total) ⌝ }
+    ensures { λ r. ⌜ (length r ≡ 128) × (r ≡ padded 128 (now (rest .entry) ++ Sha256.padding total)) ⌝ }
 {
     let n = rest.len();
     let bits = bytes8(total << 3);

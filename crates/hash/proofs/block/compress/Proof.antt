@@ -94,11 +94,11 @@ added-requires c κs = search needs
 -- src/block.rt:196:1
 returns : tie.Need-returns
 unfolding constants
-returns c = 
+returns c =
     c .added .ensures
     ∙ four-sixteens (c .before .before .before .before .before .before .before .before .before .before .before .before .before .before .before .before .before .before .before .before .before .args .v) (c .before .before .before .before .before .before .before .before .before .before .before .before .before .before .before .before .sixteen-rounds .result) (c .before .before .before .before .before .before .before .before .before .before .before .sixteen-rounds2 .result) (c .before .before .before .before .before .before .sixteen-rounds3 .result) (c .before .sixteen-rounds4 .result)
-      _ _ _ _ _ _ _ _ _ refl refl refl refl (c .before .before .before .before .before .before .before .before .before .before .before .before .before .before .before .before .before .before .before .first-words .ensures) (c .before .before .before .before .before .before .before .before .before .before .before .before .before .before .before .next-words .ensures) (c .before .before .before .before .before .before .before .before .before .before .next-words2 .ensures) (c .before .before .before .before .before .next-words3 .ensures)
-      (c .before .before .before .before .before .before .before .before .before .before .before .before .before .before .before .before .sixteen-rounds .ensures) (c .before .before .before .before .before .before .before .before .before .before .before .sixteen-rounds2 .ensures) (c .before .before .before .before .before .before .sixteen-rounds3 .ensures) (c .before .sixteen-rounds4 .ensures)
+    _ _ _ _ _ _ _ _ _ refl refl refl refl (c .before .before .before .before .before .before .before .before .before .before .before .before .before .before .before .before .before .before .before .first-words .ensures) (c .before .before .before .before .before .before .before .before .before .before .before .before .before .before .before .next-words .ensures) (c .before .before .before .before .before .before .before .before .before .before .next-words2 .ensures) (c .before .before .before .before .before .next-words3 .ensures)
+    (c .before .before .before .before .before .before .before .before .before .before .before .before .before .before .before .before .sixteen-rounds .ensures) (c .before .before .before .before .before .before .before .before .before .before .before .sixteen-rounds2 .ensures) (c .before .before .before .before .before .before .sixteen-rounds3 .ensures) (c .before .sixteen-rounds4 .ensures)
 
 pub compress-spec : {M : Type 1} → statement M
 compress-spec =

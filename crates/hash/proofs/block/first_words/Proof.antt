@@ -52,14 +52,14 @@ loop-less c = search needs
 
 -- src/block.rt:104:5
 loop-again : tie.Need-loop-again Inv-loop μ-loop
-loop-again c = 
+loop-again c =
     let l = c .before .before .loop in
     let a = c .before .before .before .before .args in
     (omega arith, simp length-set (l .inv .1), words-step (l .w) (a .s .now) (a .at) (l .t) (c .word .result) (omega arith) (omega arith) (l .inv .2) (c .word .ensures))
 
 -- src/block.rt:99:1
 returns : tie.Need-returns Inv-loop μ-loop
-returns c = 
+returns c =
     let l = c .before .loop in
     let e : l .t ≡ 16 = omega arith in
     sym (take-all 16 (l .w) (omega arith)) ∙ rw e at (l .inv .2)

@@ -232,7 +232,7 @@ mixed-requires-16 c κs = search needs
 
 -- src/block.rt:116:1
 returns : tie.Need-returns
-returns c = 
+returns c =
     let s = c .before .before .before .before .before .before .before .before .before .before .before .before .before .before .before .before in
     next-sixteen (s .args .t1) _ _ _ _ _ _ _ _ _ _ _ _ _ _ _ _ (s .good .0 .1 .0 .1) (c .before .before .before .before .before .before .before .before .before .before .before .before .before .before .before .mixed .ensures) (c .before .before .before .before .before .before .before .before .before .before .before .before .before .before .mixed2 .ensures) (c .before .before .before .before .before .before .before .before .before .before .before .before .before .mixed3 .ensures) (c .before .before .before .before .before .before .before .before .before .before .before .before .mixed4 .ensures) (c .before .before .before .before .before .before .before .before .before .before .before .mixed5 .ensures) (c .before .before .before .before .before .before .before .before .before .before .mixed6 .ensures) (c .before .before .before .before .before .before .before .before .before .mixed7 .ensures) (c .before .before .before .before .before .before .before .before .mixed8 .ensures) (c .before .before .before .before .before .before .before .mixed9 .ensures) (c .before .before .before .before .before .before .mixed10 .ensures) (c .before .before .before .before .before .mixed11 .ensures) (c .before .before .before .before .mixed12 .ensures) (c .before .before .before .mixed13 .ensures) (c .before .before .mixed14 .ensures) (c .before .mixed15 .ensures) (c .mixed16 .ensures)
 

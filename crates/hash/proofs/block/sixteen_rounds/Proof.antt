@@ -201,7 +201,7 @@ round-requires-16 c κs = search needs
 
 -- src/block.rt:157:1
 returns : tie.Need-returns
-returns c = 
+returns c =
     let s = c .before .before .before .before .before .before .before .before .before .before .before .before .before .before .before .before .before .before .before .before .before .before .before .before .before .before .before .before .before .before .before .before .before .before .before .before .before .before .before .before .before .before .before .before .before .before .before .before .before in
     let v = s .args .v in
     let k = s .args .k .now in

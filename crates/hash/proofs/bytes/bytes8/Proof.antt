@@ -41,7 +41,7 @@ cast-t45 c = search needs
 -- src/bytes.rt:19:1
 returns : tie.Need-returns
 unfolding bigEndian
-returns c = refl
+returns c = (refl, refl)
 
 pub bytes8-spec : {M : Type 1} → statement M
 bytes8-spec =

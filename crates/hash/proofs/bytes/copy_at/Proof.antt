@@ -42,7 +42,7 @@ loop-less c = search needs
 
 -- src/bytes.rt:14:5
 loop-again : tie.Need-loop-again Inv-loop μ-loop
-loop-again c = 
+loop-again c =
     let a = c .before .before .before .args in
     let l = c .before .before .loop in
     (refl, omega arith, simp length-set (l .inv .2), rw (l .inv .3, add-one (l .i)) (paste-suc (a .dst .now) (a .at) (a .src .now) (l .i) 0 (omega arith) (omega arith)))

@@ -1,3 +1,6 @@
+use native.Mathlib.Omega.{arith}
+use Rattle.hash.proofs.MessageLaws.{rest-law}
+use Rattle.hash.proofs.HasherLaws.{taken-law}
 use borrow.Author.Needs.{needs}
 use Rattle.hash.proofs.hasher.taken.Statement.{statement}
 use Rattle.hash.proofs.hasher.taken.Tie as tie
@@ -36,7 +39,9 @@ copy-at-requires c κs = search needs
 
 -- src/hasher.rt:69:1
 returns : tie.Need-returns
-returns c = ?
+returns c = 
+    let a = c .before .before .before .before .before .before .args in
+    taken-law (a .v) (c .before .before .before .before .blocks2 .result) (a .s .now) _ (c .before .copy-at .last .0) (a .count) (c .before .before .before .before .blocks2 .ensures) (rest-law (a .s .now)) (c .before .copy-at .ensures) (omega arith)
 
 pub taken-spec : {M : Type 1} → statement M
 taken-spec =

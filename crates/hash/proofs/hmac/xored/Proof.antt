@@ -39,14 +39,14 @@ loop-less c = search needs
 
 -- src/hmac.rt:50:5
 loop-again : tie.Need-loop-again Inv-loop μ-loop
-loop-again c = 
+loop-again c =
     let l = c .before .loop in
     let a = c .before .before .args in
     (omega arith, simp length-set (l .inv .1), l .inv .2, xored-step (a .x) (a .t1) (l .r) (l .i) (omega arith) (omega arith) (l .inv .3))
 
 -- src/hmac.rt:46:1
 returns : tie.Need-returns Inv-loop μ-loop
-returns c = 
+returns c =
     let l = c .before .loop in
     let k = c .before .before .args .t1 in
     let e : l .i ≡ 64 = omega arith in

@@ -1,3 +1,9 @@
+use mathlib.Core.Path.{ap, _∙_}
+use Prim.Native.Nat.{_/_}
+use lib.ListN.{length}
+use Rattle.hash.specs.declared.block.HashValue.{HashValue}
+use Rattle.hash.specs.Sha256.{blocks}
+use Rattle.hash.proofs.MessageLaws.{digest-law, rest-law}
 use borrow.Author.Needs.{needs}
 use Rattle.hash.proofs.sha256.digest.Statement.{statement}
 use Rattle.hash.proofs.sha256.digest.Tie as tie
@@ -37,7 +43,9 @@ finish-requires c κs = search needs
 
 -- src/sha256.rt:74:1
 returns : tie.Need-returns
-returns c = ?
+returns c = 
+    let m = c .before .before .before .before .before .args .message .now in
+    digest-law m _ (c .before .before .blocks2 .result) (c .finish .result) (c .before .before .blocks2 .ensures ∙ ap (λ (v : HashValue). blocks (length m / 64) v m) (c .before .before .before .initial .ensures)) (rest-law m) (c .finish .ensures)
 
 pub digest-spec : {M : Type 1} → statement M
 digest-spec =

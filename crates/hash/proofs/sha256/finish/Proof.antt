@@ -1,3 +1,9 @@
+use mathlib.Core.Path.{refl, sym, ap, _∙_}
+use native.Mathlib.Omega.{arith}
+use lib.Seq.{take-all}
+use Rattle.hash.specs.Sha256.{digestOf}
+use Rattle.hash.proofs.BytesLaws.{part-count}
+use Rattle.hash.proofs.MessageLaws.{ending-blocks}
 use borrow.Author.Needs.{needs}
 use Rattle.hash.proofs.sha256.finish.Statement.{statement}
 use Rattle.hash.proofs.sha256.finish.Tie as tie
@@ -17,7 +23,7 @@ array-share-prefix-b c = search needs
 
 -- src/sha256.rt:67:29
 slice-aggregate-blocks : tie.Need-slice-aggregate-blocks
-slice-aggregate-blocks c = ?
+slice-aggregate-blocks c = part-count 64 (c .before .before .ending .result) (omega arith)
 
 -- src/sha256.rt:67:19
 blocks-requires : tie.Need-blocks-requires
@@ -29,7 +35,7 @@ digest-of-requires c κs = search needs
 
 -- src/sha256.rt:69:29
 slice-aggregate-blocks-2 : tie.Need-slice-aggregate-blocks-2
-slice-aggregate-blocks-2 c = ?
+slice-aggregate-blocks-2 c = search needs
 
 -- src/sha256.rt:69:19
 blocks-requires-2 : tie.Need-blocks-requires-2
@@ -41,11 +47,21 @@ digest-of-requires-2 c κs = search needs
 
 -- src/sha256.rt:61:1
 returns : tie.Need-returns
-returns c = ?
+returns c = 
+    let s = c .before .before .before .before .before .before in
+    let e = c .before .before .before .before .ending in
+    c .digest-of .ensures
+    ∙ ap digestOf (c .before .blocks2 .ensures)
+    ∙ ending-blocks (s .args .v) (s .args .total) 64 (s .args .rest .now) (e .result) _ (omega arith) (e .ensures .1) refl
 
 -- src/sha256.rt:61:1
 returns-2 : tie.Need-returns-2
-returns-2 c = ?
+returns-2 c = 
+    let s = c .before .before .before .before .before .before in
+    let e = c .before .before .before .before .ending in
+    c .digest-of2 .ensures
+    ∙ ap digestOf (c .before .blocks3 .ensures)
+    ∙ ending-blocks (s .args .v) (s .args .total) 128 (s .args .rest .now) (e .result) _ (omega arith) (e .ensures .1) (sym (take-all 128 (e .result) (omega arith)))
 
 pub finish-spec : {M : Type 1} → statement M
 finish-spec =

@@ -1,0 +1,72 @@
+-- Laws of numbers as bytes and of lists filled up with zeros (specs/Bytes.antt). A buffer that starts all zero and is filled from its front is a `padded` list at each step.
+-- Assumes nothing.
+use mathlib.Core.Path.{_≡_, refl, sym, ap, _∙_}
+use mathlib.Core.List.{List, [], _∷_, _++_, map, append-assoc, append-nil}
+use Prim.Native.Nat.{ℕ, zero, suc, _+_, _-_, _/_, _%_, _≤_, _<_}
+use native.Mathlib.Nat.{le-refl, le-of-eq, sub-self}
+use native.Mathlib.Omega.{arith}
+use lib.ListN.{length, getD, take, drop, set, replicate, length-append, length-drop, length-replicate, length-map, replicate-append-replicate}
+use lib.Seq.{paste, take-at, drop-at, drop-append-add, set-at, take-all, take-length, length-take-le}
+use Rattle.hash.specs.Bytes.{bigEndian, padded}
+
+-- ---- numbers
+
+pub length-bigEndian : (n x : ℕ) → length (bigEndian n x) ≡ n
+unfolding bigEndian
+length-bigEndian zero x = refl
+length-bigEndian (suc n) x = let e = length-bigEndian n (x / 256) in simp length-append (omega arith)
+
+-- ---- buffers
+
+pub length-padded : (n : ℕ) (s : List ℕ) → length s ≤ n → length (padded n s) ≡ n
+unfolding padded
+length-padded n s h = simp (length-append, length-replicate) (omega arith)
+
+pub padded-nil : (n : ℕ) → _≡_ {A = List ℕ} (replicate n 0) (padded n [])
+unfolding padded
+padded-nil n = let z : n - 0 ≡ n = omega arith in rw z
+
+pub padded-full : (n : ℕ) (s : List ℕ) → length s ≡ n → padded n s ≡ s
+unfolding padded
+padded-full n s h = let z : n - length s ≡ 0 = omega arith in rw z (append-nil s)
+
+pub take-padded : (n k : ℕ) (s : List ℕ) → length s ≡ k → take k (padded n s) ≡ s
+unfolding padded
+take-padded n k s h = take-at s (replicate (n - length s) 0) k h
+
+-- zeros after the list are there already
+pub padded-zeros : (n z : ℕ) (s : List ℕ) → length s + z ≤ n → padded n s ≡ padded n (s ++ replicate z 0)
+unfolding padded
+padded-zeros n z s h =
+    let e : n - length s ≡ z + (n - length (s ++ replicate z 0)) = omega (arith, length-append {A = ℕ} s (replicate z 0), length-replicate {A = ℕ} z 0) in
+    rw (e, ← replicate-append-replicate {A = ℕ} z (n - length (s ++ replicate z 0)) 0) (sym (append-assoc s (replicate z 0) (replicate (n - length (s ++ replicate z 0)) 0)))
+
+-- a byte stored right after the list
+pub padded-set : (n at x : ℕ) (s d : List ℕ) → d ≡ padded n s → length s ≡ at → at < n → set d at x ≡ padded n (s ++ x ∷ [])
+unfolding padded
+padded-set n at x s d hd hs h =
+    let e : n - length s ≡ suc (n - length (s ++ x ∷ [])) = omega (arith, length-append s (x ∷ [])) in
+    rw (hd, e, set-at s 0 (replicate (n - length (s ++ x ∷ [])) 0) x at hs) (sym (append-assoc s (x ∷ []) (replicate (n - length (s ++ x ∷ [])) 0)))
+
+-- bytes copied right after the list
+pub padded-paste : (n at : ℕ) (s t d e : List ℕ) → d ≡ padded n s → length s ≡ at → at + length t ≤ n → e ≡ paste d at t (length t) → e ≡ padded n (s ++ t)
+unfolding padded
+padded-paste n at s t d e hd hs h he =
+    let z : n - length s ≡ length t + (n - length (s ++ t)) = omega (arith, length-append s t) in
+    let r : List ℕ = replicate (n - length (s ++ t)) 0 in
+    let d' : d ≡ s ++ (replicate (length t) 0 ++ r) = rw (hd, z, replicate-append-replicate {A = ℕ} (length t) (n - length (s ++ t)) 0) in
+    let f : drop (at + length t) (s ++ (replicate (length t) 0 ++ r)) ≡ r =
+    rw (← hs, drop-append-add s (replicate (length t) 0 ++ r) (length t)) (drop-at (replicate (length t) 0) r (length t) (length-replicate (length t) 0)) in
+    rw (he, d', take-at s (replicate (length t) 0 ++ r) at hs, f, take-length t)
+
+-- a struct's array field has the length that its type says
+pub field-length : (b : List ℕ) (n : ℕ) → length (map (λ x. x) b) ≡ n → length b ≡ n
+field-length b n e = sym (length-map b (λ (x : ℕ). x)) ∙ e
+
+-- ---- parts of a slice, as the code lends them
+
+pub part-count : (n : ℕ) (s : List ℕ) → n ≤ length s → n ≡ length (take n s)
+part-count n s h = sym (length-take-le n s h)
+
+pub tail-part : (n : ℕ) (s : List ℕ) → take (length s - n) (drop n s) ≡ drop n s
+tail-part n s = take-all (length s - n) (drop n s) (le-of-eq (length-drop n s))
