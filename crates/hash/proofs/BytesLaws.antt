@@ -7,9 +7,25 @@ use native.Mathlib.Nat.{le-refl, le-of-eq, sub-self}
 use native.Mathlib.Omega.{arith}
 use lib.ListN.{length, getD, take, drop, set, replicate, length-append, length-drop, length-replicate, length-map, replicate-append-replicate}
 use lib.Seq.{paste, take-at, drop-at, drop-append-add, set-at, take-all, take-length, length-take-le}
-use Rattle.hash.specs.Bytes.{bigEndian, padded}
+use Rattle.hash.specs.Bytes.{AreBytes, bigEndian, padded}
+
+-- ---- bytes
+
+pub bytes-append : (s t : List ℕ) → AreBytes s → AreBytes t → AreBytes (s ++ t)
+bytes-append [] t hs ht = ht
+bytes-append (x ∷ s) t hs ht = (hs .0, bytes-append s t (hs .1) ht)
+
+pub byte-at : (s : List ℕ) (i : ℕ) → AreBytes s → getD s i 0 < 256
+byte-at [] i h = omega arith
+byte-at (x ∷ s) zero h = h .0
+byte-at (x ∷ s) (suc i) h = byte-at s i (h .1)
 
 -- ---- numbers
+
+pub bytes-bigEndian : (n x : ℕ) → AreBytes (bigEndian n x)
+unfolding bigEndian
+bytes-bigEndian zero x = tt
+bytes-bigEndian (suc n) x = bytes-append (bigEndian n (x / 256)) (x % 256 ∷ []) (bytes-bigEndian n (x / 256)) (omega arith, tt)
 
 pub length-bigEndian : (n x : ℕ) → length (bigEndian n x) ≡ n
 unfolding bigEndian

@@ -3,3 +3,4 @@ pub mod BlockLaws
 pub mod MessageLaws
 pub mod HasherLaws
 pub mod HmacLaws
+pub mod StringLaws

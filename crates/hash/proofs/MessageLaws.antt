@@ -9,10 +9,10 @@ use native.Mathlib.Omega.{arith}
 use lib.ListN.{length, getD, take, drop, set, replicate, length-append, length-drop, length-replicate}
 use lib.Seq.{paste, take-append-le, drop-append-le, drop-drop}
 use Rattle.hash.specs.declared.block.HashValue.{HashValue}
-use Rattle.hash.specs.Bytes.{bigEndian, padded}
+use Rattle.hash.specs.Bytes.{AreBytes, bigEndian, padded}
 use Rattle.hash.specs.Block.{compressed}
 use Rattle.hash.specs.Sha256.{padding, blocks, initial, digestOf, finished, sha256}
-use Rattle.hash.proofs.BytesLaws.{length-bigEndian, length-padded, padded-nil, padded-set, padded-zeros, padded-paste, take-padded, tail-part}
+use Rattle.hash.proofs.BytesLaws.{bytes-append, bytes-bigEndian, length-bigEndian, length-padded, padded-nil, padded-set, padded-zeros, padded-paste, take-padded, tail-part}
 
 -- ---- the blocks
 
@@ -115,6 +115,27 @@ finished-count v l s = rw (padding-count l)
 
 -- ---- the digest
 
+length-digestOf : (v : HashValue) → length (digestOf v) ≡ 32
+unfolding digestOf bigEndian
+length-digestOf v = refl
+
+bytes-digestOf : (v : HashValue) → AreBytes (digestOf v)
+unfolding digestOf
+bytes-digestOf v =
+    let w : (x : ℕ) → AreBytes (bigEndian 4 x) = bytes-bigEndian 4 in
+    let a : List ℕ = bigEndian 4 (v .a) in
+    let b : List ℕ = a ++ bigEndian 4 (v .b) in
+    let c : List ℕ = b ++ bigEndian 4 (v .c) in
+    let d : List ℕ = c ++ bigEndian 4 (v .d) in
+    let e : List ℕ = d ++ bigEndian 4 (v .e) in
+    let f : List ℕ = e ++ bigEndian 4 (v .f) in
+    let g : List ℕ = f ++ bigEndian 4 (v .g) in
+    bytes-append g (bigEndian 4 (v .h)) (bytes-append f (bigEndian 4 (v .g)) (bytes-append e (bigEndian 4 (v .f)) (bytes-append d (bigEndian 4 (v .e)) (bytes-append c (bigEndian 4 (v .d)) (bytes-append b (bigEndian 4 (v .c)) (bytes-append a (bigEndian 4 (v .b)) (w (v .a)) (w (v .b))) (w (v .c))) (w (v .d))) (w (v .e))) (w (v .f))) (w (v .g))) (w (v .h))
+
 pub length-digest : (m : List ℕ) → length (sha256 m) ≡ 32
-unfolding sha256 finished digestOf bigEndian
-length-digest m = refl
+unfolding sha256 finished
+length-digest m = length-digestOf _
+
+pub bytes-digest : (m : List ℕ) → AreBytes (sha256 m)
+unfolding sha256 finished
+bytes-digest m = bytes-digestOf _

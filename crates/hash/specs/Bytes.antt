@@ -1,7 +1,12 @@
 -- Numbers as bytes, the highest byte first (FIPS 180-4, 3.1; RFC 8446, 3.3), and lists filled up with zeros.
 use mathlib.Core.List.{List, [], _∷_, _++_}
-use Prim.Native.Nat.{ℕ, zero, suc, _-_, _/_, _%_}
+use Prim.Native.Nat.{ℕ, zero, suc, _-_, _/_, _%_, _<_}
 use lib.ListN.{length, replicate}
+
+-- each element is a byte
+abbrev pub AreBytes : List ℕ → Type 0
+AreBytes [] = Unit
+AreBytes (x ∷ s) = (x < 256) × AreBytes s
 
 -- the n lowest bytes of x
 unfoldable pub bigEndian : ℕ → ℕ → List ℕ

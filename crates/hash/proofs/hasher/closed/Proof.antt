@@ -18,7 +18,7 @@ slice-aggregate-finish c = part-count (c .before .args .count % 64) (c .before .
 
 -- src/hasher.rt:102:5
 finish-requires : tie.Need-finish-requires
-finish-requires c κs = 
+finish-requires c κs =
     let e = part-count (c .before .args .count % 64) (c .before .args .t2) (omega (arith, c .before .good .1 .0 .1 .0 .1)) in
     (omega (arith, e), e)
 

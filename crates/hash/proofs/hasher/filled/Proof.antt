@@ -22,7 +22,7 @@ slice-aggregate-copy-at-2 c = part-count (c .before .before .before .args .fill)
 
 -- src/hasher.rt:76:5
 copy-at-requires : tie.Need-copy-at-requires
-copy-at-requires c κs = 
+copy-at-requires c κs =
     let e = part-count (c .before .before .before .args .fill) (c .before .before .before .args .t1) (omega (arith, c .before .before .before .good .0 .1 .0 .1)) in
     omega (arith, e)
 
@@ -36,7 +36,7 @@ copy-at-requires-2 c κs = search needs
 
 -- src/hasher.rt:71:1
 returns : tie.Need-returns
-returns c = 
+returns c =
     let s = c .before .before .before .before .before .before .before .before in
     filled-law (s .args .t1) (s .args .part .now) (c .before .before .before .before .copy-at .last .0) (c .before .copy-at2 .last .0) (s .args .fill) (s .good .0 .1 .0 .1) (s .pre) (c .before .before .before .before .copy-at .ensures) (c .before .copy-at2 .ensures)
 

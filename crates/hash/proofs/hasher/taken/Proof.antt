@@ -39,7 +39,7 @@ copy-at-requires c κs = search needs
 
 -- src/hasher.rt:69:1
 returns : tie.Need-returns
-returns c = 
+returns c =
     let a = c .before .before .before .before .before .before .args in
     taken-law (a .v) (c .before .before .before .before .blocks2 .result) (a .s .now) _ (c .before .copy-at .last .0) (a .count) (c .before .before .before .before .blocks2 .ensures) (rest-law (a .s .now)) (c .before .copy-at .ensures) (omega arith)
 

@@ -1,3 +1,6 @@
+use mathlib.Core.Path.{ap, _∙_}
+use Rattle.hash.specs.Hmac.{xored}
+use Rattle.hash.proofs.HmacLaws.{ended-law}
 use borrow.Author.Needs.{needs}
 use Rattle.hash.proofs.hmac.finish.Statement.{statement}
 use Rattle.hash.proofs.hmac.finish.Tie as tie
@@ -47,7 +50,10 @@ finish-requires-2 c κs = search needs
 
 -- src/hmac.rt:24:1
 returns : tie.Need-returns
-returns c = ?
+returns c =
+    let a = c .before .before .before .before .before .before .before .before .before .before .args in
+    let o = c .before .before .before .before .before .before .xored .ensures ∙ ap (xored 0x5c) (c .before .before .before .before .before .before .before .key-block .ensures) in
+    ended-law (a .key .now) (a .text) _ _ _ _ _ _ (c .before .before .before .before .before .new .ensures) o (c .before .before .before .before .before .before .before .before .finish .ensures) (c .before .before .before .update .ensures) (c .before .update2 .ensures) (c .finish2 .ensures)
 
 pub finish-spec : {M : Type 1} → statement M
 finish-spec =

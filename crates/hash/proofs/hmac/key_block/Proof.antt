@@ -1,3 +1,5 @@
+use native.Mathlib.Omega.{arith}
+use Rattle.hash.proofs.HmacLaws.{key-short, key-long}
 use borrow.Author.Needs.{needs}
 use Rattle.hash.proofs.hmac.key_block.Statement.{statement}
 use Rattle.hash.proofs.hmac.key_block.Tie as tie
@@ -32,11 +34,11 @@ copy-at-requires-2 c κs = search needs
 
 -- src/hmac.rt:32:1
 returns : tie.Need-returns
-returns c = ?
+returns c = key-short (c .before .before .before .before .before .args .key .now) (c .before .copy-at .last .0) (omega arith) (c .before .copy-at .ensures)
 
 -- src/hmac.rt:32:1
 returns-2 : tie.Need-returns-2
-returns-2 c = ?
+returns-2 c = key-long (c .before .before .before .before .before .before .before .args .key .now) (c .before .before .before .before .digest .result) (c .before .copy-at2 .last .0) (omega arith) (c .before .before .before .before .digest .ensures) (c .before .copy-at2 .ensures)
 
 pub key-block-spec : {M : Type 1} → statement M
 key-block-spec =

@@ -1,3 +1,4 @@
+use Rattle.hash.proofs.HmacLaws.{hmac-parts}
 use borrow.Author.Needs.{needs}
 use Rattle.hash.proofs.hmac.mac.Statement.{statement}
 use Rattle.hash.proofs.hmac.mac.Tie as tie
@@ -21,7 +22,9 @@ finish-requires c κs = search needs
 
 -- src/hmac.rt:9:1
 returns : tie.Need-returns
-returns c = ?
+returns c =
+    let e = hmac-parts (c .before .before .before .before .before .args .key .now) (c .before .before .before .before .before .args .text .now) in
+    cc
 
 pub mac-spec : {M : Type 1} → statement M
 mac-spec = tie.close (tie.spec start-requires update-requires finish-requires returns)

@@ -1,3 +1,4 @@
+use Rattle.hash.specs.Hmac.{begun, innerKey}
 use borrow.Author.Needs.{needs}
 use Rattle.hash.proofs.hmac.start.Statement.{statement}
 use Rattle.hash.proofs.hmac.start.Tie as tie
@@ -30,7 +31,8 @@ update-requires c κs = search needs
 
 -- src/hmac.rt:16:1
 returns : tie.Need-returns
-returns c = ?
+unfolding begun innerKey
+returns c = cc
 
 pub start-spec : {M : Type 1} → statement M
 start-spec =

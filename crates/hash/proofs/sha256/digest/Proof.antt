@@ -43,7 +43,7 @@ finish-requires c κs = search needs
 
 -- src/sha256.rt:74:1
 returns : tie.Need-returns
-returns c = 
+returns c =
     let m = c .before .before .before .before .before .args .message .now in
     digest-law m _ (c .before .before .blocks2 .result) (c .finish .result) (c .before .before .blocks2 .ensures ∙ ap (λ (v : HashValue). blocks (length m / 64) v m) (c .before .before .before .initial .ensures)) (rest-law m) (c .finish .ensures)
 

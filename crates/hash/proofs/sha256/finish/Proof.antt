@@ -47,7 +47,7 @@ digest-of-requires-2 c κs = search needs
 
 -- src/sha256.rt:61:1
 returns : tie.Need-returns
-returns c = 
+returns c =
     let s = c .before .before .before .before .before .before in
     let e = c .before .before .before .before .ending in
     c .digest-of .ensures
@@ -56,7 +56,7 @@ returns c =
 
 -- src/sha256.rt:61:1
 returns-2 : tie.Need-returns-2
-returns-2 c = 
+returns-2 c =
     let s = c .before .before .before .before .before .before in
     let e = c .before .before .before .before .ending in
     c .digest-of2 .ensures

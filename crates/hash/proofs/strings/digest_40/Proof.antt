@@ -1,3 +1,6 @@
+use mathlib.Core.Path.{ap, _∙_}
+use Rattle.hash.specs.Sha256.{sha256}
+use Rattle.hash.proofs.StringLaws.{string-40}
 use borrow.Author.Needs.{needs}
 use Rattle.hash.proofs.strings.digest_40.Statement.{statement}
 use Rattle.hash.proofs.strings.digest_40.Tie as tie
@@ -45,7 +48,11 @@ digest-requires c κs = search needs
 
 -- src/strings.rt:11:1
 returns : tie.Need-returns
-returns c = ?
+returns c =
+    let s = c .before .before .before .before .before .before .before .before .before .before .before in
+    let n = c .before .before .before .before .before .before .before .before .before .before .bytes8 in
+    let e = string-40 (n .result) (s .args .t2) (c .before .before .before .before .before .before .before .copy-at .last .0) (c .before .before .before .copy-at2 .last .0) (n .ensures .0) (s .good .1 .0 .1 .0 .1) (c .before .before .before .before .before .before .before .copy-at .ensures) (c .before .before .before .copy-at2 .ensures) in
+    c .digest .ensures ∙ ap sha256 (e ∙ rw (n .ensures .1))
 
 pub digest-40-spec : {M : Type 1} → statement M
 digest-40-spec =

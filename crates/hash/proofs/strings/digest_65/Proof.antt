@@ -1,3 +1,6 @@
+use mathlib.Core.Path.{ap, _∙_}
+use Rattle.hash.specs.Sha256.{sha256}
+use Rattle.hash.proofs.StringLaws.{string-65}
 use borrow.Author.Needs.{needs}
 use Rattle.hash.proofs.strings.digest_65.Statement.{statement}
 use Rattle.hash.proofs.strings.digest_65.Tie as tie
@@ -44,7 +47,10 @@ digest-requires c κs = search needs
 
 -- src/strings.rt:22:1
 returns : tie.Need-returns
-returns c = ?
+returns c =
+    let s = c .before .before .before .before .before .before .before .before .before .before in
+    let e = string-65 (s .args .tag) (s .args .t2) (s .args .t3) (c .before .before .before .before .before .before .before .copy-at .last .0) (c .before .before .before .copy-at2 .last .0) (s .good .1 .0 .1 .0 .1) (s .good .1 .1 .0 .1 .0 .1) (c .before .before .before .before .before .before .before .copy-at .ensures) (c .before .before .before .copy-at2 .ensures) in
+    c .digest .ensures ∙ ap sha256 e
 
 pub digest-65-spec : {M : Type 1} → statement M
 digest-65-spec =

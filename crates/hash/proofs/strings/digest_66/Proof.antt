@@ -1,3 +1,8 @@
+use mathlib.Core.Path.{_≡_, ap, _∙_}
+use native.Mathlib.Omega.{arith}
+use lib.ListN.{length, length-set}
+use Rattle.hash.specs.Sha256.{sha256}
+use Rattle.hash.proofs.StringLaws.{string-66}
 use borrow.Author.Needs.{needs}
 use Rattle.hash.proofs.strings.digest_66.Statement.{statement}
 use Rattle.hash.proofs.strings.digest_66.Tie as tie
@@ -36,7 +41,10 @@ slice-aggregate-copy-at-4 c = search needs
 
 -- src/strings.rt:40:5
 copy-at-requires-2 : tie.Need-copy-at-requires-2
-copy-at-requires-2 c κs = ?
+copy-at-requires-2 c κs =
+    let s = c .before .before .before .before .before .before in
+    let k : length (c .before .before .before .copy-at .last .0) ≡ 66 = c .before .before .before .copy-at .kept .0 in
+    simp length-set (omega (arith, s .good .1 .1 .1 .0 .1 .0 .1))
 
 -- src/strings.rt:41:12
 slice-aggregate-digest : tie.Need-slice-aggregate-digest
@@ -48,7 +56,10 @@ digest-requires c κs = search needs
 
 -- src/strings.rt:33:1
 returns : tie.Need-returns
-returns c = ?
+returns c =
+    let s = c .before .before .before .before .before .before .before .before .before .before in
+    let e = string-66 (s .args .left-tag) (s .args .right-tag) (s .args .t2) (s .args .t4) (c .before .before .before .before .before .before .before .copy-at .last .0) (c .before .before .before .copy-at2 .last .0) (s .good .1 .0 .1 .0 .1) (s .good .1 .1 .1 .0 .1 .0 .1) (c .before .before .before .before .before .before .before .copy-at .ensures) (c .before .before .before .copy-at2 .ensures) in
+    c .digest .ensures ∙ ap sha256 e
 
 pub digest-66-spec : {M : Type 1} → statement M
 digest-66-spec =

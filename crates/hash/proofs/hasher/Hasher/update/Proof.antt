@@ -36,7 +36,7 @@ slice-aggregate-filled c = part-count (64 - c .before .before .before .before .b
 
 -- src/hasher.rt:55:25
 filled-requires-2 : tie.Need-filled-requires-2
-filled-requires-2 c κs = 
+filled-requires-2 c κs =
     let e = part-count (64 - c .before .before .before .before .before .before .before .args .self .count % 64) (c .before .before .before .before .before .before .before .args .part .now) (search needs) in
     omega (arith, e)
 
@@ -66,13 +66,13 @@ taken-requires c κs = search needs
 
 -- src/hasher.rt:39:5
 returns : tie.Need-returns
-returns c = 
+returns c =
     let a = c .before .before .before .before .before .before .before .args in
     updated-short (a .self) (a .part .now) (c .filled .result) (c .before .before .before .before .before .wrapping-add-u64 .result) (field-length (c .before .before .before .before .before .before .before .args .self .block) 64 (c .before .before .before .before .before .before .before .good .0 .1 .1 .1 .0 .1 .0 .1)) (search needs) (c .filled .ensures .1) (c .before .before .before .before .before .wrapping-add-u64 .ensures)
 
 -- src/hasher.rt:39:5
 returns-2 : tie.Need-returns-2
-returns-2 c = 
+returns-2 c =
     let a = c .before .before .before .before .before .before .before .before .before .before .before .before .args in
     c .taken .ensures
     ∙ ap (λ (v : HashValue). taken v (take (length (a .part .now) - (64 - c .before .before .before .before .before .before .before .before .before .before .before .before .args .self .count % 64)) (drop (64 - c .before .before .before .before .before .before .before .before .before .before .before .before .args .self .count % 64) (a .part .now))) (c .before .before .before .before .before .before .before .before .before .before .wrapping-add-u64 .result)) (c .before .before .compress .ensures)
