@@ -1,0 +1,2 @@
+// The verifier: the library that C programs link.
+pub mod exports;
