@@ -199,7 +199,7 @@ pub(crate) fn compress(v: HashValue, s: &[u8], at: usize) -> HashValue
 {
     let k = K;
     let w0 = first_words(s, at);
-    let v0 = sixteen_rounds(v, &k[..16], &w0);
+    let v0 = sixteen_rounds(v, &k[0..16], &w0);
     let w1 = next_words(w0);
     let v1 = sixteen_rounds(v0, &k[16..32], &w1);
     let w2 = next_words(w1);

@@ -64,7 +64,7 @@ pub(crate) fn finish(v: HashValue, total: u64, rest: &[u8]) -> [u8; 32]
 {
     let b = ending(rest, total);
     if rest.len() < 56 {
-        digest_of(blocks(v, &b[..64]))
+        digest_of(blocks(v, &b[0..64]))
     } else {
         digest_of(blocks(v, &b))
     }

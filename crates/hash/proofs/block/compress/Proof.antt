@@ -16,12 +16,16 @@ first-words-requires : tie.Need-first-words-requires
 first-words-requires c κs = search needs
 
 -- src/block.rt:202:32
-array-share-prefix-k : tie.Need-array-share-prefix-k
-array-share-prefix-k c = search needs
+sub-sixteen-rounds : tie.Need-sub-sixteen-rounds
+sub-sixteen-rounds c = search needs
 
 -- src/block.rt:202:32
-slice-aggregate-sixteen-rounds : tie.Need-slice-aggregate-sixteen-rounds
-slice-aggregate-sixteen-rounds c = search needs
+part-sixteen-rounds-start : tie.Need-part-sixteen-rounds-start
+part-sixteen-rounds-start c = search needs
+
+-- src/block.rt:202:32
+part-sixteen-rounds-end : tie.Need-part-sixteen-rounds-end
+part-sixteen-rounds-end c = search needs
 
 -- src/block.rt:202:9
 sixteen-rounds-requires : tie.Need-sixteen-rounds-requires
@@ -32,16 +36,16 @@ next-words-requires : tie.Need-next-words-requires
 next-words-requires c κs = search needs
 
 -- src/block.rt:204:33
-sub-sixteen-rounds : tie.Need-sub-sixteen-rounds
-sub-sixteen-rounds c = search needs
+sub-sixteen-rounds-2 : tie.Need-sub-sixteen-rounds-2
+sub-sixteen-rounds-2 c = search needs
 
 -- src/block.rt:204:33
-part-sixteen-rounds-start : tie.Need-part-sixteen-rounds-start
-part-sixteen-rounds-start c = search needs
+part-sixteen-rounds-start-2 : tie.Need-part-sixteen-rounds-start-2
+part-sixteen-rounds-start-2 c = search needs
 
 -- src/block.rt:204:33
-part-sixteen-rounds-end : tie.Need-part-sixteen-rounds-end
-part-sixteen-rounds-end c = search needs
+part-sixteen-rounds-end-2 : tie.Need-part-sixteen-rounds-end-2
+part-sixteen-rounds-end-2 c = search needs
 
 -- src/block.rt:204:9
 sixteen-rounds-requires-2 : tie.Need-sixteen-rounds-requires-2
@@ -52,16 +56,16 @@ next-words-requires-2 : tie.Need-next-words-requires-2
 next-words-requires-2 c κs = search needs
 
 -- src/block.rt:206:33
-sub-sixteen-rounds-2 : tie.Need-sub-sixteen-rounds-2
-sub-sixteen-rounds-2 c = search needs
+sub-sixteen-rounds-3 : tie.Need-sub-sixteen-rounds-3
+sub-sixteen-rounds-3 c = search needs
 
 -- src/block.rt:206:33
-part-sixteen-rounds-start-2 : tie.Need-part-sixteen-rounds-start-2
-part-sixteen-rounds-start-2 c = search needs
+part-sixteen-rounds-start-3 : tie.Need-part-sixteen-rounds-start-3
+part-sixteen-rounds-start-3 c = search needs
 
 -- src/block.rt:206:33
-part-sixteen-rounds-end-2 : tie.Need-part-sixteen-rounds-end-2
-part-sixteen-rounds-end-2 c = search needs
+part-sixteen-rounds-end-3 : tie.Need-part-sixteen-rounds-end-3
+part-sixteen-rounds-end-3 c = search needs
 
 -- src/block.rt:206:9
 sixteen-rounds-requires-3 : tie.Need-sixteen-rounds-requires-3
@@ -72,16 +76,16 @@ next-words-requires-3 : tie.Need-next-words-requires-3
 next-words-requires-3 c κs = search needs
 
 -- src/block.rt:208:33
-sub-sixteen-rounds-3 : tie.Need-sub-sixteen-rounds-3
-sub-sixteen-rounds-3 c = search needs
+sub-sixteen-rounds-4 : tie.Need-sub-sixteen-rounds-4
+sub-sixteen-rounds-4 c = search needs
 
 -- src/block.rt:208:33
-part-sixteen-rounds-start-3 : tie.Need-part-sixteen-rounds-start-3
-part-sixteen-rounds-start-3 c = search needs
+part-sixteen-rounds-start-4 : tie.Need-part-sixteen-rounds-start-4
+part-sixteen-rounds-start-4 c = search needs
 
 -- src/block.rt:208:33
-part-sixteen-rounds-end-3 : tie.Need-part-sixteen-rounds-end-3
-part-sixteen-rounds-end-3 c = search needs
+part-sixteen-rounds-end-4 : tie.Need-part-sixteen-rounds-end-4
+part-sixteen-rounds-end-4 c = search needs
 
 -- src/block.rt:208:9
 sixteen-rounds-requires-4 : tie.Need-sixteen-rounds-requires-4
@@ -96,8 +100,8 @@ returns : tie.Need-returns
 unfolding constants
 returns c =
     c .added .ensures
-    ∙ four-sixteens (c .before .before .before .before .before .before .before .before .before .before .before .before .before .before .before .before .before .before .before .before .before .args .v) (c .before .before .before .before .before .before .before .before .before .before .before .before .before .before .before .before .sixteen-rounds .result) (c .before .before .before .before .before .before .before .before .before .before .before .sixteen-rounds2 .result) (c .before .before .before .before .before .before .sixteen-rounds3 .result) (c .before .sixteen-rounds4 .result)
-    _ _ _ _ _ _ _ _ _ refl refl refl refl (c .before .before .before .before .before .before .before .before .before .before .before .before .before .before .before .before .before .before .before .first-words .ensures) (c .before .before .before .before .before .before .before .before .before .before .before .before .before .before .before .next-words .ensures) (c .before .before .before .before .before .before .before .before .before .before .next-words2 .ensures) (c .before .before .before .before .before .next-words3 .ensures)
+    ∙ four-sixteens (c .before .before .before .before .before .before .before .before .before .before .before .before .before .before .before .before .before .before .before .before .before .before .args .v) (c .before .before .before .before .before .before .before .before .before .before .before .before .before .before .before .before .sixteen-rounds .result) (c .before .before .before .before .before .before .before .before .before .before .before .sixteen-rounds2 .result) (c .before .before .before .before .before .before .sixteen-rounds3 .result) (c .before .sixteen-rounds4 .result)
+    _ _ _ _ _ _ _ _ _ refl refl refl refl (c .before .before .before .before .before .before .before .before .before .before .before .before .before .before .before .before .before .before .before .before .first-words .ensures) (c .before .before .before .before .before .before .before .before .before .before .before .before .before .before .before .next-words .ensures) (c .before .before .before .before .before .before .before .before .before .before .next-words2 .ensures) (c .before .before .before .before .before .next-words3 .ensures)
     (c .before .before .before .before .before .before .before .before .before .before .before .before .before .before .before .before .sixteen-rounds .ensures) (c .before .before .before .before .before .before .before .before .before .before .before .sixteen-rounds2 .ensures) (c .before .before .before .before .before .before .sixteen-rounds3 .ensures) (c .before .sixteen-rounds4 .ensures)
 
 pub compress-spec : {M : Type 1} → statement M
@@ -105,23 +109,24 @@ compress-spec =
     tie.close
     (tie.spec
     first-words-requires
-    array-share-prefix-k
-    slice-aggregate-sixteen-rounds
-    sixteen-rounds-requires
-    next-words-requires
     sub-sixteen-rounds
     part-sixteen-rounds-start
     part-sixteen-rounds-end
-    sixteen-rounds-requires-2
-    next-words-requires-2
+    sixteen-rounds-requires
+    next-words-requires
     sub-sixteen-rounds-2
     part-sixteen-rounds-start-2
     part-sixteen-rounds-end-2
-    sixteen-rounds-requires-3
-    next-words-requires-3
+    sixteen-rounds-requires-2
+    next-words-requires-2
     sub-sixteen-rounds-3
     part-sixteen-rounds-start-3
     part-sixteen-rounds-end-3
+    sixteen-rounds-requires-3
+    next-words-requires-3
+    sub-sixteen-rounds-4
+    part-sixteen-rounds-start-4
+    part-sixteen-rounds-end-4
     sixteen-rounds-requires-4
     added-requires
     returns)

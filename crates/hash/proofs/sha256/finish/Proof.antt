@@ -2,7 +2,6 @@ use mathlib.Core.Path.{refl, sym, ap, _∙_}
 use native.Mathlib.Omega.{arith}
 use lib.Seq.{take-all}
 use Rattle.hash.specs.Sha256.{digestOf}
-use Rattle.hash.proofs.BytesLaws.{part-count}
 use Rattle.hash.proofs.MessageLaws.{ending-blocks}
 use borrow.Author.Needs.{needs}
 use Rattle.hash.proofs.sha256.finish.Statement.{statement}
@@ -18,12 +17,16 @@ ending-requires : tie.Need-ending-requires
 ending-requires c κs = search needs
 
 -- src/sha256.rt:67:29
-array-share-prefix-b : tie.Need-array-share-prefix-b
-array-share-prefix-b c = search needs
+sub-blocks : tie.Need-sub-blocks
+sub-blocks c = search needs
 
 -- src/sha256.rt:67:29
-slice-aggregate-blocks : tie.Need-slice-aggregate-blocks
-slice-aggregate-blocks c = part-count 64 (c .before .before .ending .result) (omega arith)
+part-blocks-start : tie.Need-part-blocks-start
+part-blocks-start c = search needs
+
+-- src/sha256.rt:67:29
+part-blocks-end : tie.Need-part-blocks-end
+part-blocks-end c = search needs
 
 -- src/sha256.rt:67:19
 blocks-requires : tie.Need-blocks-requires
@@ -34,8 +37,8 @@ digest-of-requires : tie.Need-digest-of-requires
 digest-of-requires c κs = search needs
 
 -- src/sha256.rt:69:29
-slice-aggregate-blocks-2 : tie.Need-slice-aggregate-blocks-2
-slice-aggregate-blocks-2 c = search needs
+slice-aggregate-blocks : tie.Need-slice-aggregate-blocks
+slice-aggregate-blocks c = search needs
 
 -- src/sha256.rt:69:19
 blocks-requires-2 : tie.Need-blocks-requires-2
@@ -48,8 +51,8 @@ digest-of-requires-2 c κs = search needs
 -- src/sha256.rt:61:1
 returns : tie.Need-returns
 returns c =
-    let s = c .before .before .before .before .before .before in
-    let e = c .before .before .before .before .ending in
+    let s = c .before .before .before .before .before .before .before in
+    let e = c .before .before .before .before .before .ending in
     c .digest-of .ensures
     ∙ ap digestOf (c .before .blocks2 .ensures)
     ∙ ending-blocks (s .args .v) (s .args .total) 64 (s .args .rest .now) (e .result) _ (omega arith) (e .ensures .1) refl
@@ -68,11 +71,12 @@ finish-spec =
     tie.close
     (tie.spec
     ending-requires
-    array-share-prefix-b
-    slice-aggregate-blocks
+    sub-blocks
+    part-blocks-start
+    part-blocks-end
     blocks-requires
     digest-of-requires
-    slice-aggregate-blocks-2
+    slice-aggregate-blocks
     blocks-requires-2
     digest-of-requires-2
     returns
