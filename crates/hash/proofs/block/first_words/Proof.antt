@@ -1,3 +1,5 @@
+-- `hash::block::first_words` meets its contract: the words read so far are the first ones of the block.
+-- Assumes nothing.
 use mathlib.Core.Path.{_≡_, refl, sym, _∙_}
 use Prim.Native.Nat.{_-_, _≤_}
 use native.Mathlib.Omega.{arith}
@@ -8,9 +10,6 @@ use Rattle.hash.proofs.BlockLaws.{words-zero, words-step}
 use borrow.Author.Needs.{needs}
 use Rattle.hash.proofs.block.first_words.Statement.{statement}
 use Rattle.hash.proofs.block.first_words.Tie as tie
-use Rattle.hash.proofs.block.first_words.Reads as reads
-use Rattle.hash.proofs.block.first_words.Lts as lts
-use Rattle.hash.proofs.words.word.Reads as word-reads
 
 abbrev Inv-loop : tie.InvT-loop
 Inv-loop s at w₀ t₀ w t = (t ≤ 16) × (length w ≡ 16) × (take t w ≡ words t (take 64 (drop at s)))
@@ -18,46 +17,37 @@ Inv-loop s at w₀ t₀ w t = (t ≤ 16) × (length w ≡ 16) × (take t w ≡ w
 abbrev μ-loop : tie.MeasureT-loop
 μ-loop s at w₀ t₀ w t = 16 - t
 
--- src/block.rt:104:5
 loop-holds : tie.Need-loop-holds Inv-loop μ-loop
 loop-holds c = (omega arith, refl, sym (words-zero _))
 
--- src/block.rt:105:29
 mul-word : tie.Need-mul-word Inv-loop μ-loop
 mul-word c = search needs
 
--- src/block.rt:105:24
 add-word : tie.Need-add-word Inv-loop μ-loop
 add-word c = search needs
 
--- src/block.rt:105:16
 word-requires : tie.Need-word-requires Inv-loop μ-loop
 word-requires c κs = search needs
 
--- src/block.rt:105:9
 mul-w : tie.Need-mul-w Inv-loop μ-loop
 mul-w c = search needs
 
--- src/block.rt:105:9
 array-write-w : tie.Need-array-write-w Inv-loop μ-loop
 array-write-w c = search needs
 
--- src/block.rt:104:9
 add-t : tie.Need-add-t Inv-loop μ-loop
 add-t c = search needs
 
--- src/block.rt:104:5
 loop-less : tie.Need-loop-less Inv-loop μ-loop
 loop-less c = search needs
 
--- src/block.rt:104:5
 loop-again : tie.Need-loop-again Inv-loop μ-loop
 loop-again c =
+    let at4 = c .before .before .before .before in
     let l = c .before .before .loop in
-    let a = c .before .before .before .before .args in
+    let a = at4 .args in
     (omega arith, simp length-set (l .inv .1), words-step (l .w) (a .s .now) (a .at) (l .t) (c .word .result) (omega arith) (omega arith) (l .inv .2) (c .word .ensures))
 
--- src/block.rt:99:1
 returns : tie.Need-returns Inv-loop μ-loop
 returns c =
     let l = c .before .loop in

@@ -1,3 +1,5 @@
+-- `hash::hmac::xored` meets its contract: the bytes flipped so far are those of the definition.
+-- Assumes nothing.
 use mathlib.Core.Path.{_≡_, refl, sym, _∙_}
 use Prim.Native.Nat.{_-_, _≤_}
 use native.Mathlib.Omega.{arith}
@@ -8,8 +10,6 @@ use Rattle.hash.proofs.HmacLaws.{xored-nil, xored-step}
 use borrow.Author.Needs.{needs}
 use Rattle.hash.proofs.hmac.xored.Statement.{statement}
 use Rattle.hash.proofs.hmac.xored.Tie as tie
-use Rattle.hash.proofs.hmac.xored.Reads as reads
-use Rattle.hash.proofs.hmac.xored.Lts as lts
 
 abbrev Inv-loop : tie.InvT-loop
 Inv-loop x k r₀ i₀ r i = (i ≤ 64) × (length r ≡ 64) × (length k ≡ 64) × (take i r ≡ xored x (take i k))
@@ -17,34 +17,27 @@ Inv-loop x k r₀ i₀ r i = (i ≤ 64) × (length r ≡ 64) × (length k ≡ 64
 abbrev μ-loop : tie.MeasureT-loop
 μ-loop x k r₀ i₀ r i = 64 - i
 
--- src/hmac.rt:50:5
 loop-holds : tie.Need-loop-holds Inv-loop μ-loop
 loop-holds c = (omega arith, refl, c .good .0 .1 .0 .1, sym (xored-nil _))
 
--- src/hmac.rt:51:16
 array-read-r : tie.Need-array-read-r Inv-loop μ-loop
 array-read-r c = search needs
 
--- src/hmac.rt:51:9
 array-write-r : tie.Need-array-write-r Inv-loop μ-loop
 array-write-r c = search needs
 
--- src/hmac.rt:50:9
 add-i : tie.Need-add-i Inv-loop μ-loop
 add-i c = search needs
 
--- src/hmac.rt:50:5
 loop-less : tie.Need-loop-less Inv-loop μ-loop
 loop-less c = search needs
 
--- src/hmac.rt:50:5
 loop-again : tie.Need-loop-again Inv-loop μ-loop
 loop-again c =
     let l = c .before .loop in
     let a = c .before .before .args in
     (omega arith, simp length-set (l .inv .1), l .inv .2, xored-step (a .x) (a .t1) (l .r) (l .i) (omega arith) (omega arith) (l .inv .3))
 
--- src/hmac.rt:46:1
 returns : tie.Need-returns Inv-loop μ-loop
 returns c =
     let l = c .before .loop in

@@ -1,3 +1,5 @@
+-- `hash::sha256::blocks` meets its contract: the blocks hashed so far are those of the definition.
+-- Assumes nothing.
 use mathlib.Core.Path.{_≡_, refl, sym}
 use Prim.Native.Nat.{_-_, _/_, _≤_}
 use native.Mathlib.Omega.{arith}
@@ -7,9 +9,6 @@ use Rattle.hash.proofs.MessageLaws.{blocks-zero, blocks-more}
 use borrow.Author.Needs.{needs}
 use Rattle.hash.proofs.sha256.blocks.Statement.{statement}
 use Rattle.hash.proofs.sha256.blocks.Tie as tie
-use Rattle.hash.proofs.sha256.blocks.Reads as reads
-use Rattle.hash.proofs.sha256.blocks.Lts as lts
-use Rattle.hash.proofs.block.compress.Reads as compress-reads
 
 abbrev Inv-loop : tie.InvT-loop
 Inv-loop s n x₀ i₀ x i = (n ≡ length s / 64) × (i ≤ n) × (x ≡ blocks i x₀ s)
@@ -17,31 +16,24 @@ Inv-loop s n x₀ i₀ x i = (n ≡ length s / 64) × (i ≤ n) × (x ≡ blocks
 abbrev μ-loop : tie.MeasureT-loop
 μ-loop s n x₀ i₀ x i = n - i
 
--- src/sha256.rt:35:5
 loop-holds : tie.Need-loop-holds Inv-loop μ-loop
 loop-holds c = (refl, omega arith, sym (blocks-zero _ _))
 
--- src/sha256.rt:36:28
 mul-compress : tie.Need-mul-compress Inv-loop μ-loop
 mul-compress c = search needs
 
--- src/sha256.rt:36:9
 compress-requires : tie.Need-compress-requires Inv-loop μ-loop
 compress-requires c κs = search needs
 
--- src/sha256.rt:35:9
 add-i : tie.Need-add-i Inv-loop μ-loop
 add-i c = search needs
 
--- src/sha256.rt:35:5
 loop-less : tie.Need-loop-less Inv-loop μ-loop
 loop-less c = search needs
 
--- src/sha256.rt:35:5
 loop-again : tie.Need-loop-again Inv-loop μ-loop
 loop-again c = (refl, omega arith, cc (blocks-more (c .before .before .loop .i) (c .before .before .before .before .args .v) (c .before .before .before .before .args .s .now)))
 
--- src/sha256.rt:30:1
 returns : tie.Need-returns Inv-loop μ-loop
 returns c = let e : c .before .loop .i ≡ length (c .before .before .before .args .s .now) / 64 = omega arith in rw e at (c .before .loop .inv .2)
 

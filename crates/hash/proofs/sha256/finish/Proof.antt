@@ -1,3 +1,5 @@
+-- `hash::sha256::finish` meets its contract: the last block or the last two are the front of what `ending` made.
+-- Assumes nothing.
 use mathlib.Core.Path.{refl, sym, ap, _∙_}
 use native.Mathlib.Omega.{arith}
 use lib.Seq.{take-all}
@@ -6,62 +8,50 @@ use Rattle.hash.proofs.MessageLaws.{ending-blocks}
 use borrow.Author.Needs.{needs}
 use Rattle.hash.proofs.sha256.finish.Statement.{statement}
 use Rattle.hash.proofs.sha256.finish.Tie as tie
-use Rattle.hash.proofs.sha256.finish.Reads as reads
-use Rattle.hash.proofs.sha256.finish.Lts as lts
-use Rattle.hash.proofs.sha256.blocks.Reads as blocks-reads
-use Rattle.hash.proofs.sha256.digest_of.Reads as digest-of-reads
-use Rattle.hash.proofs.sha256.ending.Reads as ending-reads
 
--- src/sha256.rt:65:13
 ending-requires : tie.Need-ending-requires
 ending-requires c κs = search needs
 
--- src/sha256.rt:67:29
 sub-blocks : tie.Need-sub-blocks
 sub-blocks c = search needs
 
--- src/sha256.rt:67:29
 part-blocks-start : tie.Need-part-blocks-start
 part-blocks-start c = search needs
 
--- src/sha256.rt:67:29
 part-blocks-end : tie.Need-part-blocks-end
 part-blocks-end c = search needs
 
--- src/sha256.rt:67:19
 blocks-requires : tie.Need-blocks-requires
 blocks-requires c κs = search needs
 
--- src/sha256.rt:67:9
 digest-of-requires : tie.Need-digest-of-requires
 digest-of-requires c κs = search needs
 
--- src/sha256.rt:69:29
 slice-aggregate-blocks : tie.Need-slice-aggregate-blocks
 slice-aggregate-blocks c = search needs
 
--- src/sha256.rt:69:19
 blocks-requires-2 : tie.Need-blocks-requires-2
 blocks-requires-2 c κs = search needs
 
--- src/sha256.rt:69:9
 digest-of-requires-2 : tie.Need-digest-of-requires-2
 digest-of-requires-2 c κs = search needs
 
--- src/sha256.rt:61:1
 returns : tie.Need-returns
 returns c =
-    let s = c .before .before .before .before .before .before .before in
-    let e = c .before .before .before .before .before .ending in
+    let at5 = c .before .before .before .before .before in
+    let at7 = at5 .before .before in
+    let s = at7 in
+    let e = at5 .ending in
     c .digest-of .ensures
     ∙ ap digestOf (c .before .blocks2 .ensures)
     ∙ ending-blocks (s .args .v) (s .args .total) 64 (s .args .rest .now) (e .result) _ (omega arith) (e .ensures .1) refl
 
--- src/sha256.rt:61:1
 returns-2 : tie.Need-returns-2
 returns-2 c =
-    let s = c .before .before .before .before .before .before in
-    let e = c .before .before .before .before .ending in
+    let at4 = c .before .before .before .before in
+    let at6 = at4 .before .before in
+    let s = at6 in
+    let e = at4 .ending in
     c .digest-of2 .ensures
     ∙ ap digestOf (c .before .blocks3 .ensures)
     ∙ ending-blocks (s .args .v) (s .args .total) 128 (s .args .rest .now) (e .result) _ (omega arith) (e .ensures .1) (sym (take-all 128 (e .result) (omega arith)))

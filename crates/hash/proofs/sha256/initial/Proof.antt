@@ -1,12 +1,10 @@
+-- `hash::sha256::initial` meets its contract: the eight words are those of the definition.
+-- Assumes nothing.
 use mathlib.Core.Path.{refl}
 use Rattle.hash.specs.Sha256.{initial}
-use borrow.Author.Needs.{needs}
 use Rattle.hash.proofs.sha256.initial.Statement.{statement}
 use Rattle.hash.proofs.sha256.initial.Tie as tie
-use Rattle.hash.proofs.sha256.initial.Reads as reads
-use Rattle.hash.proofs.sha256.initial.Lts as lts
 
--- src/sha256.rt:14:1
 returns : tie.Need-returns
 unfolding initial
 returns c = refl

@@ -1,12 +1,11 @@
+-- `vectors::digests::lengths` meets its contract: each length is at most that of the zeros.
+-- Assumes nothing.
 use mathlib.Core.Path.{_≡_}
 use Prim.Native.Nat.{_-_, _≤_}
 use lib.ListN.{length}
 use borrow.Author.Needs.{needs}
 use Rattle.vectors.proofs.digests.lengths.Statement.{statement}
 use Rattle.vectors.proofs.digests.lengths.Tie as tie
-use Rattle.vectors.proofs.digests.lengths.Reads as reads
-use Rattle.vectors.proofs.digests.lengths.Lts as lts
-use Rattle.vectors.proofs.digests.whole_and_parts.Reads as whole-and-parts-reads
 
 abbrev Inv-loop : tie.InvT-loop
 Inv-loop zeros n₀ n = (n ≤ 131) × (length zeros ≡ 130)
@@ -14,39 +13,30 @@ Inv-loop zeros n₀ n = (n ≤ 131) × (length zeros ≡ 130)
 abbrev μ-loop : tie.MeasureT-loop
 μ-loop zeros n₀ n = 131 - n
 
--- src/digests.rt:54:5
 loop-holds : tie.Need-loop-holds Inv-loop μ-loop
 loop-holds c = search needs
 
--- src/digests.rt:55:25
 sub-whole-and-parts : tie.Need-sub-whole-and-parts Inv-loop μ-loop
 sub-whole-and-parts c = search needs
 
--- src/digests.rt:55:25
 part-whole-and-parts-start : tie.Need-part-whole-and-parts-start Inv-loop μ-loop
 part-whole-and-parts-start c = search needs
 
--- src/digests.rt:55:25
 part-whole-and-parts-end : tie.Need-part-whole-and-parts-end Inv-loop μ-loop
 part-whole-and-parts-end c = search needs
 
--- src/digests.rt:55:9
 whole-and-parts-requires : tie.Need-whole-and-parts-requires Inv-loop μ-loop
 whole-and-parts-requires c κs = search needs
 
--- src/digests.rt:54:9
 add-n : tie.Need-add-n Inv-loop μ-loop
 add-n c = search needs
 
--- src/digests.rt:54:5
 loop-less : tie.Need-loop-less Inv-loop μ-loop
 loop-less c = search needs
 
--- src/digests.rt:54:5
 loop-again : tie.Need-loop-again Inv-loop μ-loop
 loop-again c = search needs
 
--- src/digests.rt:52:1
 returns : tie.Need-returns Inv-loop μ-loop
 returns c = search needs
 

@@ -1,14 +1,11 @@
+-- `vectors::digests::repeated` meets its contract: the part keeps its length.
+-- Assumes nothing.
 use mathlib.Core.Path.{_≡_}
 use Prim.Native.Nat.{_-_, _≤_}
 use lib.ListN.{length}
 use borrow.Author.Needs.{needs}
 use Rattle.vectors.proofs.digests.repeated.Statement.{statement}
 use Rattle.vectors.proofs.digests.repeated.Tie as tie
-use Rattle.vectors.proofs.digests.repeated.Reads as reads
-use Rattle.vectors.proofs.digests.repeated.Lts as lts
-use Rattle.hash.proofs.hasher.Hasher.finish.Reads as finish-reads
-use Rattle.hash.proofs.hasher.Hasher.new.Reads as new-reads
-use Rattle.hash.proofs.hasher.Hasher.update.Reads as update-reads
 
 abbrev Inv-loop : tie.InvT-loop
 Inv-loop byte times part h₀ turns i₀ h i = (i ≤ turns) × (length part ≡ 1000)
@@ -16,55 +13,42 @@ Inv-loop byte times part h₀ turns i₀ h i = (i ≤ turns) × (length part ≡
 abbrev μ-loop : tie.MeasureT-loop
 μ-loop byte times part h₀ turns i₀ h i = turns - i
 
--- src/digests.rt:9:9
 new-requires : tie.Need-new-requires Inv-loop μ-loop
 new-requires c κs = search needs
 
--- src/digests.rt:11:5
 loop-holds : tie.Need-loop-holds Inv-loop μ-loop
 loop-holds c = search needs
 
--- src/digests.rt:12:22
 slice-aggregate-update : tie.Need-slice-aggregate-update Inv-loop μ-loop
 slice-aggregate-update c = search needs
 
--- src/digests.rt:12:9
 update-requires : tie.Need-update-requires Inv-loop μ-loop
 update-requires c κs = search needs
 
--- src/digests.rt:11:9
 add-i : tie.Need-add-i Inv-loop μ-loop
 add-i c = search needs
 
--- src/digests.rt:11:5
 loop-less : tie.Need-loop-less Inv-loop μ-loop
 loop-less c = search needs
 
--- src/digests.rt:11:5
 loop-again : tie.Need-loop-again Inv-loop μ-loop
 loop-again c = search needs
 
--- src/digests.rt:15:14
 sub-update : tie.Need-sub-update Inv-loop μ-loop
 sub-update c = search needs
 
--- src/digests.rt:15:14
 part-update-start : tie.Need-part-update-start Inv-loop μ-loop
 part-update-start c = search needs
 
--- src/digests.rt:15:14
 part-update-end : tie.Need-part-update-end Inv-loop μ-loop
 part-update-end c = search needs
 
--- src/digests.rt:15:5
 update-requires-2 : tie.Need-update-requires-2 Inv-loop μ-loop
 update-requires-2 c κs = search needs
 
--- src/digests.rt:15:5
 finish-requires : tie.Need-finish-requires Inv-loop μ-loop
 finish-requires c κs = search needs
 
--- src/digests.rt:7:1
 returns : tie.Need-returns Inv-loop μ-loop
 returns c = search needs
 

@@ -1,16 +1,13 @@
+-- `hash::hasher::Hasher::finish` meets its contract: the digest of what is pending is `closed`, by its law.
+-- Assumes nothing.
 use Rattle.hash.proofs.HasherLaws.{closed-law}
 use borrow.Author.Needs.{needs}
 use Rattle.hash.proofs.hasher.Hasher.finish.Statement.{statement}
 use Rattle.hash.proofs.hasher.Hasher.finish.Tie as tie
-use Rattle.hash.proofs.hasher.Hasher.finish.Reads as reads
-use Rattle.hash.proofs.hasher.Hasher.finish.Lts as lts
-use Rattle.hash.proofs.hasher.closed.Reads as closed-reads
 
--- src/hasher.rt:66:9
 closed-requires : tie.Need-closed-requires
 closed-requires c κs = search needs
 
--- src/hasher.rt:61:5
 returns : tie.Need-returns
 returns c = closed-law (c .before .before .before .args .self) (c .closed .result) (c .closed .ensures)
 
