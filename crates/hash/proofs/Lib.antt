@@ -4,3 +4,4 @@ pub mod MessageLaws
 pub mod HasherLaws
 pub mod HmacLaws
 pub mod StringLaws
+pub mod Examples

@@ -15,7 +15,7 @@ pending h = take (h .count % 64) (h .block)
 unfoldable pub started : Hasher
 started = record { value = initial; block = replicate 64 0; count = 0 }
 
--- the bytes s, of which a message of l bytes in all ends, from the hash value v of the blocks before them
+-- what is left after s, the last bytes of a message of l bytes, from the hash value v of the blocks before s
 unfoldable pub taken : HashValue → List ℕ → ℕ → Hasher
 taken v s l =
     record {

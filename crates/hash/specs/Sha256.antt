@@ -36,7 +36,7 @@ digestOf v =
     bigEndian 4 (v .a) ++ bigEndian 4 (v .b) ++ bigEndian 4 (v .c) ++ bigEndian 4 (v .d) ++ bigEndian 4 (v .e)
     ++ bigEndian 4 (v .f) ++ bigEndian 4 (v .g) ++ bigEndian 4 (v .h)
 
--- the digest of a message of l bytes in all, whose last bytes are s, from the hash value v of the blocks before them
+-- the digest of a message of l bytes whose last ones are s, from the hash value v of the blocks before s
 unfoldable pub finished : HashValue → ℕ → List ℕ → List ℕ
 finished v l s = digestOf (blocks (length (s ++ padding l) / 64) v (s ++ padding l))
 

@@ -1,0 +1,44 @@
+/*
+ * kt.h: the C interface of the boot checker's verifier.
+ *
+ * Every byte string is passed as a pointer and its length in bytes. The library
+ * allocates nothing, keeps nothing between calls and writes only to the bytes
+ * that are lent to it for output, as each function below says.
+ *
+ * What a caller owes, and nobody checks:
+ *   - a pointer with a length above 0 points to that many bytes; with the length
+ *     0 any pointer serves, null too;
+ *   - the bytes lent for output overlap no other bytes passed to the same call;
+ *   - no other thread writes the bytes passed, or reads those lent for output,
+ *     during a call.
+ * Nothing else has to be checked first: every function takes bytes of any length
+ * and any content, and returns.
+ */
+#ifndef KT_H
+#define KT_H
+
+#include <stddef.h>
+#include <stdint.h>
+
+#ifdef __cplusplus
+extern "C" {
+#endif
+
+/* The bytes of a SHA-256 digest. */
+#define KT_DIGEST_LENGTH 32
+
+/*
+ * The SHA-256 digest (FIPS 180-4) of a message of any length.
+ *
+ * With digest_length of KT_DIGEST_LENGTH or more: writes the digest to the first
+ * KT_DIGEST_LENGTH bytes of digest, leaves the bytes after them as they are, and
+ * answers KT_DIGEST_LENGTH. With fewer: writes nothing and answers 0.
+ */
+uint64_t kt_sha256(const uint8_t *message, size_t message_length,
+                   uint8_t *digest, size_t digest_length);
+
+#ifdef __cplusplus
+}
+#endif
+
+#endif
