@@ -1,13 +1,14 @@
 -- Laws of one block (specs/Block.antt): the words of a block, the schedule by sixteen words, and the rounds by sixteen.
 -- Assumes nothing.
 use mathlib.Core.Path.{_≡_, refl, sym, ap, _∙_}
-use mathlib.Core.List.{List, [], _∷_, _++_, append-assoc}
-use Prim.Native.Nat.{ℕ, zero, suc, _+_, _-_, _*_, _≤_, _<_}
+use mathlib.Core.List.{List, [], _∷_, _++_, append-assoc, append-nil}
+use Prim.Native.Nat.{ℕ, zero, suc, _+_, _-_, _*_, _%_, _≤_, _<_}
 use native.Mathlib.Nat.{add-zero, add-suc}
 use native.Mathlib.Numerals.{add-one}
 use native.Mathlib.Omega.{arith}
+use native.Mathlib.Decide.{decLt}
 use lib.ListN.{length, getD, take, drop, set, length-append, length-drop, take-append-drop, drop-of-length-le, List·getD-append}
-use lib.Seq.{length-take-le, getD-take, getD-drop, getD-append-add, take-append-le, take-all, take-suc-set, drop-cons, drop-at}
+use lib.Seq.{set-at, drop-append-le, getD-take, getD-drop, getD-append-add, take-append-le, take-all, take-suc-set, drop-cons}
 use Rattle.hash.specs.declared.block.HashValue.{HashValue}
 use Rattle.hash.specs.Words.{word, constants}
 use Rattle.hash.specs.Block.{words, mixed, next, extended, schedule, round, rounds, added, compressed}
@@ -51,63 +52,6 @@ words-step w s at t v h k e ev =
 
 -- ---- the schedule, sixteen words at a time
 
--- the elements of a list from place i on, n of them
-listed : ℕ → ℕ → List ℕ → List ℕ
-listed i zero w = []
-listed i (suc n) w = getD w i 0 ∷ listed (suc i) n w
-
-listed-drop : (n i : ℕ) (w : List ℕ) → length w ≡ i + n → drop i w ≡ listed i n w
-unfolding listed
-listed-drop zero i w h = drop-of-length-le w {i = i} (omega arith)
-listed-drop (suc n) i w h = drop-cons w i 0 (omega arith) ∙ ap (λ (l : List ℕ). getD w i 0 ∷ l) (listed-drop n (suc i) w (omega arith))
-
--- the sixteen words after sixteen words, written out
-abbrev nextSixteen : List ℕ → List ℕ
-nextSixteen w =
-    let a = mixed (getD w 14 0) (getD w 9 0) (getD w 1 0) (getD w 0 0) in
-    let b = mixed (getD w 15 0) (getD w 10 0) (getD w 2 0) (getD w 1 0) in
-    let c = mixed a (getD w 11 0) (getD w 3 0) (getD w 2 0) in
-    let d = mixed b (getD w 12 0) (getD w 4 0) (getD w 3 0) in
-    let e = mixed c (getD w 13 0) (getD w 5 0) (getD w 4 0) in
-    let f = mixed d (getD w 14 0) (getD w 6 0) (getD w 5 0) in
-    let g = mixed e (getD w 15 0) (getD w 7 0) (getD w 6 0) in
-    let h = mixed f a (getD w 8 0) (getD w 7 0) in
-    let i = mixed g b (getD w 9 0) (getD w 8 0) in
-    let j = mixed h c (getD w 10 0) (getD w 9 0) in
-    let k = mixed i d (getD w 11 0) (getD w 10 0) in
-    let l = mixed j e (getD w 12 0) (getD w 11 0) in
-    let m = mixed k f (getD w 13 0) (getD w 12 0) in
-    let n = mixed l g (getD w 14 0) (getD w 13 0) in
-    let o = mixed m h (getD w 15 0) (getD w 14 0) in
-    let p = mixed n i a (getD w 15 0) in
-    a ∷ b ∷ c ∷ d ∷ e ∷ f ∷ g ∷ h ∷ i ∷ j ∷ k ∷ l ∷ m ∷ n ∷ o ∷ p ∷ []
-
-next-sixteen-written : (w : List ℕ) → length w ≡ 16 → nextSixteen w ≡ drop 16 (extended 16 w)
-unfolding extended next listed
-next-sixteen-written w h = sym (ap (λ (l : List ℕ). drop 16 (extended 16 l)) (listed-drop 16 0 w h))
-
--- the same where each word has a name
-pub next-sixteen : (w : List ℕ) (a b c d e f g h i j k l m n o p : ℕ) → length w ≡ 16
-    → a ≡ mixed (getD w 14 0) (getD w 9 0) (getD w 1 0) (getD w 0 0)
-    → b ≡ mixed (getD w 15 0) (getD w 10 0) (getD w 2 0) (getD w 1 0)
-    → c ≡ mixed a (getD w 11 0) (getD w 3 0) (getD w 2 0)
-    → d ≡ mixed b (getD w 12 0) (getD w 4 0) (getD w 3 0)
-    → e ≡ mixed c (getD w 13 0) (getD w 5 0) (getD w 4 0)
-    → f ≡ mixed d (getD w 14 0) (getD w 6 0) (getD w 5 0)
-    → g ≡ mixed e (getD w 15 0) (getD w 7 0) (getD w 6 0)
-    → h ≡ mixed f a (getD w 8 0) (getD w 7 0)
-    → i ≡ mixed g b (getD w 9 0) (getD w 8 0)
-    → j ≡ mixed h c (getD w 10 0) (getD w 9 0)
-    → k ≡ mixed i d (getD w 11 0) (getD w 10 0)
-    → l ≡ mixed j e (getD w 12 0) (getD w 11 0)
-    → m ≡ mixed k f (getD w 13 0) (getD w 12 0)
-    → n ≡ mixed l g (getD w 14 0) (getD w 13 0)
-    → o ≡ mixed m h (getD w 15 0) (getD w 14 0)
-    → p ≡ mixed n i a (getD w 15 0)
-    → a ∷ b ∷ c ∷ d ∷ e ∷ f ∷ g ∷ h ∷ i ∷ j ∷ k ∷ l ∷ m ∷ n ∷ o ∷ p ∷ [] ≡ drop 16 (extended 16 w)
-next-sixteen w a b c d e f g h i j k l m n o p hw ea eb ec ed ee ef eg eh ei ej ek el em en eo ep =
-    rw (ep, eo, en, em, el, ek, ej, ei, eh, eg, ef, ee, ed, ec, eb, ea) (next-sixteen-written w hw)
-
 -- the next word depends on the last sixteen only
 next-tail : (p q : List ℕ) → 16 ≤ length q → next (p ++ q) ≡ next q
 unfolding next
@@ -142,6 +86,84 @@ extended-front : (n : ℕ) (w : List ℕ) → length w ≡ 16 → take 16 (exten
 unfolding extended
 extended-front zero w h = take-all 16 w (omega arith)
 extended-front (suc n) w h = take-append-le 16 (extended n w) (next (extended n w) ∷ []) (omega (arith, extended-length n w)) ∙ extended-front n w h
+
+-- The window: sixteen words in which each new word takes the place of the oldest. After t words it has these t, and then the old ones that are left.
+pub window : ℕ → List ℕ → List ℕ
+window t w = drop 16 (extended t w) ++ drop t w
+
+pub window-zero : (w : List ℕ) → length w ≡ 16 → w ≡ window 0 w
+unfolding window extended
+window-zero w h = rw (drop-of-length-le w {i = 16} (omega arith))
+
+window-full : (w : List ℕ) → length w ≡ 16 → window 16 w ≡ drop 16 (extended 16 w)
+unfolding window
+window-full w h = rw (drop-of-length-le w {i = 16} (omega arith)) (append-nil (drop 16 (extended 16 w)))
+
+-- after sixteen words all are new
+pub next-sixteen : (w u : List ℕ) → length w ≡ 16 → u ≡ window 16 w → (length u ≡ 16) × (u ≡ drop 16 (extended 16 w))
+next-sixteen w u h hu =
+    let e : u ≡ drop 16 (extended 16 w) = hu ∙ window-full w h in
+    (ap length e ∙ length-drop 16 (extended 16 w) ∙ omega (arith, extended-length 16 w), e)
+
+-- a word of the schedule stands in the window at its number modulo 16: among the old words where it is one of the first sixteen, else among the new
+window-at : (t j : ℕ) (w : List ℕ) → length w ≡ 16 → t < 16 → j < 16 → getD (window t w) ((t + j) % 16) 0 ≡ getD (extended t w) (t + j) 0
+unfolding window
+window-at t j w h ht hj = go (decLt (t + j) 16)
+  where
+    l : length (drop 16 (extended t w)) ≡ t
+    l = length-drop 16 (extended t w) ∙ omega (arith, extended-length t w)
+
+    go : Dec (t + j < 16) → getD (drop 16 (extended t w) ++ drop t w) ((t + j) % 16) 0 ≡ getD (extended t w) (t + j) 0
+    go (yes b) =
+        let e : (t + j) % 16 ≡ length (drop 16 (extended t w)) + j = omega (arith, l) in
+        let f : getD (take 16 (extended t w)) (t + j) 0 ≡ getD w (t + j) 0 = ap (λ (x : List ℕ). getD x (t + j) 0) (extended-front t w h) in
+        ap (λ (n : ℕ). getD (drop 16 (extended t w) ++ drop t w) n 0) e
+        ∙ getD-append-add (drop 16 (extended t w)) (drop t w) j 0
+        ∙ getD-drop t w j 0
+        ∙ sym f
+        ∙ getD-take 16 (extended t w) (t + j) 0 b
+    go (no b) =
+        let e : 16 + (t + j) % 16 ≡ t + j = omega arith in
+        List·getD-append (drop 16 (extended t w)) (drop t w) 0 ((t + j) % 16) (omega (arith, l))
+        ∙ getD-drop 16 (extended t w) ((t + j) % 16) 0
+        ∙ ap (λ (n : ℕ). getD (extended t w) n 0) e
+
+-- the word stored is the next of the schedule
+window-next : (t : ℕ) (w : List ℕ) → length w ≡ 16 → t < 16
+    → mixed (getD (window t w) ((t + 14) % 16) 0) (getD (window t w) ((t + 9) % 16) 0) (getD (window t w) ((t + 1) % 16) 0) (getD (window t w) t 0)
+    ≡ next (extended t w)
+unfolding next
+window-next t w h ht =
+    let n = extended-length t w in
+    let a14 : length (extended t w) - 2 ≡ t + 14 = omega arith in
+    let a9 : length (extended t w) - 7 ≡ t + 9 = omega arith in
+    let a1 : length (extended t w) - 15 ≡ t + 1 = omega arith in
+    let a0 : length (extended t w) - 16 ≡ t = omega arith in
+    let z : (t + 0) % 16 ≡ t = omega arith in
+    rw (
+      window-at t 14 w h ht (omega arith),
+      window-at t 9 w h ht (omega arith),
+      window-at t 1 w h ht (omega arith),
+      rw (z, add-zero) at (window-at t 0 w h ht (omega arith)),
+      a14,
+      a9,
+      a1,
+      a0,
+    )
+
+-- a store of the next word: the window one word later
+window-store : (t : ℕ) (w : List ℕ) → length w ≡ 16 → t < 16 → set (window t w) t (next (extended t w)) ≡ window (suc t) w
+unfolding window extended
+window-store t w h ht =
+    let l : length (drop 16 (extended t w)) ≡ t = length-drop 16 (extended t w) ∙ omega (arith, extended-length t w) in
+    let d : drop 16 (extended t w ++ next (extended t w) ∷ []) ≡ drop 16 (extended t w) ++ next (extended t w) ∷ [] =
+    drop-append-le 16 (extended t w) (next (extended t w) ∷ []) (omega (arith, extended-length t w)) in
+    rw (drop-cons w t 0 (omega arith), set-at (drop 16 (extended t w)) (getD w t 0) (drop (suc t) w) (next (extended t w)) t l, d)
+    (sym (append-assoc (drop 16 (extended t w)) (next (extended t w) ∷ []) (drop (suc t) w)))
+
+pub window-step : (t : ℕ) (w u : List ℕ) (x : ℕ) → length w ≡ 16 → t < 16 → u ≡ window t w
+    → x ≡ mixed (getD u ((t + 14) % 16) 0) (getD u ((t + 9) % 16) 0) (getD u ((t + 1) % 16) 0) (getD u t 0) → set u t x ≡ window (t + 1) w
+window-step t w u x h ht hu hx = rw (hx, hu, window-next t w h ht, add-one t) (window-store t w h ht)
 
 -- the words w, the sixteen after them, and n more after those
 extended-sixteen : (n : ℕ) (w : List ℕ) → length w ≡ 16 → extended (16 + n) w ≡ w ++ extended n (drop 16 (extended 16 w))

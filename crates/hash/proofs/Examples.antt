@@ -2,8 +2,7 @@
 -- SHA-256: NIST's examples for FIPS 180-4. HMAC-SHA-256: RFC 4231, test cases 2 and 6 (a key shorter and one longer than a block).
 -- Assumes nothing.
 use mathlib.Core.Path.{_≡_, refl}
-use mathlib.Core.List.{List, [], _∷_}
-use Prim.Native.Nat.{ℕ}
+use mathlib.Core.List.{[], _∷_}
 use lib.ListN.{replicate}
 use Rattle.hash.specs.Bytes.{bigEndian, padded}
 use Rattle.hash.specs.Words.{constants}

@@ -1,12 +1,12 @@
 -- Laws of a message that comes in parts (specs/Hasher.antt): what a Hasher is does not depend on how the message was cut, and its digest is the message's.
 -- Assumes nothing.
 use mathlib.Core.Path.{_≡_, refl, sym, ap, _∙_}
-use mathlib.Core.List.{List, [], _∷_, _++_, append-assoc}
-use Prim.Native.Nat.{ℕ, zero, suc, _+_, _-_, _*_, _/_, _%_, _^_, _≤_, _<_}
+use mathlib.Core.List.{List, [], _++_, append-assoc}
+use Prim.Native.Nat.{ℕ, _+_, _-_, _*_, _/_, _%_, _^_, _≤_, _<_}
 use native.Mathlib.Nat.{zero-add, le-of-eq}
 use native.Mathlib.Omega.{arith}
-use lib.ListN.{length, take, drop, replicate, length-append, length-drop, length-take, take-append-drop}
-use lib.Seq.{paste, length-take-le, take-append-le, drop-append-le, drop-drop, take-at, drop-at, drop-append-add, take-append-add, take-all}
+use lib.ListN.{length, take, drop, replicate, length-append, length-drop, take-append-drop}
+use lib.Seq.{paste, length-take-le, drop-append-le, drop-drop, take-at, drop-at, take-all}
 use Rattle.hash.specs.declared.block.HashValue.{HashValue}
 use Rattle.hash.specs.declared.hasher.Hasher.{Hasher}
 use Rattle.hash.specs.Bytes.{padded}

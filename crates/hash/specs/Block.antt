@@ -30,9 +30,11 @@ schedule b = extended 48 (words 16 b)
 
 -- ---- step 3: the rounds, over the working variables a .. h
 
+-- T_1
 unfoldable pub temp1 : HashValue → ℕ → ℕ → ℕ
 temp1 v k w = (v .h + bigSigma1 (v .e) + ch (v .e) (v .f) (v .g) + k + w) % 2 ^ 32
 
+-- T_2
 unfoldable pub temp2 : HashValue → ℕ
 temp2 v = (bigSigma0 (v .a) + maj (v .a) (v .b) (v .c)) % 2 ^ 32
 

@@ -1,6 +1,6 @@
 // One block of SHA-256 (FIPS 180-4, 6.2.2). Sixteen words of the message schedule are kept at a time.
 ghost use mathlib.Core.Path.{_≡_};
-ghost use Prim.Native.Nat.{_+_, _*_, _≤_, _<_};
+ghost use Prim.Native.Nat.{_+_, _*_, _≤_};
 ghost use lib.ListN.{length, take, drop};
 ghost use Rattle.hash.specs.Block as Block;
 use crate::words::big_sigma0;
@@ -97,7 +97,7 @@ const K: [u32; 64] = [
 // Step 1 for t up to 15: the words of the block of s that starts at a place.
 fn first_words(s: &[u8], at: usize) -> [u32; 16]
     requires { ⌜ at + 64 ≤ length (now s) ⌝ }
-    ensures { λ r. ⌜ r ≡ Block.words 16 (take 64 (drop at (now (s .entry)))) ⌝ }
+    ensures { λ r. ⌜ (length r ≡ 16) × (r ≡ Block.words 16 (take 64 (drop at (now (s .entry))))) ⌝ }
 {
     let mut w = [0u32; 16];
     for t in 0..16 {
@@ -112,27 +112,27 @@ fn mixed(w2: u32, w7: u32, w15: u32, w16: u32) -> u32
     sum4(small_sigma1(w2), w7, small_sigma0(w15), w16)
 }
 
-// Step 1 for the sixteen words after the sixteen words w.
-fn next_words(w: [u32; 16]) -> [u32; 16]
-    ensures { λ r. ⌜ r ≡ drop 16 (Block.extended 16 w) ⌝ }
+// Step 1 for the next sixteen words, which take the places of the sixteen words w.
+fn next_words(w: &mut [u32; 16])
+    requires { ⌜ length (now w) ≡ 16 ⌝ }
+    ensures { λ _. ⌜ (length (now (w .exit)) ≡ 16) × (now (w .exit) ≡ drop 16 (Block.extended 16 (now (w .entry)))) ⌝ }
 {
-    let a = mixed(w[14], w[9], w[1], w[0]);
-    let b = mixed(w[15], w[10], w[2], w[1]);
-    let c = mixed(a, w[11], w[3], w[2]);
-    let d = mixed(b, w[12], w[4], w[3]);
-    let e = mixed(c, w[13], w[5], w[4]);
-    let f = mixed(d, w[14], w[6], w[5]);
-    let g = mixed(e, w[15], w[7], w[6]);
-    let h = mixed(f, a, w[8], w[7]);
-    let i = mixed(g, b, w[9], w[8]);
-    let j = mixed(h, c, w[10], w[9]);
-    let k = mixed(i, d, w[11], w[10]);
-    let l = mixed(j, e, w[12], w[11]);
-    let m = mixed(k, f, w[13], w[12]);
-    let n = mixed(l, g, w[14], w[13]);
-    let o = mixed(m, h, w[15], w[14]);
-    let p = mixed(n, i, a, w[15]);
-    [a, b, c, d, e, f, g, h, i, j, k, l, m, n, o, p]
+    w[0] = mixed(w[14], w[9], w[1], w[0]);
+    w[1] = mixed(w[15], w[10], w[2], w[1]);
+    w[2] = mixed(w[0], w[11], w[3], w[2]);
+    w[3] = mixed(w[1], w[12], w[4], w[3]);
+    w[4] = mixed(w[2], w[13], w[5], w[4]);
+    w[5] = mixed(w[3], w[14], w[6], w[5]);
+    w[6] = mixed(w[4], w[15], w[7], w[6]);
+    w[7] = mixed(w[5], w[0], w[8], w[7]);
+    w[8] = mixed(w[6], w[1], w[9], w[8]);
+    w[9] = mixed(w[7], w[2], w[10], w[9]);
+    w[10] = mixed(w[8], w[3], w[11], w[10]);
+    w[11] = mixed(w[9], w[4], w[12], w[11]);
+    w[12] = mixed(w[10], w[5], w[13], w[12]);
+    w[13] = mixed(w[11], w[6], w[14], w[13]);
+    w[14] = mixed(w[12], w[7], w[15], w[14]);
+    w[15] = mixed(w[13], w[8], w[0], w[15]);
 }
 
 // Step 3 for one t.
@@ -198,13 +198,13 @@ pub(crate) fn compress(v: HashValue, s: &[u8], at: usize) -> HashValue
     ensures { λ r. ⌜ r ≡ Block.compressed v (take 64 (drop at (now (s .entry)))) ⌝ }
 {
     let k = K;
-    let w0 = first_words(s, at);
-    let v0 = sixteen_rounds(v, &k[0..16], &w0);
-    let w1 = next_words(w0);
-    let v1 = sixteen_rounds(v0, &k[16..32], &w1);
-    let w2 = next_words(w1);
-    let v2 = sixteen_rounds(v1, &k[32..48], &w2);
-    let w3 = next_words(w2);
-    let v3 = sixteen_rounds(v2, &k[48..], &w3);
+    let mut w = first_words(s, at);
+    let v0 = sixteen_rounds(v, &k[0..16], &w);
+    next_words(&mut w);
+    let v1 = sixteen_rounds(v0, &k[16..32], &w);
+    next_words(&mut w);
+    let v2 = sixteen_rounds(v1, &k[32..48], &w);
+    next_words(&mut w);
+    let v3 = sixteen_rounds(v2, &k[48..], &w);
     added(v, v3)
 }

@@ -74,17 +74,17 @@ returns : tie.Need-returns
 unfolding constants
 returns c =
     let at5 = c .before .before .before .before .before in
-    let at6 = at5 .before in
-    let at10 = at6 .before .before .before .before in
-    let at11 = at10 .before in
-    let at15 = at11 .before .before .before .before in
-    let at16 = at15 .before in
-    let at20 = at16 .before .before .before .before in
-    let at22 = at20 .before .before in
+    let at7 = at5 .before .before in
+    let at11 = at7 .before .before .before .before in
+    let at13 = at11 .before .before in
+    let at17 = at13 .before .before .before .before in
+    let at19 = at17 .before .before in
+    let at23 = at19 .before .before .before .before in
+    let at25 = at23 .before .before in
     c .added .ensures
-    ∙ four-sixteens (at22 .args .v) (at16 .sixteen-rounds .result) (at11 .sixteen-rounds2 .result) (at6 .sixteen-rounds3 .result) (c .before .sixteen-rounds4 .result)
-    _ _ _ _ _ _ _ _ _ refl refl refl refl (at20 .first-words .ensures) (at15 .next-words .ensures) (at10 .next-words2 .ensures) (at5 .next-words3 .ensures)
-    (at16 .sixteen-rounds .ensures) (at11 .sixteen-rounds2 .ensures) (at6 .sixteen-rounds3 .ensures) (c .before .sixteen-rounds4 .ensures)
+    ∙ four-sixteens (at25 .args .v) (at19 .sixteen-rounds .result) (at13 .sixteen-rounds2 .result) (at7 .sixteen-rounds3 .result) (c .before .sixteen-rounds4 .result)
+    _ _ _ _ _ _ _ _ _ refl refl refl refl (at23 .first-words .ensures .1) (at17 .next-words .ensures .1) (at11 .next-words2 .ensures .1) (at5 .next-words3 .ensures .1)
+    (at19 .sixteen-rounds .ensures) (at13 .sixteen-rounds2 .ensures) (at7 .sixteen-rounds3 .ensures) (c .before .sixteen-rounds4 .ensures)
 
 pub compress-spec : {M : Type 1} → statement M
 compress-spec =

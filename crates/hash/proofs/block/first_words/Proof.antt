@@ -52,7 +52,7 @@ returns : tie.Need-returns Inv-loop μ-loop
 returns c =
     let l = c .before .loop in
     let e : l .t ≡ 16 = omega arith in
-    sym (take-all 16 (l .w) (omega arith)) ∙ rw e at (l .inv .2)
+    (l .inv .1, sym (take-all 16 (l .w) (omega arith)) ∙ rw e at (l .inv .2))
 
 pub first-words-spec : {M : Type 1} → statement M
 first-words-spec =

@@ -162,7 +162,11 @@ round-requires-16 c κs = search needs
 
 returns : tie.Need-returns
 returns c =
-    let r12 = c .before .before .before .before .before .before .before .before .before .before .before .before in
+    let at3 = c .before .before .before in
+    let at6 = at3 .before .before .before in
+    let at9 = at6 .before .before .before in
+    let at12 = at9 .before .before .before in
+    let r12 = at12 in
     let r8 = r12 .before .before .before .before .before .before .before .before .before .before .before .before in
     let r4 = r8 .before .before .before .before .before .before .before .before .before .before .before .before in
     let s = start4 r4 in
@@ -182,9 +186,9 @@ returns c =
     let e10 = rounds-step 9 v _ _ k w e9 (r12 .before .before .before .before .before .before .round10 .ensures) in
     let e11 = rounds-step 10 v _ _ k w e10 (r12 .before .before .before .round11 .ensures) in
     let e12 = rounds-step 11 v _ _ k w e11 (r12 .round12 .ensures) in
-    let e13 = rounds-step 12 v _ _ k w e12 (c .before .before .before .before .before .before .before .before .before .round13 .ensures) in
-    let e14 = rounds-step 13 v _ _ k w e13 (c .before .before .before .before .before .before .round14 .ensures) in
-    let e15 = rounds-step 14 v _ _ k w e14 (c .before .before .before .round15 .ensures) in
+    let e13 = rounds-step 12 v _ _ k w e12 (at9 .round13 .ensures) in
+    let e14 = rounds-step 13 v _ _ k w e13 (at6 .round14 .ensures) in
+    let e15 = rounds-step 14 v _ _ k w e14 (at3 .round15 .ensures) in
     rounds-step 15 v _ _ k w e15 (c .round16 .ensures)
 
 pub sixteen-rounds-spec : {M : Type 1} → statement M
