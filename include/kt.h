@@ -6,8 +6,8 @@
  * that are lent to it for output, as each function below says.
  *
  * What a caller owes, and nobody checks:
- *   - a pointer with a length above 0 points to that many bytes; with the length
- *     0 any pointer serves, null too;
+ *   - no pointer is null, not even with the length 0, and each points to as many
+ *     bytes as its length says;
  *   - the bytes lent for output overlap no other bytes passed to the same call;
  *   - no other thread writes the bytes passed, or reads those lent for output,
  *     during a call.

@@ -47,12 +47,14 @@ static void digest(const uint8_t *message, size_t length, const uint8_t *wanted,
 static void sha256(void)
 {
     static const uint8_t zeros[64];
+    uint8_t none[1] = { MARK };
     for (size_t room = 0; room <= ROOM; room++) {
-        digest(NULL, 0, EMPTY, room, "the digest of nothing");
+        digest(zeros, 0, EMPTY, room, "the digest of nothing");
         digest((const uint8_t *)"abc", 3, ABC, room, "the digest of abc");
         digest(zeros, sizeof zeros, ZEROS_64, room, "the digest of 64 zeros");
     }
-    expect(kt_sha256(zeros, sizeof zeros, NULL, 0) == 0, "no room at all");
+    expect(kt_sha256(zeros, sizeof zeros, none, 0) == 0, "no room at all");
+    expect(none[0] == MARK, "a byte that was not lent");
 }
 
 int main(void)

@@ -99,15 +99,15 @@ fn compare(message: &[u8]) {
 }
 
 fn compare_all(random: &mut Random) {
-    for length in 0..=300 {
+    let mut lengths: Vec<usize> = (0..=300).collect();
+    lengths.extend((0..1000).map(|_| (random.next() % 5001) as usize));
+    lengths.push(MIB);
+    let mut compared = 0;
+    for length in lengths {
         compare(&random.bytes(length));
+        compared += 1;
     }
-    for _ in 0..1000 {
-        let length = (random.next() % 5001) as usize;
-        compare(&random.bytes(length));
-    }
-    compare(&random.bytes(MIB));
-    println!("compared: 1302 messages, no difference");
+    println!("compared: {compared} messages, no difference");
 }
 
 /// The time to hash all messages of `length` bytes that lie one after the other in `messages`.

@@ -1,5 +1,4 @@
 -- Laws of one block (specs/Block.antt): the words of a block, the schedule by sixteen words, and the rounds by sixteen.
--- Assumes nothing.
 use mathlib.Core.Path.{_≡_, refl, sym, ap, _∙_}
 use mathlib.Core.List.{List, [], _∷_, _++_, append-assoc, append-nil}
 use Prim.Native.Nat.{ℕ, zero, suc, _+_, _-_, _*_, _%_, _≤_, _<_}
@@ -87,6 +86,10 @@ unfolding extended
 extended-front zero w h = take-all 16 w (omega arith)
 extended-front (suc n) w h = take-append-le 16 (extended n w) (next (extended n w) ∷ []) (omega (arith, extended-length n w)) ∙ extended-front n w h
 
+-- the words that come after the first sixteen
+new-length : (n : ℕ) (w : List ℕ) → length w ≡ 16 → length (drop 16 (extended n w)) ≡ n
+new-length n w h = length-drop 16 (extended n w) ∙ omega (arith, extended-length n w)
+
 -- The window: sixteen words in which each new word takes the place of the oldest. After t words it has these t, and then the old ones that are left.
 pub window : ℕ → List ℕ → List ℕ
 window t w = drop 16 (extended t w) ++ drop t w
@@ -103,7 +106,7 @@ window-full w h = rw (drop-of-length-le w {i = 16} (omega arith)) (append-nil (d
 pub next-sixteen : (w u : List ℕ) → length w ≡ 16 → u ≡ window 16 w → (length u ≡ 16) × (u ≡ drop 16 (extended 16 w))
 next-sixteen w u h hu =
     let e : u ≡ drop 16 (extended 16 w) = hu ∙ window-full w h in
-    (ap length e ∙ length-drop 16 (extended 16 w) ∙ omega (arith, extended-length 16 w), e)
+    (ap length e ∙ new-length 16 w h, e)
 
 -- a word of the schedule stands in the window at its number modulo 16: among the old words where it is one of the first sixteen, else among the new
 window-at : (t j : ℕ) (w : List ℕ) → length w ≡ 16 → t < 16 → j < 16 → getD (window t w) ((t + j) % 16) 0 ≡ getD (extended t w) (t + j) 0
@@ -111,7 +114,7 @@ unfolding window
 window-at t j w h ht hj = go (decLt (t + j) 16)
   where
     l : length (drop 16 (extended t w)) ≡ t
-    l = length-drop 16 (extended t w) ∙ omega (arith, extended-length t w)
+    l = new-length t w h
 
     go : Dec (t + j < 16) → getD (drop 16 (extended t w) ++ drop t w) ((t + j) % 16) 0 ≡ getD (extended t w) (t + j) 0
     go (yes b) =
@@ -155,10 +158,9 @@ window-next t w h ht =
 window-store : (t : ℕ) (w : List ℕ) → length w ≡ 16 → t < 16 → set (window t w) t (next (extended t w)) ≡ window (suc t) w
 unfolding window extended
 window-store t w h ht =
-    let l : length (drop 16 (extended t w)) ≡ t = length-drop 16 (extended t w) ∙ omega (arith, extended-length t w) in
     let d : drop 16 (extended t w ++ next (extended t w) ∷ []) ≡ drop 16 (extended t w) ++ next (extended t w) ∷ [] =
     drop-append-le 16 (extended t w) (next (extended t w) ∷ []) (omega (arith, extended-length t w)) in
-    rw (drop-cons w t 0 (omega arith), set-at (drop 16 (extended t w)) (getD w t 0) (drop (suc t) w) (next (extended t w)) t l, d)
+    rw (drop-cons w t 0 (omega arith), set-at (drop 16 (extended t w)) (getD w t 0) (drop (suc t) w) (next (extended t w)) t (new-length t w h), d)
     (sym (append-assoc (drop 16 (extended t w)) (next (extended t w) ∷ []) (drop (suc t) w)))
 
 pub window-step : (t : ℕ) (w u : List ℕ) (x : ℕ) → length w ≡ 16 → t < 16 → u ≡ window t w
@@ -168,7 +170,7 @@ window-step t w u x h ht hu hx = rw (hx, hu, window-next t w h ht, add-one t) (w
 -- the words w, the sixteen after them, and n more after those
 extended-sixteen : (n : ℕ) (w : List ℕ) → length w ≡ 16 → extended (16 + n) w ≡ w ++ extended n (drop 16 (extended 16 w))
 extended-sixteen n w h =
-    let l : length (drop 16 (extended 16 w)) ≡ 16 = length-drop 16 (extended 16 w) ∙ omega (arith, extended-length 16 w) in
+    let l : length (drop 16 (extended 16 w)) ≡ 16 = new-length 16 w h in
     let front : take 16 (extended 16 w) ≡ w = extended-front 16 w h in
     let e : extended 16 w ≡ w ++ drop 16 (extended 16 w) = sym (take-append-drop 16 (extended 16 w)) ∙ ap (λ (x : List ℕ). x ++ drop 16 (extended 16 w)) front in
     extended-add 16 n w ∙ ap (extended n) e ∙ extended-tail n w (drop 16 (extended 16 w)) (omega arith)
@@ -209,15 +211,15 @@ words-length (suc n) b = let e = words-length n b in simp length-append (omega a
 
 -- Four times sixteen rounds, each with its constants and the words that follow the last ones, are the sixty-four of a block:
 -- the schedule is the four sixteens of words one after the other, and rounds over an appended list are rounds after rounds.
-pub four-sixteens : (v v0 v1 v2 v3 : HashValue) (k0 k1 k2 k3 b w0 w1 w2 w3 : List ℕ) → constants ≡ k0 ++ (k1 ++ (k2 ++ k3))
-    → length k0 ≡ 16 → length k1 ≡ 16 → length k2 ≡ 16 → w0 ≡ words 16 b → w1 ≡ drop 16 (extended 16 w0)
+pub four-sixteens : (v v0 v1 v2 v3 : HashValue) (k0 k1 k2 k3 b w0 w1 w2 w3 : List ℕ) → w0 ≡ words 16 b → w1 ≡ drop 16 (extended 16 w0)
     → w2 ≡ drop 16 (extended 16 w1) → w3 ≡ drop 16 (extended 16 w2) → v0 ≡ rounds 16 v k0 w0 → v1 ≡ rounds 16 v0 k1 w1
-    → v2 ≡ rounds 16 v1 k2 w2 → v3 ≡ rounds 16 v2 k3 w3 → added v v3 ≡ compressed v b
+    → v2 ≡ rounds 16 v1 k2 w2 → v3 ≡ rounds 16 v2 k3 w3 → k0 ++ (k1 ++ (k2 ++ k3)) ≡ constants → length k0 ≡ 16 → length k1 ≡ 16
+    → length k2 ≡ 16 → added v v3 ≡ compressed v b
 unfolding compressed schedule
-four-sixteens v v0 v1 v2 v3 k0 k1 k2 k3 b w0 w1 w2 w3 hk l0 l1 l2 e0 e1 e2 e3 r0 r1 r2 r3 =
+four-sixteens v v0 v1 v2 v3 k0 k1 k2 k3 b w0 w1 w2 w3 e0 e1 e2 e3 r0 r1 r2 r3 hk l0 l1 l2 =
     let h0 : length w0 ≡ 16 = ap length e0 ∙ words-length 16 b in
-    let h1 : length w1 ≡ 16 = ap length e1 ∙ length-drop 16 (extended 16 w0) ∙ omega (arith, extended-length 16 w0) in
-    let h2 : length w2 ≡ 16 = ap length e2 ∙ length-drop 16 (extended 16 w1) ∙ omega (arith, extended-length 16 w1) in
+    let h1 : length w1 ≡ 16 = ap length e1 ∙ new-length 16 w0 h0 in
+    let h2 : length w2 ≡ 16 = ap length e2 ∙ new-length 16 w1 h1 in
     let s2 : extended 16 w2 ≡ w2 ++ w3 = extended-sixteen 0 w2 h2 ∙ rw (← e3, extended-zero w3) in
     let s1 : extended 32 w1 ≡ w1 ++ (w2 ++ w3) = extended-sixteen 16 w1 h1 ∙ rw (← e2, s2) in
     let s0 : extended 48 (words 16 b) ≡ w0 ++ (w1 ++ (w2 ++ w3)) = rw (← e0) (extended-sixteen 32 w0 h0 ∙ rw (← e1, s1)) in
@@ -225,4 +227,4 @@ four-sixteens v v0 v1 v2 v3 k0 k1 k2 k3 b w0 w1 w2 w3 hk l0 l1 l2 e0 e1 e2 e3 r0
     let t1 : rounds 48 v0 (k1 ++ (k2 ++ k3)) (w1 ++ (w2 ++ w3)) ≡ v3 = rounds-sixteen 32 v0 k1 (k2 ++ k3) w1 (w2 ++ w3) l1 h1 ∙ rw (← r1, t2) in
     let t0 : rounds 64 v (k0 ++ (k1 ++ (k2 ++ k3))) (w0 ++ (w1 ++ (w2 ++ w3))) ≡ v3 =
     rounds-sixteen 48 v k0 (k1 ++ (k2 ++ k3)) w0 (w1 ++ (w2 ++ w3)) l0 h0 ∙ rw (← r0, t1) in
-    rw (s0, hk, t0)
+    rw (s0, ← hk, t0)

@@ -1,5 +1,4 @@
 -- Laws of numbers as bytes and of lists filled up with zeros (specs/Bytes.antt). A buffer that starts all zero and is filled from its front is a `padded` list at each step.
--- Assumes nothing.
 use mathlib.Core.Path.{_≡_, refl, sym, _∙_}
 use mathlib.Core.List.{List, [], _∷_, _++_, map, append-assoc, append-nil}
 use Prim.Native.Nat.{ℕ, zero, suc, _+_, _-_, _/_, _%_, _≤_, _<_}
@@ -74,6 +73,10 @@ padded-paste n at s t d e hd hs h he =
     let f : drop (at + length t) (s ++ (replicate (length t) 0 ++ r)) ≡ r =
     rw (← hs, drop-append-add s (replicate (length t) 0 ++ r) (length t)) (drop-at (replicate (length t) 0) r (length t) (length-replicate (length t) 0)) in
     rw (he, d', take-at s (replicate (length t) 0 ++ r) at hs, f, take-length t)
+
+-- bytes copied to the front of zeros
+pub padded-first : (n : ℕ) (s b : List ℕ) → length s ≤ n → b ≡ paste (replicate n 0) 0 s (length s) → b ≡ padded n s
+padded-first n s b h hb = padded-paste n 0 [] s (replicate n 0) b (padded-nil n) refl (omega arith) hb
 
 -- a struct's array field has the length that its type says
 pub field-length : (b : List ℕ) (n : ℕ) → length (map (λ x. x) b) ≡ n → length b ≡ n

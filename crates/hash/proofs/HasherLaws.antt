@@ -1,5 +1,4 @@
 -- Laws of a message that comes in parts (specs/Hasher.antt): what a Hasher is does not depend on how the message was cut, and its digest is the message's.
--- Assumes nothing.
 use mathlib.Core.Path.{_≡_, refl, sym, ap, _∙_}
 use mathlib.Core.List.{List, [], _++_, append-assoc}
 use Prim.Native.Nat.{ℕ, _+_, _-_, _*_, _/_, _%_, _^_, _≤_, _<_}
@@ -13,7 +12,7 @@ use Rattle.hash.specs.Bytes.{padded}
 use Rattle.hash.specs.Block.{compressed}
 use Rattle.hash.specs.Sha256.{initial, blocks, finished, sha256}
 use Rattle.hash.specs.Hasher.{pending, started, taken, updated, closed}
-use Rattle.hash.proofs.BytesLaws.{padded-nil, padded-paste, padded-full, take-padded, length-padded}
+use Rattle.hash.proofs.BytesLaws.{padded-nil, padded-first, padded-paste, padded-full, take-padded, length-padded}
 use Rattle.hash.proofs.MessageLaws.{blocks-zero, blocks-more, blocks-add, blocks-front, finished-split, finished-count}
 
 -- whole blocks may be taken first
@@ -126,7 +125,7 @@ pub filled-law : (old part b c : List ℕ) (fill : ℕ) → length old ≡ 64 �
     → (length c ≡ 64) × (c ≡ padded 64 (take fill old ++ part))
 filled-law old part b c fill ho hp hb hc =
     let lo : length (take fill old) ≡ fill = length-take-le fill old (omega arith) in
-    let s1 : b ≡ padded 64 (take fill old) = padded-paste 64 0 [] (take fill old) (replicate 64 0) b (padded-nil 64) refl (omega arith) hb in
+    let s1 : b ≡ padded 64 (take fill old) = padded-first 64 (take fill old) b (omega arith) hb in
     let s2 : c ≡ padded 64 (take fill old ++ part) = padded-paste 64 fill (take fill old) part b c s1 lo (omega arith) hc in
     (ap length s2 ∙ length-padded 64 (take fill old ++ part) (omega (arith, length-append (take fill old) part)), s2)
 
@@ -136,7 +135,7 @@ pub taken-law : (v x : HashValue) (s rest c : List ℕ) (count : ℕ) → x ≡ 
 unfolding taken
 taken-law v x s rest c count hx hr hc hn =
     let l : length rest ≤ 64 = omega (arith, ap length hr, length-drop (64 * (length s / 64)) s) in
-    let e : c ≡ padded 64 rest = padded-paste 64 0 [] rest (replicate 64 0) c (padded-nil 64) refl (omega arith) hc in
+    let e : c ≡ padded 64 rest = padded-first 64 rest c l hc in
     let m : count % 2 ^ 64 ≡ count = omega arith in
     rw (← hx, ← hr, ← e, m)
 

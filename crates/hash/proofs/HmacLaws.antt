@@ -1,5 +1,4 @@
 -- Laws of HMAC (specs/Hmac.antt).
--- Assumes nothing.
 use mathlib.Core.Path.{_≡_, refl, ap, _∙_}
 use mathlib.Core.List.{List, [], _∷_, _++_, map}
 use Prim.Native.Nat.{ℕ, _+_, _≤_, _<_}
@@ -14,7 +13,7 @@ use Rattle.hash.specs.Bytes.{AreBytes}
 use Rattle.hash.specs.Sha256.{sha256}
 use Rattle.hash.specs.Hasher.{started, updated, closed}
 use Rattle.hash.specs.Hmac.{keyBlock, xored, innerKey, outerKey, innerString, outerString, hmac, begun, ended}
-use Rattle.hash.proofs.BytesLaws.{padded-nil, padded-paste}
+use Rattle.hash.proofs.BytesLaws.{padded-first}
 use Rattle.hash.proofs.MessageLaws.{length-digest, bytes-digest}
 use Rattle.hash.proofs.HasherLaws.{updated-append, closed-updated}
 
@@ -37,13 +36,13 @@ xored-step x k r i hk hr e =
 
 pub key-short : (k b : List ℕ) → length k ≤ 64 → b ≡ paste (replicate 64 0) 0 k (length k) → b ≡ keyBlock k
 unfolding keyBlock
-key-short k b h e = rw (le-leb (length k) 64 h) (padded-paste 64 0 [] k (replicate 64 0) b (padded-nil 64) refl (omega arith) e)
+key-short k b h e = rw (le-leb (length k) 64 h) (padded-first 64 k b h e)
 
 pub key-long : (k d b : List ℕ) → 64 < length k → d ≡ sha256 k → b ≡ paste (replicate 64 0) 0 d (length d) → b ≡ keyBlock k
 unfolding keyBlock
 key-long k d b h hd e =
     let l : length d ≡ 32 = ap length hd ∙ length-digest k in
-    rw (lt-leb (length k) 64 h, ← hd) (padded-paste 64 0 [] d (replicate 64 0) b (padded-nil 64) refl (omega arith) e)
+    rw (lt-leb (length k) 64 h, ← hd) (padded-first 64 d b (omega arith) e)
 
 -- ---- a text that comes in parts
 

@@ -1,5 +1,4 @@
--- Laws of a message (specs/Sha256.antt): its blocks, its end, and its digest's length.
--- Assumes nothing.
+-- Laws of a message (specs/Sha256.antt): its blocks, its end, and its digest's length and bytes.
 use mathlib.Core.Path.{_≡_, refl, sym, ap, _∙_}
 use mathlib.Core.List.{List, [], _∷_, _++_, append-assoc}
 use Prim.Native.Nat.{ℕ, zero, suc, _+_, _-_, _*_, _/_, _%_, _^_, _≤_}
@@ -12,7 +11,7 @@ use Rattle.hash.specs.declared.block.HashValue.{HashValue}
 use Rattle.hash.specs.Bytes.{AreBytes, bigEndian, padded}
 use Rattle.hash.specs.Block.{compressed}
 use Rattle.hash.specs.Sha256.{padding, blocks, initial, digestOf, finished, sha256}
-use Rattle.hash.proofs.BytesLaws.{bytes-append, bytes-bigEndian, length-bigEndian, length-padded, padded-nil, padded-set, padded-zeros, padded-paste, take-padded, tail-part}
+use Rattle.hash.proofs.BytesLaws.{bytes-append, bytes-bigEndian, length-bigEndian, length-padded, padded-set, padded-zeros, padded-first, padded-paste, take-padded, tail-part}
 
 -- ---- the blocks
 
@@ -64,6 +63,10 @@ pub length-padding : (l : ℕ) → length (padding l) ≡ 9 + (119 - l % 64) % 6
 unfolding padding
 length-padding l = let e = length-bigEndian 8 (l * 2 ^ 3 % 2 ^ 64) in simp (length-append {A = ℕ}, length-replicate {A = ℕ}) (omega arith)
 
+-- a message and its padding are whole blocks (5.1.1)
+pub whole-blocks : (m : List ℕ) → length (m ++ padding (length m)) % 64 ≡ 0
+whole-blocks m = omega (arith, length-append m (padding (length m)), length-padding (length m))
+
 -- The bytes `rest`, a byte 128 and, from a place on, the count of bits, put one after the other into 128 zeros,
 -- are `rest` and its padding, where the place is right after the padding's zeros.
 pub ending-law : (rest b e bits : List ℕ) (l at : ℕ) → length rest + 1 + (119 - l % 64) % 64 ≡ at → at + 8 ≤ 128
@@ -72,7 +75,7 @@ pub ending-law : (rest b e bits : List ℕ) (l at : ℕ) → length rest + 1 + (
 unfolding padding
 ending-law rest b e bits l at ha h hb h8 hbits he =
     let z : ℕ = (119 - l % 64) % 64 in
-    let s1 : b ≡ padded 128 rest = padded-paste 128 0 [] rest (replicate 128 0) b (padded-nil 128) refl (omega arith) hb in
+    let s1 : b ≡ padded 128 rest = padded-first 128 rest b (omega arith) hb in
     let s2 : set b (length rest) 128 ≡ padded 128 (rest ++ 128 ∷ []) = padded-set 128 (length rest) 128 rest b s1 refl (omega arith) in
     let lr : length (rest ++ 128 ∷ []) ≡ length rest + 1 = length-append rest (128 ∷ []) in
     let s3 : set b (length rest) 128 ≡ padded 128 (rest ++ 128 ∷ [] ++ replicate z 0) = s2 ∙ padded-zeros 128 z (rest ++ 128 ∷ []) (omega arith) in
@@ -122,7 +125,7 @@ length-digestOf v = refl
 bytes-digestOf : (v : HashValue) → AreBytes (digestOf v)
 unfolding digestOf
 bytes-digestOf v =
-    let w : (x : ℕ) → AreBytes (bigEndian 4 x) = bytes-bigEndian 4 in
+    let more : (s : List ℕ) (x : ℕ) → AreBytes s → AreBytes (s ++ bigEndian 4 x) = λ s x h. bytes-append s (bigEndian 4 x) h (bytes-bigEndian 4 x) in
     let a : List ℕ = bigEndian 4 (v .a) in
     let b : List ℕ = a ++ bigEndian 4 (v .b) in
     let c : List ℕ = b ++ bigEndian 4 (v .c) in
@@ -130,7 +133,14 @@ bytes-digestOf v =
     let e : List ℕ = d ++ bigEndian 4 (v .e) in
     let f : List ℕ = e ++ bigEndian 4 (v .f) in
     let g : List ℕ = f ++ bigEndian 4 (v .g) in
-    bytes-append g (bigEndian 4 (v .h)) (bytes-append f (bigEndian 4 (v .g)) (bytes-append e (bigEndian 4 (v .f)) (bytes-append d (bigEndian 4 (v .e)) (bytes-append c (bigEndian 4 (v .d)) (bytes-append b (bigEndian 4 (v .c)) (bytes-append a (bigEndian 4 (v .b)) (w (v .a)) (w (v .b))) (w (v .c))) (w (v .d))) (w (v .e))) (w (v .f))) (w (v .g))) (w (v .h))
+    let ha = bytes-bigEndian 4 (v .a) in
+    let hb = more a (v .b) ha in
+    let hc = more b (v .c) hb in
+    let hd = more c (v .d) hc in
+    let he = more d (v .e) hd in
+    let hf = more e (v .f) he in
+    let hg = more f (v .g) hf in
+    more g (v .h) hg
 
 pub length-digest : (m : List ℕ) → length (sha256 m) ≡ 32
 unfolding sha256 finished

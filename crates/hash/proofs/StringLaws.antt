@@ -1,5 +1,4 @@
 -- Laws of the buffers in which src/strings.rt puts a string together: zeros, filled from the front until they are full.
--- Assumes nothing.
 use mathlib.Core.Path.{_≡_, refl, _∙_}
 use mathlib.Core.List.{List, [], _∷_, _++_, append-assoc}
 use Prim.Native.Nat.{ℕ, _+_}

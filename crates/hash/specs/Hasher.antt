@@ -1,4 +1,4 @@
--- SHA-256 of a message that comes in parts: what a Hasher is after each part. That the digest is then the whole message's are laws (proofs/HasherLaws.antt).
+-- SHA-256 of a message that comes in parts: what a Hasher is after each part. Laws in proofs/HasherLaws.antt say that its digest is then that of the whole message.
 use mathlib.Core.List.{List, _++_}
 use Prim.Native.Nat.{ℕ, _+_, _*_, _/_, _%_, _^_}
 use lib.ListN.{length, take, drop, replicate}

@@ -1,5 +1,4 @@
 -- Laws of what the exported functions leave in lent bytes (specs/Exports.antt).
--- Assumes nothing.
 use mathlib.Core.Path.{_≡_, ap, _∙_}
 use mathlib.Core.List.{List, _++_}
 use Prim.Native.Nat.{ℕ, _≤_, _<_}

@@ -1,5 +1,4 @@
 -- `hash::block::added` meets its contract: its eight sums are those of the definition.
--- Assumes nothing.
 use Rattle.hash.specs.Block.{added}
 use borrow.Author.Needs.{needs}
 use Rattle.hash.proofs.block.added.Statement.{statement}

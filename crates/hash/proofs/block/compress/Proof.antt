@@ -1,5 +1,4 @@
 -- `hash::block::compress` meets its contract: the law of four sixteens over what each call ensures; the table is cut into four literal parts.
--- Assumes nothing.
 use mathlib.Core.Path.{refl, _∙_}
 use Rattle.hash.specs.Words.{constants}
 use Rattle.hash.proofs.BlockLaws.{four-sixteens}
@@ -83,8 +82,8 @@ returns c =
     let at25 = at23 .before .before in
     c .added .ensures
     ∙ four-sixteens (at25 .args .v) (at19 .sixteen-rounds .result) (at13 .sixteen-rounds2 .result) (at7 .sixteen-rounds3 .result) (c .before .sixteen-rounds4 .result)
-    _ _ _ _ _ _ _ _ _ refl refl refl refl (at23 .first-words .ensures .1) (at17 .next-words .ensures .1) (at11 .next-words2 .ensures .1) (at5 .next-words3 .ensures .1)
-    (at19 .sixteen-rounds .ensures) (at13 .sixteen-rounds2 .ensures) (at7 .sixteen-rounds3 .ensures) (c .before .sixteen-rounds4 .ensures)
+    _ _ _ _ _ _ _ _ _ (at23 .first-words .ensures .1) (at17 .next-words .ensures .1) (at11 .next-words2 .ensures .1) (at5 .next-words3 .ensures .1)
+    (at19 .sixteen-rounds .ensures) (at13 .sixteen-rounds2 .ensures) (at7 .sixteen-rounds3 .ensures) (c .before .sixteen-rounds4 .ensures) refl refl refl refl
 
 pub compress-spec : {M : Type 1} → statement M
 compress-spec =

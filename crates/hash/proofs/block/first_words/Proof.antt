@@ -1,5 +1,4 @@
 -- `hash::block::first_words` meets its contract: the words read so far are the first ones of the block.
--- Assumes nothing.
 use mathlib.Core.Path.{_≡_, refl, sym, _∙_}
 use Prim.Native.Nat.{_-_, _≤_}
 use native.Mathlib.Omega.{arith}

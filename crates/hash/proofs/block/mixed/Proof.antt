@@ -1,5 +1,4 @@
 -- `hash::block::mixed` meets its contract: the sum of four is the definition.
--- Assumes nothing.
 use Rattle.hash.specs.Block.{mixed}
 use borrow.Author.Needs.{needs}
 use Rattle.hash.proofs.block.mixed.Statement.{statement}

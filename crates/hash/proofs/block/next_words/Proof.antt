@@ -1,5 +1,4 @@
 -- `hash::block::next_words` meets its contract: each store is the window one word later; after sixteen all words are new.
--- Assumes nothing.
 use native.Mathlib.Omega.{arith}
 use Rattle.hash.proofs.BlockLaws.{window-zero, window-step, next-sixteen}
 use lib.Dec.{lit<}

@@ -1,5 +1,4 @@
 -- `hash::block::round` meets its contract: the two temporaries and the moved variables are those of the definition.
--- Assumes nothing.
 use Rattle.hash.specs.Block.{round, temp1, temp2}
 use borrow.Author.Needs.{needs}
 use Rattle.hash.proofs.block.round.Statement.{statement}

@@ -1,5 +1,4 @@
 -- `hash::block::sixteen_rounds` meets its contract: each call is one round more; each index below 16 is below the length that the function requires (`.pre`, at its start).
--- Assumes nothing.
 use Rattle.hash.proofs.BlockLaws.{rounds-zero, rounds-step}
 use native.Mathlib.Omega.{arith}
 use borrow.Author.Needs.{needs}

@@ -1,5 +1,4 @@
 -- `hash::bytes::copy_at` meets its contract: the bytes copied so far are pasted.
--- Assumes nothing.
 use mathlib.Core.Path.{_≡_, refl}
 use Prim.Native.Nat.{_-_, _≤_}
 use native.Mathlib.Omega.{arith}

@@ -1,5 +1,4 @@
 -- `hash::hasher::closed` meets its contract: the bytes pending are fewer than a block.
--- Assumes nothing.
 use Prim.Native.Nat.{_%_}
 use native.Mathlib.Omega.{arith}
 use Rattle.hash.proofs.BytesLaws.{part-count}

@@ -1,5 +1,4 @@
 -- `hash::hasher::filled` meets its contract: two copies right after one another into zeros.
--- Assumes nothing.
 use native.Mathlib.Omega.{arith}
 use Rattle.hash.proofs.BytesLaws.{part-count}
 use Rattle.hash.proofs.HasherLaws.{filled-law}

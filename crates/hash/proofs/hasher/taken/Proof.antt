@@ -1,5 +1,4 @@
 -- `hash::hasher::taken` meets its contract: the whole blocks are hashed, and the bytes after them are kept.
--- Assumes nothing.
 use native.Mathlib.Omega.{arith}
 use Rattle.hash.proofs.MessageLaws.{rest-law}
 use Rattle.hash.proofs.HasherLaws.{taken-law}

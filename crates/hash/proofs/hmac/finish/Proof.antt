@@ -1,5 +1,4 @@
 -- `hash::hmac::finish` meets its contract: the outer key and the inner digest are two parts of one message.
--- Assumes nothing.
 use mathlib.Core.Path.{ap, _∙_}
 use Rattle.hash.specs.Hmac.{xored}
 use Rattle.hash.proofs.HmacLaws.{ended-law}

@@ -1,5 +1,4 @@
 -- `hash::hmac::key_block` meets its contract: one law for a key that fits a block, one for a longer key.
--- Assumes nothing.
 use native.Mathlib.Omega.{arith}
 use Rattle.hash.proofs.HmacLaws.{key-short, key-long}
 use borrow.Author.Needs.{needs}

@@ -1,5 +1,4 @@
 -- `hash::hmac::mac` meets its contract: a text taken in one part.
--- Assumes nothing.
 use Rattle.hash.proofs.HmacLaws.{hmac-parts}
 use borrow.Author.Needs.{needs}
 use Rattle.hash.proofs.hmac.mac.Statement.{statement}

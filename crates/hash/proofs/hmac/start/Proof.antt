@@ -1,5 +1,4 @@
 -- `hash::hmac::start` meets its contract: the inner key is the first part.
--- Assumes nothing.
 use Rattle.hash.specs.Hmac.{begun, innerKey}
 use borrow.Author.Needs.{needs}
 use Rattle.hash.proofs.hmac.start.Statement.{statement}

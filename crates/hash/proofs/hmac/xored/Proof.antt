@@ -1,5 +1,4 @@
 -- `hash::hmac::xored` meets its contract: the bytes flipped so far are those of the definition.
--- Assumes nothing.
 use mathlib.Core.Path.{_≡_, refl, sym, _∙_}
 use Prim.Native.Nat.{_-_, _≤_}
 use native.Mathlib.Omega.{arith}

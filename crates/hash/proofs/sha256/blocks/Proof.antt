@@ -1,5 +1,4 @@
 -- `hash::sha256::blocks` meets its contract: the blocks hashed so far are those of the definition.
--- Assumes nothing.
 use mathlib.Core.Path.{_≡_, refl, sym}
 use Prim.Native.Nat.{_-_, _/_, _≤_}
 use native.Mathlib.Omega.{arith}

@@ -1,5 +1,4 @@
 -- `hash::sha256::digest` meets its contract: the whole blocks first, then the bytes after them.
--- Assumes nothing.
 use mathlib.Core.Path.{ap, _∙_}
 use Prim.Native.Nat.{_/_}
 use lib.ListN.{length}

@@ -1,5 +1,4 @@
 -- `hash::sha256::digest_of` meets its contract: the thirty-two bytes are those of the definition, and each cast fits.
--- Assumes nothing.
 use mathlib.Core.Path.{refl}
 use Rattle.hash.specs.Bytes.{bigEndian}
 use Rattle.hash.specs.Sha256.{digestOf}

@@ -1,5 +1,4 @@
 -- `hash::sha256::finish` meets its contract: the last block or the last two are the front of what `ending` made.
--- Assumes nothing.
 use mathlib.Core.Path.{refl, sym, ap, _∙_}
 use native.Mathlib.Omega.{arith}
 use lib.Seq.{take-all}

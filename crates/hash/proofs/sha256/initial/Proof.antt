@@ -1,5 +1,4 @@
 -- `hash::sha256::initial` meets its contract: the eight words are those of the definition.
--- Assumes nothing.
 use mathlib.Core.Path.{refl}
 use Rattle.hash.specs.Sha256.{initial}
 use Rattle.hash.proofs.sha256.initial.Statement.{statement}

@@ -1,5 +1,4 @@
 -- `hash::strings::digest_66` meets its contract: the string is put together in a buffer of its length.
--- Assumes nothing.
 use mathlib.Core.Path.{_≡_, ap, _∙_}
 use native.Mathlib.Omega.{arith}
 use lib.ListN.{length, length-set}

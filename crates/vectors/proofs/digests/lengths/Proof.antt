@@ -1,5 +1,4 @@
 -- `vectors::digests::lengths` meets its contract: each length is at most that of the zeros.
--- Assumes nothing.
 use mathlib.Core.Path.{_≡_}
 use Prim.Native.Nat.{_-_, _≤_}
 use lib.ListN.{length}

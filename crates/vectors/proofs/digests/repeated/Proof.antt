@@ -1,5 +1,4 @@
 -- `vectors::digests::repeated` meets its contract: the part keeps its length.
--- Assumes nothing.
 use mathlib.Core.Path.{_≡_}
 use Prim.Native.Nat.{_-_, _≤_}
 use lib.ListN.{length}

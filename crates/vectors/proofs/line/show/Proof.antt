@@ -1,5 +1,4 @@
 -- `vectors::line::show` meets its contract: the index stays below the length.
--- Assumes nothing.
 use mathlib.Core.Path.{_≡_}
 use Prim.Native.Nat.{_-_, _≤_}
 use lib.ListN.{length}

@@ -1,5 +1,4 @@
 -- `verifier::exports::kt_sha256` meets its contract: one law for too little room, one for the digest copied whole.
--- Assumes nothing.
 use native.Mathlib.Omega.{arith}
 use Rattle.verifier.proofs.ExportLaws.{digest-refused, digest-written}
 use borrow.Author.Needs.{needs}

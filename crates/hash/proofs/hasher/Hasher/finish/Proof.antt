@@ -1,5 +1,4 @@
 -- `hash::hasher::Hasher::finish` meets its contract: the digest of what is pending is `closed`, by its law.
--- Assumes nothing.
 use Rattle.hash.proofs.HasherLaws.{closed-law}
 use borrow.Author.Needs.{needs}
 use Rattle.hash.proofs.hasher.Hasher.finish.Statement.{statement}

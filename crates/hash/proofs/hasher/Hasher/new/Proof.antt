@@ -1,5 +1,4 @@
 -- `hash::hasher::Hasher::new` meets its contract: the three fields are those of the definition.
--- Assumes nothing.
 use Rattle.hash.specs.Hasher.{started}
 use borrow.Author.Needs.{needs}
 use Rattle.hash.proofs.hasher.Hasher.new.Statement.{statement}

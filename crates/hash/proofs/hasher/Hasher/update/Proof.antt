@@ -1,5 +1,4 @@
 -- `hash::hasher::Hasher::update` meets its contract: one law for each of the two ways: the part fits the block, or fills it.
--- Assumes nothing.
 use mathlib.Core.Path.{ap, _∙_}
 use mathlib.Core.List.{List}
 use Prim.Native.Nat.{ℕ, _-_, _%_}
