@@ -1,0 +1,23 @@
+-- The binary ladder of a version (paper 01, Ladder; 001, 5). In a recursion that is not over the parts of its argument, here and elsewhere, the first number
+-- bounds the number of steps and is never reached.
+use mathlib.Core.Bool.{cond}
+use mathlib.Core.List.{List, [], _∷_}
+use Prim.Native.Nat.{ℕ, zero, suc, _+_, _*_, _/_}
+use lib.Dec.{leb, ltb}
+use Rattle.lists.specs.Choice.{choose}
+
+-- halving, rounded down, between a version lo not above t and a version hi above t, until they are neighbours
+unfoldable pub halve : ℕ → ℕ → ℕ → ℕ → List ℕ
+halve zero t lo hi = []
+halve (suc k) t lo hi =
+    choose (leb hi (lo + 1)) (λ _. [])
+    (λ _. (lo + hi) / 2 ∷ halve k t (cond (leb ((lo + hi) / 2) t) ((lo + hi) / 2) lo) (cond (leb ((lo + hi) / 2) t) hi ((lo + hi) / 2)))
+
+-- v, 2 v + 1 and so on up to the first above t, then halving between it and the one before it, lo
+unfoldable pub climb : ℕ → ℕ → ℕ → ℕ → List ℕ
+climb zero t lo v = []
+climb (suc k) t lo v = v ∷ choose (ltb t v) (λ _. halve v t lo v) (λ _. climb k t v (2 * v + 1))
+
+-- 0, 1, 3, 7 .. up to the first above t, then halving
+unfoldable pub ladder : ℕ → List ℕ
+ladder t = climb (t + 2) t 0 0

@@ -1,0 +1,5 @@
+pub mod Ladder
+pub mod SearchTree
+pub mod LogTree
+pub mod PrefixTree
+pub mod Examples

@@ -1,0 +1,1 @@
+// The tree layer: binary ladder, search tree, log tree, prefix tree. Definitions, in specs/.
