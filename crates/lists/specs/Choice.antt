@@ -1,4 +1,4 @@
--- Choices by a test, and steps that may fail.
+-- Choices by a test. Steps that may fail are written in `do` blocks, over the library's `bind`.
 use mathlib.Core.Bool.{Bool, true, false}
 use mathlib.Core.Option.{Option, none, some}
 
@@ -12,18 +12,14 @@ unfoldable pub provided : {A : Type 0} → Bool → A → Option A
 provided true a = some a
 provided false a = none
 
-infixl 10 _>>=_
 infixl 10 _>>_
--- one step after another: `x ← step` in a `do` block; what follows a failed step is not tried
-unfoldable pub _>>=_ : {A B : Type 0} → Option A → (A → Option B) → Option B
-none >>= f = none
-some a >>= f = f a
 
--- a test in a `do` block: the rest, if it holds
+-- a test among the steps of a `do` block that may fail: what follows, if it holds
 unfoldable pub _>>_ : {A : Type 0} → Bool → Option A → Option A
 true >> a = a
 false >> a = none
 
-unfoldable pub isSome : {A : Type 0} → Option A → Bool
-isSome none = false
-isSome (some a) = true
+-- the first, or the second where the first is none
+unfoldable pub orElse : {A : Type 0} → Option A → Option A → Option A
+orElse none b = b
+orElse (some a) b = some a

@@ -2,8 +2,9 @@
 use mathlib.Core.Bool.{Bool, true, false, _&&_, _||_}
 use mathlib.Core.List.{List, [], _∷_}
 use mathlib.Core.Option.{Option, none, some}
-use Prim.Native.Nat.{ℕ, max}
+use Prim.Native.Nat.{ℕ, zero, suc, max}
 use lib.Dec.{eqb, leb, ltb}
+use lib.ListN.{take, drop}
 use Rattle.lists.specs.Choice.{choose}
 
 -- a string of bytes
@@ -15,6 +16,11 @@ Bytes = List ℕ
 unfoldable pub all : {A : Type 0} → (A → Bool) → List A → Bool
 all f [] = true
 all f (x ∷ xs) = f x && all f xs
+
+-- all tests of a list hold
+unfoldable pub every : List Bool → Bool
+every [] = true
+every (b ∷ bs) = b && every bs
 
 unfoldable pub any : {A : Type 0} → (A → Bool) → List A → Bool
 any f [] = false
@@ -34,6 +40,11 @@ first f (x ∷ xs) = choose (f x) (λ _. some x) (λ _. first f xs)
 unfoldable pub lastOr : {A : Type 0} → A → List A → A
 lastOr d [] = d
 lastOr d (x ∷ xs) = lastOr x xs
+
+-- the first n runs of k elements
+unfoldable pub runs : {A : Type 0} → ℕ → ℕ → List A → List (List A)
+runs zero k s = []
+runs (suc n) k s = take k s ∷ runs n k (drop k s)
 
 -- ---- numbers
 

@@ -1,0 +1,74 @@
+-- Demand 3: the two claims, stated whole. They are about acceptance as `judge` has it, and about the real SHA-256.
+use mathlib.Core.Path.{_≡_}
+use mathlib.Core.Logic.{_⊎_}
+use mathlib.Core.List.{List, [], _∷_, _++_, map, flatMap, List·Memᴰ}
+use mathlib.Core.Option.{Option}
+use Prim.Native.Nat.{ℕ}
+use Rattle.lists.specs.Lists.{Bytes}
+use Rattle.hash.specs.Sha256.{sha256}
+use Rattle.tree.specs.LogTree.{LogEntry, zeros}
+use Rattle.rules.specs.VrfOutputs.{outputOf}
+use Rattle.rules.specs.State.{State}
+use Rattle.rules.specs.Response.{Target, searched, stepVersions, logEntry}
+use Rattle.rules.specs.Refusals.{Inputs, Call, Judgement, refused, passed, judge, logRoot}
+use Rattle.rules.specs.Calls.{stateAfter}
+use Rattle.rules.specs.Hashed.{hashed}
+
+-- ---- what breaks SHA-256
+
+-- two different strings of a list with one SHA-256 value
+pub record Collision (strings : List Bytes) : Type 0 where
+  pub x : Bytes
+  pub y : Bytes
+  pub x-listed : List·Memᴰ x strings
+  pub y-listed : List·Memᴰ y strings
+  pub different : x ≡ y → ⊥
+  pub equal : sha256 x ≡ sha256 y
+
+-- a string of a list whose SHA-256 value is 32 zero bytes
+pub record ZeroDigest (strings : List Bytes) : Type 0 where
+  pub x : Bytes
+  pub x-listed : List·Memᴰ x strings
+  pub zero-digest : sha256 x ≡ zeros
+
+abbrev pub Broken : List Bytes → Type 0
+Broken strings = Collision strings ⊎ ZeroDigest strings
+
+-- ---- the first claim: two searches agree
+
+-- the sheets give equal outputs for each version that both searches use
+abbrev pub OutputsAgree : Call → Call → Type 0
+OutputsAgree c d = (v : ℕ) → List·Memᴰ v (stepVersions (c .parts)) → List·Memᴰ v (stepVersions (d .parts)) → outputOf (c .outputs) v ≡ outputOf (d .outputs) v
+
+-- two accepted searches, from any two states, for one label, with one tree size and one log root, whose sheets agree, yield one version, opening and value
+abbrev pub SearchesAgree : Type 0
+SearchesAgree =
+    (s s′ : Option State) (i i′ : Inputs) (c c′ : Call) (t t′ : Target)
+    → judge s i ≡ passed c → judge s′ i′ ≡ passed c′
+    → c .parts .finding ≡ searched t → c′ .parts .finding ≡ searched t′
+    → c .parts .label ≡ c′ .parts .label → c .parts .size ≡ c′ .parts .size → logRoot c ≡ logRoot c′ → OutputsAgree c c′
+    → (t ≡ t′) ⊎ Broken (hashed c ++ hashed c′)
+
+-- ---- the second claim: on a chain of calls each entry is shown with one time and one prefix root
+
+-- the call, if it was accepted
+unfoldable pub accepted : Judgement → List Call
+accepted (refused k) = []
+accepted (passed c) = c ∷ []
+
+-- the accepted calls of a chain: each call gets the state that the last one returned
+unfoldable pub acceptedCalls : Option State → List Inputs → List Call
+acceptedCalls s [] = []
+acceptedCalls s (i ∷ is) = accepted (judge s i) ++ acceptedCalls (stateAfter s (judge s i)) is
+
+-- the entries that calls show, by their `entry` lines
+unfoldable pub shownBy : List Call → List LogEntry
+shownBy cs = flatMap (λ (c : Call). map logEntry (c .parts .entries)) cs
+
+-- any two entries with one position have one time and one prefix root
+abbrev pub Alike : List LogEntry → Type 0
+Alike es = (x y : LogEntry) → List·Memᴰ x es → List·Memᴰ y es → x .position ≡ y .position → (x .time ≡ y .time) × (x .prefixRoot ≡ y .prefixRoot)
+
+-- any list of calls, from any state
+abbrev pub ChainsAgree : Type 0
+ChainsAgree = (s : Option State) (is : List Inputs) → Alike (shownBy (acceptedCalls s is)) ⊎ Broken (flatMap hashed (acceptedCalls s is))

@@ -1,0 +1,25 @@
+-- The strings that an accepted call hashed, and no others (paper 01, What the contracts owe): leaves and parents of the log tree that the walk works out, the
+-- leaf and the parents of every lookup, and HMAC's inner and outer string for the commitment of a search's target. (No accepted call has a lookup that is not tried.)
+use mathlib.Core.List.{List, [], _∷_, _++_, flatMap}
+use Rattle.lists.specs.Lists.{Bytes}
+use Rattle.tree.specs.LogTree.{walkStrings}
+use Rattle.tree.specs.PrefixTree.{lookupStrings}
+use Rattle.rules.specs.VrfOutputs.{outputOf}
+use Rattle.rules.specs.Response.{Finding, searched, monitored, Lookup, Entry}
+use Rattle.rules.specs.Commitment.{commitmentStrings}
+use Rattle.rules.specs.Refusals.{Call, known, logWalk, terminal}
+
+unfoldable pub hashedByLookup : Call → Lookup → List Bytes
+hashedByLookup c l = lookupStrings (outputOf (c .outputs) (l .version)) (terminal c (l .version) (l .result)) (l .siblings)
+
+unfoldable pub hashedByEntry : Call → Entry → List Bytes
+hashedByEntry c e = flatMap (hashedByLookup c) (e .lookups)
+
+unfoldable pub hashedByFinding : Finding → Bytes → List Bytes
+hashedByFinding (searched t) label = commitmentStrings (t .opening) label (t .value)
+hashedByFinding monitored label = []
+
+unfoldable pub hashed : Call → List Bytes
+hashed c =
+    walkStrings (known c) (logWalk c) (c .parts .nodes) ++ flatMap (hashedByEntry c) (c .parts .entries)
+    ++ hashedByFinding (c .parts .finding) (c .parts .label)

@@ -1,0 +1,16 @@
+pub mod Limits
+pub mod Encoding
+pub mod Configuration
+pub mod VrfOutputs
+pub mod State
+pub mod StateText
+pub mod Response
+pub mod ResponseText
+pub mod Commitment
+pub mod Search
+pub mod Monitoring
+pub mod Refusals
+pub mod Calls
+pub mod Program
+pub mod Hashed
+pub mod Consistency

@@ -1,0 +1,43 @@
+-- Monitoring (paper 01, Ladder, search, monitoring; 000, 4.4): what is asked, the new map.
+use mathlib.Core.Bool.{Bool}
+use mathlib.Core.List.{List, [], _∷_, map}
+use Prim.Native.Nat.{ℕ, max}
+use lib.Dec.{eqb, leb}
+use Rattle.lists.specs.Lists.{any, select, insertAll, largest, lastOr}
+use Rattle.tree.specs.Ladder.{ladder}
+use Rattle.tree.specs.SearchTree.{frontier, rightPath}
+use Rattle.rules.specs.State.{MapEntry}
+use Rattle.rules.specs.Search.{Asked, putEntry}
+
+-- the right path of the pair's position holds the entry x
+unfoldable pub reaches : ℕ → ℕ → MapEntry → Bool
+reaches n x e = any (eqb x) (rightPath n (e .position))
+
+-- the versions of the pairs whose right path holds x; they stand below x
+unfoldable pub versionsReaching : ℕ → List MapEntry → ℕ → List ℕ
+versionsReaching n entries x = map (λ (e : MapEntry). e .version) (select (reaches n x) entries)
+
+-- of these, v being the largest: the ladder versions not above v, in ladder order; none where no right path holds the entry
+unfoldable pub versionsShown : List ℕ → List ℕ
+versionsShown [] = []
+versionsShown (v ∷ vs) = select (λ (w : ℕ). leb w (largest (v ∷ vs))) (ladder (largest (v ∷ vs)))
+
+-- the frontier and all right paths, rising, each once
+unfoldable pub monitoredPositions : ℕ → List MapEntry → List ℕ
+monitoredPositions n [] = frontier n
+monitoredPositions n (e ∷ es) = insertAll (rightPath n (e .position)) (monitoredPositions n es)
+
+unfoldable pub askedByMonitoring : ℕ → List MapEntry → List Asked
+askedByMonitoring n entries =
+    map (λ (x : ℕ). record { position = x; versions = versionsShown (versionsReaching n entries x) }) (monitoredPositions n entries)
+
+-- the versions looked up at any of these entries, rising, each once
+unfoldable pub versionsOf : List Asked → List ℕ
+versionsOf [] = []
+versionsOf (a ∷ rest) = insertAll (a .versions) (versionsOf rest)
+
+-- each pair moves to the end of its right path, or stays if that is empty; of pairs that meet the larger version is kept
+unfoldable pub mapAfterMonitoring : ℕ → List MapEntry → List MapEntry
+mapAfterMonitoring n [] = []
+mapAfterMonitoring n (e ∷ es) =
+    putEntry max (record { position = lastOr (e .position) (rightPath n (e .position)); version = e .version }) (mapAfterMonitoring n es)

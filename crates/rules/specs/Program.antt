@@ -1,0 +1,114 @@
+-- The program: six files in, one line and up to two files out (paper 01, Sixteen numbers).
+use mathlib.Core.Bool.{Bool, true, false, _&&_}
+use mathlib.Core.List.{List, [], _∷_, _++_}
+use mathlib.Core.Option.{Option, none, some, Option·getD, Option·map, bind, bind as _>>=_}
+use Prim.Native.Nat.{ℕ}
+use lib.Dec.{eqb, leb}
+use lib.ListN.{length, replicate}
+use Rattle.lists.specs.Choice.{provided, orElse, _>>_}
+use Rattle.lists.specs.Lists.{Bytes}
+use Rattle.lines.specs.Number.{ascii, decimal}
+use Rattle.lines.specs.Field.{number, bytes}
+use Rattle.lines.specs.Line.{Form, Read, tab, newline, readLines, readLine, joined}
+use Rattle.rules.specs.Limits.{programResponseLimit, configurationLimit, signedTextLimit, vrfOutputsLimit, valueLimit, identifierLength, stateTextLimit, requestLimit, numberBound}
+use Rattle.rules.specs.State.{State}
+use Rattle.rules.specs.StateText.{readState, writeState}
+use Rattle.rules.specs.Response.{Kind, search, monitor, Finding, searched, monitored}
+use Rattle.rules.specs.ResponseText.{kindWord}
+use Rattle.rules.specs.Refusals.{Inputs, Call, Judgement, refused, passed, reading, judge}
+use Rattle.rules.specs.Calls.{newState}
+
+-- ---- the files
+
+-- none: a file that is missing or cannot be read
+pub record Files : Type 0 where
+  pub request : Option Bytes
+  pub response : Option Bytes
+  pub settings : Option Bytes
+  pub state : Option Bytes
+  pub sheet : Option Bytes
+  pub signed : Option Bytes
+
+-- a file that is there and not too long
+unfoldable pub within : ℕ → Option Bytes → Option Bytes
+within limit file = do
+  s ← file
+  leb (length s) limit
+  some s
+
+-- ---- the request: kind, identifier, clock, in one line
+
+pub record Request : Type 0 where
+  pub kind : Option Kind
+  pub identifier : Bytes
+  pub clock : ℕ
+
+abbrev pub requestForm : Kind → Form
+requestForm kind = record { words = kindWord kind ∷ []; fields = bytes (λ (n : ℕ). true) ∷ number numberBound ∷ [] }
+
+unfoldable pub requestOf : Kind → Read (requestForm search) → Request
+requestOf kind (identifier, (clock, _)) = record { kind = some kind; identifier = identifier; clock = clock }
+
+unfoldable pub readRequestLine : List Bytes → Option Request
+readRequestLine [] = none
+readRequestLine (l ∷ m ∷ ls) = none
+readRequestLine (l ∷ []) =
+    orElse (Option·map (requestOf search) (readLine (requestForm search) l)) (Option·map (requestOf monitor) (readLine (requestForm monitor) l))
+
+-- a broken line asks for no kind
+unfoldable pub brokenRequest : Request
+brokenRequest = record { kind = none; identifier = replicate identifierLength 0; clock = 0 }
+
+unfoldable pub readRequest : Bytes → Request
+readRequest s = Option·getD (bind (readLines s) readRequestLine) brokenRequest
+
+-- ---- the judgement
+
+unfoldable pub judgeFiles : Files → Judgement
+judgeFiles f =
+    reading 1 (within requestLimit (f .request)) λ request.
+    reading 1 (within programResponseLimit (f .response)) λ response.
+    reading 1 (within configurationLimit (f .settings)) λ settings.
+    reading 1 (within stateTextLimit (f .state)) λ state.
+    reading 1 (within vrfOutputsLimit (f .sheet)) λ sheet.
+    reading 1 (within signedTextLimit (f .signed)) λ signed.
+    judge (readState state) (record {
+      limit = programResponseLimit;
+      kind = readRequest request .kind;
+      response = response;
+      configuration = settings;
+      identifier = readRequest request .identifier;
+      clock = readRequest request .clock;
+      vrfOutputs = sheet;
+      signedText = signed;
+      room = valueLimit;
+    })
+
+-- ---- what is printed and written
+
+unfoldable pub lineOf : List Bytes → Bytes
+lineOf fields = joined tab fields ++ newline ∷ []
+
+unfoldable pub versionField : Finding → Bytes
+versionField (searched t) = decimal (t .version)
+versionField monitored = ascii "-"
+
+-- `yes`, t or `-`, n and the number of pairs; or `no` and the number
+unfoldable pub printed : Judgement → Bytes
+printed (refused k) = lineOf (ascii "no" ∷ decimal k ∷ [])
+printed (passed c) =
+    lineOf
+    (ascii "yes" ∷ versionField (c .parts .finding) ∷ decimal (c .parts .size) ∷ decimal (length (newState c .monitoringMap)) ∷ [])
+
+-- the file `state.new`, and the file `value`, if they are written
+unfoldable pub stateFile : Judgement → Option Bytes
+stateFile (refused k) = none
+stateFile (passed c) = some (writeState (newState c))
+
+unfoldable pub valueIn : Finding → Option Bytes
+valueIn (searched t) = some (t .value)
+valueIn monitored = none
+
+unfoldable pub valueFile : Judgement → Option Bytes
+valueFile (refused k) = none
+valueFile (passed c) = valueIn (c .parts .finding)

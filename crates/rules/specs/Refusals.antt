@@ -1,0 +1,300 @@
+-- The sixteen refusals, in the order of trial (paper 01, Sixteen numbers). First what a call is given is read, each reading with a number of its own (1 to 5);
+-- then come the rules about what was read (6 to 16). The number of the first that applies is the answer.
+use mathlib.Core.Bool.{Bool, true, false, _&&_, _||_, not, cond}
+use mathlib.Core.List.{List, [], _∷_, _++_, map}
+use mathlib.Core.Option.{Option, none, some, Option·elim, Option·getD, bind}
+use Prim.Native.Nat.{ℕ, _+_}
+use lib.Dec.{eqb, leb, ltb}
+use lib.ListN.{length}
+use Rattle.lists.specs.Choice.{choose, provided}
+use Rattle.lists.specs.Lists.{Bytes, all, any, every, first, lastOr, same, begins, unfalling}
+use Rattle.tree.specs.Ladder.{ladder}
+use Rattle.tree.specs.LogTree.{Known, Walk, walkOf, nodeCount, value, keptValuesMet}
+use Rattle.tree.specs.PrefixTree.{Terminal, inclusion, vacant, otherLeaf as another, lookupRoot, terminalFits}
+use Rattle.rules.specs.Limits.{configurationLimit, signedTextLimit, vrfOutputsLimit, treeSizeLimit, greatestVersion, mapLimit, identifierLength}
+use Rattle.rules.specs.Configuration.{Configuration, readConfiguration, treeHead}
+use Rattle.rules.specs.VrfOutputs.{VrfOutput, readOutputs, hasOutput, outputOf}
+use Rattle.rules.specs.State.{MapEntry, State, isValid, versions}
+use Rattle.rules.specs.Response.{Kind, search, monitor, Target, Finding, searched, monitored, Step, Result, included, absent, otherLeaf, Lookup, Entry, Parts, kindOf, isIncluded, stepVersions, lookupVersions, entryPositions, entryTimes, logEntry}
+use Rattle.rules.specs.ResponseText.{readResponse}
+use Rattle.rules.specs.Commitment.{commitmentTo}
+use Rattle.rules.specs.Search.{Asked, askedBySearch, shortThenWhole, mapAfterSearch}
+use Rattle.rules.specs.Monitoring.{askedByMonitoring, versionsOf, mapAfterMonitoring}
+
+-- ---- what is given, and what is read of it
+
+-- what a call is given besides the state
+pub record Inputs : Type 0 where
+  pub limit : ℕ  -- bytes of a response: the library's or the program's
+  pub kind : Option Kind  -- none where what was asked for is no kind
+  pub response : Bytes
+  pub configuration : Bytes
+  pub identifier : Bytes
+  pub clock : ℕ
+  pub vrfOutputs : Bytes
+  pub signedText : Bytes
+  pub room : ℕ  -- output bytes
+
+-- a call as read
+pub record Call : Type 0 where
+  pub inputs : Inputs
+  pub configuration : Configuration
+  pub state : State
+  pub outputs : List VrfOutput
+  pub parts : Parts
+
+pub data Judgement : Type 0 where
+  refused : ℕ → Judgement
+  passed : Call → Judgement
+
+-- what a reading yields is handed on; where it yields nothing, its number is the answer
+unfoldable pub reading : {A : Type 0} → ℕ → Option A → (A → Judgement) → Judgement
+reading k none next = refused k
+reading k (some a) next = next a
+
+unfoldable pub lengthsFit : Inputs → Bool
+lengthsFit i =
+    every
+    (leb (length (i .response)) (i .limit)
+    ∷ leb (length (i .configuration)) configurationLimit
+    ∷ leb (length (i .signedText)) signedTextLimit
+    ∷ leb (length (i .vrfOutputs)) vrfOutputsLimit
+    ∷ eqb (length (i .identifier)) identifierLength
+    ∷ [])
+
+unfoldable pub validState : Option State → Option State
+validState none = none
+validState (some s) = provided (isValid s) s
+
+-- a call is read; the state is none where what was handed over stands for no state
+unfoldable pub readCall : Option State → Inputs → Judgement
+readCall st i =
+    reading 1 (provided (lengthsFit i) i) λ _.
+    reading 2 (readConfiguration (i .configuration)) λ configuration.
+    reading 3 (validState st) λ state.
+    reading 4 (readOutputs (i .vrfOutputs)) λ outputs.
+    reading 5 (readResponse (i .response)) λ parts.
+    passed (record { inputs = i; configuration = configuration; state = state; outputs = outputs; parts = parts })
+
+-- ---- 6: kind, identifier or label is not the asked one
+
+unfoldable pub sameKind : Kind → Kind → Bool
+sameKind search search = true
+sameKind search monitor = false
+sameKind monitor search = false
+sameKind monitor monitor = true
+
+unfoldable pub kindAsked : Call → Bool
+kindAsked c = Option·elim (c .inputs .kind) false (sameKind (kindOf (c .parts .finding)))
+
+unfoldable pub foreign : Call → Bool
+foreign c = not (kindAsked c && same (c .parts .identifier) (c .inputs .identifier) && same (c .parts .label) (c .state .label))
+
+-- ---- 7: n is 0, too large, or below m
+
+unfoldable pub sizeWrong : Call → Bool
+sizeWrong c = eqb (c .parts .size) 0 || ltb treeSizeLimit (c .parts .size) || ltb (c .parts .size) (c .state .size)
+
+-- ---- 8: a search's t is no version, or below a version in the map
+
+unfoldable pub targetWrongIn : List MapEntry → Finding → Bool
+targetWrongIn entries (searched t) = ltb greatestVersion (t .version) || any (λ (v : ℕ). ltb (t .version) v) (versions entries)
+targetWrongIn entries monitored = false
+
+unfoldable pub targetWrong : Call → Bool
+targetWrong c = targetWrongIn (c .state .monitoringMap) (c .parts .finding)
+
+-- ---- 9: steps, commitments given or left out, entries, lookup versions or the number of nodes are not as asked
+
+unfoldable pub askedBy : Finding → ℕ → List MapEntry → List Asked
+askedBy (searched t) n entries = askedBySearch n (t .version)
+askedBy monitored n entries = askedByMonitoring n entries
+
+unfoldable pub asked : Call → List Asked
+asked c = askedBy (c .parts .finding) (c .parts .size) (c .state .monitoringMap)
+
+-- the versions of the steps
+unfoldable pub stepsAskedBy : Finding → List Asked → List ℕ
+stepsAskedBy (searched t) entries = ladder (t .version)
+stepsAskedBy monitored entries = versionsOf entries
+
+-- a commitment is given for versions below t, or for all in monitoring
+unfoldable pub commitmentAsked : Finding → Step → Bool
+commitmentAsked (searched t) s = Option·elim (s .commitment) (leb (t .version) (s .version)) (λ _. ltb (s .version) (t .version))
+commitmentAsked monitored s = Option·elim (s .commitment) false (λ _. true)
+
+-- a beginning of the ladder, at least one; in monitoring all versions
+unfoldable pub lookupsAsked : Finding → List ℕ → List ℕ → Bool
+lookupsAsked (searched t) wanted shown = ltb 0 (length shown) && begins shown wanted
+lookupsAsked monitored wanted shown = same shown wanted
+
+unfoldable pub entriesAsked : Finding → List Asked → List Entry → Bool
+entriesAsked f [] [] = true
+entriesAsked f [] (e ∷ es) = false
+entriesAsked f (a ∷ rest) [] = false
+entriesAsked f (a ∷ rest) (e ∷ es) = eqb (e .position) (a .position) && lookupsAsked f (a .versions) (lookupVersions e) && entriesAsked f rest es
+
+-- the walk over the log tree, with the entries that the response shows
+unfoldable pub logWalk : Call → Walk
+logWalk c = walkOf (c .parts .size) (c .state .size) (entryPositions (c .parts))
+
+unfoldable pub notAsAsked : Call → Bool
+notAsAsked c =
+    not
+    (every
+    (same (stepVersions (c .parts)) (stepsAskedBy (c .parts .finding) (asked c))
+    ∷ all (commitmentAsked (c .parts .finding)) (c .parts .steps)
+    ∷ entriesAsked (c .parts .finding) (asked c) (c .parts .entries)
+    ∷ eqb (length (c .parts .nodes)) (nodeCount (logWalk c))
+    ∷ []))
+
+-- ---- 10: a version of a step is not in the sheet
+
+unfoldable pub outputMissing : Call → Bool
+outputMissing c = not (all (hasOutput (c .outputs)) (stepVersions (c .parts)))
+
+-- ---- 11: times
+
+-- a position below m is not later, one from m on not earlier, than the kept time
+unfoldable pub timeFits : State → Entry → Bool
+timeFits s e = cond (ltb (e .position) (s .size)) (leb (e .time) (s .time)) (leb (s .time) (e .time))
+
+-- the time of the last entry
+unfoldable pub lastTime : Call → ℕ
+lastTime c = lastOr 0 (entryTimes (c .parts))
+
+unfoldable pub timesWrong : Call → Bool
+timesWrong c =
+    not
+    (every
+    (unfalling (entryTimes (c .parts))
+    ∷ all (timeFits (c .state)) (c .parts .entries)
+    ∷ leb (lastTime c) (c .inputs .clock + c .configuration .maxAhead)
+    ∷ leb (c .inputs .clock) (lastTime c + c .configuration .maxBehind)
+    ∷ []))
+
+-- ---- 12: a lookup does not reach its prefix root, or the other leaf is not as said
+
+-- the commitment in the step of a version; the empty string where there is none
+unfoldable pub stepCommitment : List Step → ℕ → Bytes
+stepCommitment steps v = Option·getD (bind (first (λ (s : Step). eqb (s .version) v) steps) (λ s. s .commitment)) []
+
+-- the commitment of a version that is there: of t it is computed, of others it is in the step
+unfoldable pub commitmentBy : Finding → Bytes → List Step → ℕ → Bytes
+commitmentBy (searched t) label steps v = choose (eqb v (t .version)) (λ _. commitmentTo (t .opening) label (t .value)) (λ _. stepCommitment steps v)
+commitmentBy monitored label steps v = stepCommitment steps v
+
+unfoldable pub commitmentOf : Call → ℕ → Bytes
+commitmentOf c v = commitmentBy (c .parts .finding) (c .parts .label) (c .parts .steps) v
+
+-- what a lookup says stands at its place
+unfoldable pub terminal : Call → ℕ → Result → Terminal
+terminal c v included = inclusion (commitmentOf c v)
+terminal c v absent = vacant
+terminal c v (otherLeaf output commitment) = another output commitment
+
+-- a search's `in` above t has no commitment: its path is not tried
+unfoldable pub untried : Finding → Lookup → Bool
+untried (searched t) l = ltb (t .version) (l .version) && isIncluded (l .result)
+untried monitored l = false
+
+unfoldable pub lookupHolds : Call → Bytes → Lookup → Bool
+lookupHolds c root l =
+    terminalFits (outputOf (c .outputs) (l .version)) (terminal c (l .version) (l .result)) (length (l .siblings))
+    && same (lookupRoot (outputOf (c .outputs) (l .version)) (terminal c (l .version) (l .result)) (l .siblings)) root
+
+unfoldable pub lookupsHold : Call → Entry → Bool
+lookupsHold c e = all (λ (l : Lookup). choose (untried (c .parts .finding) l) (λ _. true) (λ _. lookupHolds c (e .prefixRoot) l)) (e .lookups)
+
+unfoldable pub lookupFails : Call → Bool
+lookupFails c = not (all (lookupsHold c) (c .parts .entries))
+
+-- ---- 13: whole and short entries not as asked; a lookup in monitoring not `in`
+
+unfoldable pub resultsWrongIn : Finding → List Entry → Bool
+resultsWrongIn (searched t) es = not (shortThenWhole (t .version) es)
+resultsWrongIn monitored es = not (all (λ (e : Entry). all (λ (l : Lookup). isIncluded (l .result)) (e .lookups)) es)
+
+unfoldable pub resultsWrong : Call → Bool
+resultsWrong c = resultsWrongIn (c .parts .finding) (c .parts .entries)
+
+-- ---- 14: a kept value differs
+
+-- what the walk knows: the kept values and the entries shown
+unfoldable pub known : Call → Known
+known c = record { size = c .state .size; values = c .state .values; entries = map logEntry (c .parts .entries) }
+
+unfoldable pub historyDiffers : Call → Bool
+historyDiffers c = not (keptValuesMet (known c) (logWalk c) (c .parts .nodes))
+
+-- ---- 15: the signed text differs from TreeHeadTBS
+
+-- the log root
+unfoldable pub logRoot : Call → Bytes
+logRoot c = value (known c) (logWalk c) (c .parts .nodes)
+
+unfoldable pub signedText : Call → Bytes
+signedText c = treeHead (c .inputs .configuration) (c .parts .size) (logRoot c)
+
+unfoldable pub headDiffers : Call → Bool
+headDiffers c = not (same (c .inputs .signedText) (signedText c))
+
+-- ---- 16: a search's output is shorter than the value, or the map would need one pair too many
+
+unfoldable pub mapAfterBy : Finding → Call → List MapEntry
+mapAfterBy (searched t) c = mapAfterSearch (t .version) (c .parts .entries) (c .state .monitoringMap)
+mapAfterBy monitored c = mapAfterMonitoring (c .parts .size) (c .state .monitoringMap)
+
+-- the new map
+unfoldable pub mapAfter : Call → List MapEntry
+mapAfter c = mapAfterBy (c .parts .finding) c
+
+unfoldable pub roomMissingFor : Finding → Call → Bool
+roomMissingFor (searched t) c = ltb (c .inputs .room) (length (t .value)) || ltb mapLimit (length (mapAfter c))
+roomMissingFor monitored c = false
+
+unfoldable pub roomMissing : Call → Bool
+roomMissing c = roomMissingFor (c .parts .finding) c
+
+-- ---- the order of trial
+
+pub record Rule : Type 0 where
+  pub number : ℕ
+  pub applies : Call → Bool
+
+abbrev pub rule : ℕ → (Call → Bool) → Rule
+rule k f = record { number = k; applies = f }
+
+-- 6 to 14, which the signed-text call tries too
+unfoldable pub checks : List Rule
+checks =
+    rule 6 foreign
+    ∷ rule 7 sizeWrong
+    ∷ rule 8 targetWrong
+    ∷ rule 9 notAsAsked
+    ∷ rule 10 outputMissing
+    ∷ rule 11 timesWrong
+    ∷ rule 12 lookupFails
+    ∷ rule 13 resultsWrong
+    ∷ rule 14 historyDiffers
+    ∷ []
+
+unfoldable pub lastChecks : List Rule
+lastChecks = rule 15 headDiffers ∷ rule 16 roomMissing ∷ []
+
+-- the number of the first rule that applies, and else the call passes
+unfoldable pub tried : List Rule → Call → Judgement
+tried [] c = passed c
+tried (r ∷ rs) c = choose (r .applies c) (λ _. refused (r .number)) (λ _. tried rs c)
+
+unfoldable pub triedAfter : List Rule → Judgement → Judgement
+triedAfter rs (refused k) = refused k
+triedAfter rs (passed c) = tried rs c
+
+-- a search or monitoring: acceptance is to pass all sixteen
+unfoldable pub judge : Option State → Inputs → Judgement
+judge st i = triedAfter (checks ++ lastChecks) (readCall st i)
+
+-- the signed-text call: to pass 1 to 14
+unfoldable pub judgeUnsigned : Option State → Inputs → Judgement
+judgeUnsigned st i = triedAfter checks (readCall st i)

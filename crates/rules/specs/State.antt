@@ -1,0 +1,56 @@
+-- The state that is kept between calls (paper 01, What a call is given).
+use mathlib.Core.Bool.{Bool, true, false, _&&_, _||_, not}
+use mathlib.Core.List.{List, [], _∷_, map}
+use Prim.Native.Nat.{ℕ}
+use lib.Dec.{eqb, leb, ltb}
+use lib.ListN.{length}
+use Rattle.lists.specs.Choice.{choose}
+use Rattle.lists.specs.Lists.{Bytes, all, every, rising}
+use Rattle.tree.specs.LogTree.{fullSubtrees}
+use Rattle.rules.specs.Limits.{labelLimit, treeSizeLimit, greatestVersion, mapLimit, hashLength}
+
+-- a pair of the monitoring map
+pub record MapEntry : Type 0 where
+  pub position : ℕ
+  pub version : ℕ
+
+pub record State : Type 0 where
+  pub label : Bytes
+  pub size : ℕ
+  pub time : ℕ
+  pub values : List Bytes  -- of the full subtrees, left to right
+  pub monitoringMap : List MapEntry
+
+abbrev pub positions : List MapEntry → List ℕ
+positions es = map (λ (e : MapEntry). e .position) es
+
+abbrev pub versions : List MapEntry → List ℕ
+versions es = map (λ (e : MapEntry). e .version) es
+
+unfoldable pub isValid : State → Bool
+isValid s =
+    every
+    (leb (length (s .label)) labelLimit
+    ∷ leb (s .size) treeSizeLimit
+    ∷ (ltb 0 (s .size) || eqb (s .time) 0)
+    ∷ eqb (length (s .values)) (length (fullSubtrees (s .size)))
+    ∷ all (λ (v : Bytes). eqb (length v) hashLength) (s .values)
+    ∷ leb (length (s .monitoringMap)) mapLimit
+    ∷ rising (positions (s .monitoringMap))
+    ∷ all (λ (p : ℕ). ltb p (s .size)) (positions (s .monitoringMap))
+    ∷ all (λ (v : ℕ). leb v greatestVersion) (versions (s .monitoringMap))
+    ∷ [])
+
+unfoldable pub emptyState : Bytes → State
+emptyState label = record { label = label; size = 0; time = 0; values = []; monitoringMap = [] }
+
+-- a state, and 0 or the number of a refusal
+pub record NumberedState : Type 0 where
+  pub number : ℕ
+  pub state : State
+
+-- a new state is made from a label
+unfoldable pub newState : Bytes → NumberedState
+newState label =
+    choose (leb (length label) labelLimit) (λ _. record { number = 0; state = emptyState label })
+    (λ _. record { number = 1; state = emptyState [] })
