@@ -1,3 +1,4 @@
+pub mod Computing
 pub mod BytesLaws
 pub mod BlockLaws
 pub mod MessageLaws

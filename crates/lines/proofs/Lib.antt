@@ -1,1 +1,1 @@
-pub mod T
+pub mod Computing

@@ -13,7 +13,6 @@ provided true a = some a
 provided false a = none
 
 infixl 10 _>>_
-
 -- a test among the steps of a `do` block that may fail: what follows, if it holds
 unfoldable pub _>>_ : {A : Type 0} → Bool → Option A → Option A
 true >> a = a

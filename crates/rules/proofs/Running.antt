@@ -1,0 +1,32 @@
+-- What cases that are proved by computing share.
+use mathlib.Core.List.{flatMap, flatten}
+use mathlib.Core.Option.{Option, Option·elim, bind}
+use Prim.Native.Nat.{ℕ}
+use Prim.Native.String.{String}
+use Rattle.lists.specs.Lists.{Bytes}
+use Rattle.lists.proofs.Computing.{list-definitions}
+use Rattle.hash.proofs.Computing.{hash-definitions}
+use Rattle.tree.proofs.Computing.{tree-definitions}
+use Rattle.lines.specs.Number.{ascii}
+use Rattle.lines.specs.Hex.{unhex}
+use Rattle.lines.proofs.Computing.{line-definitions}
+use Rattle.rules.specs.State.{State}
+use Rattle.rules.specs.Refusals.{Inputs, Judgement, judge}
+use Rattle.rules.specs.Calls.{numberOf, stateAfter, valueOf}
+use Rattle.rules.proofs.Computing.{rule-definitions}
+
+-- bytes, written in hex
+unfoldable pub x : String → Bytes
+x s = unhex (ascii s)
+
+-- number, state afterwards, value
+unfoldable pub outcomeOf : Option State → Judgement → ℕ × (Option State × Bytes)
+outcomeOf st j = (numberOf j, (stateAfter st j, valueOf j))
+
+unfoldable pub outcome : Option State → Inputs → ℕ × (Option State × Bytes)
+outcome st i = outcomeOf st (judge st i)
+
+-- everything computes
+unfoldable pub opened : Unit {0}
+unfolding x outcomeOf outcome list-definitions hash-definitions tree-definitions line-definitions rule-definitions flatMap flatten Option·elim bind
+opened = tt
