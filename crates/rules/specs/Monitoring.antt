@@ -5,13 +5,13 @@ use Prim.Native.Nat.{ℕ, max}
 use lib.Dec.{eqb, leb}
 use Rattle.lists.specs.Lists.{any, select, insertAll, largest, lastOr}
 use Rattle.tree.specs.Ladder.{ladder}
-use Rattle.tree.specs.SearchTree.{frontier, rightPath}
+use Rattle.tree.specs.SearchTree.{frontier, rightAncestors}
 use Rattle.rules.specs.State.{MapEntry}
 use Rattle.rules.specs.Search.{Asked, putEntry}
 
 -- the right path of the pair's position holds the entry x
 unfoldable pub reaches : ℕ → ℕ → MapEntry → Bool
-reaches n x e = any (eqb x) (rightPath n (e .position))
+reaches n x e = any (eqb x) (rightAncestors n (e .position))
 
 -- the versions of the pairs whose right path holds x; they stand below x
 unfoldable pub versionsReaching : ℕ → List MapEntry → ℕ → List ℕ
@@ -25,7 +25,7 @@ versionsShown (v ∷ vs) = select (λ (w : ℕ). leb w (largest (v ∷ vs))) (la
 -- the frontier and all right paths, rising, each once
 unfoldable pub monitoredPositions : ℕ → List MapEntry → List ℕ
 monitoredPositions n [] = frontier n
-monitoredPositions n (e ∷ es) = insertAll (rightPath n (e .position)) (monitoredPositions n es)
+monitoredPositions n (e ∷ es) = insertAll (rightAncestors n (e .position)) (monitoredPositions n es)
 
 unfoldable pub askedByMonitoring : ℕ → List MapEntry → List Asked
 askedByMonitoring n entries =
@@ -40,4 +40,4 @@ versionsOf (a ∷ rest) = insertAll (a .versions) (versionsOf rest)
 unfoldable pub mapAfterMonitoring : ℕ → List MapEntry → List MapEntry
 mapAfterMonitoring n [] = []
 mapAfterMonitoring n (e ∷ es) =
-    putEntry max (record { position = lastOr (e .position) (rightPath n (e .position)); version = e .version }) (mapAfterMonitoring n es)
+    putEntry max (record { position = lastOr (e .position) (rightAncestors n (e .position)); version = e .version }) (mapAfterMonitoring n es)

@@ -66,5 +66,5 @@ unfoldable pub directPath : ℕ → ℕ → List ℕ
 directPath n p = choose (ltb p n) (λ _. downTo n n p (root n)) (λ _. [])
 
 -- the right path of p: its ancestors above p, rising
-unfoldable pub rightPath : ℕ → ℕ → List ℕ
-rightPath n p = reverse (select (λ (x : ℕ). ltb p x) (directPath n p))
+unfoldable pub rightAncestors : ℕ → ℕ → List ℕ
+rightAncestors n p = reverse (select (λ (x : ℕ). ltb p x) (directPath n p))
