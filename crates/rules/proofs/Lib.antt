@@ -1,3 +1,4 @@
 pub mod Computing
 pub mod Running
+pub mod RefusalLaws
 pub mod Cases

@@ -1,0 +1,126 @@
+-- What a judgement means: acceptance is that everything reads and no rule applies, a refusal has the number of the first that applies, and leaves everything.
+use mathlib.Core.Path.{_≡_, refl, sym, ap, _∙_, subst}
+use mathlib.Core.Logic.{_⊎_, inl, inr}
+use mathlib.Core.Bool.{Bool, true, false}
+use mathlib.Core.List.{List, [], _∷_, _++_, List·Memᴰ, List·Memᴰ·head, List·Memᴰ·tail, List·Memᴰ·not-nil}
+use mathlib.Core.Option.{Option, none, some}
+use Prim.Native.Nat.{ℕ, zero, suc, _≤_, _<_}
+use native.Mathlib.Omega.{arith}
+use Rattle.lists.specs.Choice.{choose, provided}
+use Rattle.lists.specs.Lists.{Bytes}
+use Rattle.rules.specs.State.{State}
+use Rattle.rules.specs.Refusals.{Inputs, Call, Judgement, refused, passed, reading, readCall, Rule, checks, lastChecks, tried, triedAfter, judge}
+use Rattle.rules.specs.Calls.{numberOf, stateAfter, valueOf, written, outputAfter, textOf, textAfter}
+
+-- no rule of a list applies to a call
+abbrev pub NoneApplies : List Rule → Call → Type 0
+NoneApplies [] c = Unit {0}
+NoneApplies (r ∷ rs) c = (r .applies c ≡ false) × NoneApplies rs c
+
+-- a call that no rule applies to passes
+pub passes : (rs : List Rule) (c : Call) → NoneApplies rs c → tried rs c ≡ passed c
+unfolding tried choose
+passes [] c h = refl
+passes (r ∷ rs) c (a, h) = rw a (passes rs c h)
+
+-- the first rule of a list that applies to a call has the number k
+abbrev pub FirstApplies : List Rule → Call → ℕ → Type 0
+FirstApplies [] c k = ⊥
+FirstApplies (r ∷ rs) c k = ((r .applies c ≡ true) × (r .number ≡ k)) ⊎ ((r .applies c ≡ false) × FirstApplies rs c k)
+
+-- a call is refused with the number of the first rule that applies
+pub refuses : (rs : List Rule) (c : Call) (k : ℕ) → FirstApplies rs c k → tried rs c ≡ refused k
+unfolding tried choose
+refuses [] c k h = absurd h
+refuses (r ∷ rs) c k (inl (a, n)) = rw a (ap refused n)
+refuses (r ∷ rs) c k (inr (a, h)) = rw a (refuses rs c k h)
+
+-- what became of a call, from the answer
+abbrev pub Tried : List Rule → Call → Judgement → Type 0
+Tried rs c (refused k) = FirstApplies rs c k
+Tried rs c (passed d) = (d ≡ c) × NoneApplies rs c
+
+-- one rule more, before the others
+tried-more : (r : Rule) (rs : List Rule) (c : Call) → r .applies c ≡ false → (j : Judgement) → Tried rs c j → Tried (r ∷ rs) c j
+tried-more r rs c a (refused k) h = inr (a, h)
+tried-more r rs c a (passed d) (e, h) = (e, (a, h))
+
+pub tried-meaning : (rs : List Rule) (c : Call) → Tried rs c (tried rs c)
+unfolding tried choose
+tried-meaning [] c = (refl, tt)
+tried-meaning (r ∷ rs) c = go (r .applies c) refl (tried-meaning rs c)
+  where
+    go : (b : Bool) → r .applies c ≡ b → Tried rs c (tried rs c) → Tried (r ∷ rs) c (choose b (λ _. refused (r .number)) (λ _. tried rs c))
+    go true q h = inl (q, refl)
+    go false q h = tried-more r rs c q (tried rs c) h
+
+-- ---- search and monitoring
+
+-- acceptance: everything reads, and none of 6 to 16 applies
+pub accepted-meaning : (s : Option State) (i : Inputs) (c : Call) → judge s i ≡ passed c → (readCall s i ≡ passed c) × NoneApplies (checks ++ lastChecks) c
+unfolding judge triedAfter
+accepted-meaning s i c = go (readCall s i) refl
+  where
+    inner : (d : Call) → readCall s i ≡ passed d → (j : Judgement) → Tried (checks ++ lastChecks) d j → j ≡ passed c
+        → (readCall s i ≡ passed c) × NoneApplies (checks ++ lastChecks) c
+    inner d r (refused k) h e = absurd (let z : _≡_ {A = ℕ} 0 1 = cc in omega arith)
+    inner d r (passed f) (q, h) e =
+        let z : f ≡ c = cc in
+        let w : d ≡ c = sym q ∙ z in
+        (r ∙ ap passed w, subst (NoneApplies (checks ++ lastChecks)) w h)
+
+    go : (j : Judgement) → readCall s i ≡ j → triedAfter (checks ++ lastChecks) j ≡ passed c → (readCall s i ≡ passed c) × NoneApplies (checks ++ lastChecks) c
+    go (refused k) r e = absurd (let z : _≡_ {A = ℕ} 0 1 = cc in omega arith)
+    go (passed d) r e = inner d r (tried (checks ++ lastChecks) d) (tried-meaning (checks ++ lastChecks) d) e
+
+-- and the other way
+pub acceptance : (s : Option State) (i : Inputs) (c : Call) → readCall s i ≡ passed c → NoneApplies (checks ++ lastChecks) c → judge s i ≡ passed c
+unfolding judge triedAfter
+acceptance s i c r h = rw r (passes (checks ++ lastChecks) c h)
+
+-- a number of the list
+abbrev pub IsNumber : ℕ → Type 0
+IsNumber k = (1 ≤ k) × (k ≤ 16)
+
+-- a reading, whatever follows it, refuses with one of the sixteen if the rest does
+abbrev Numbered : Judgement → Type 0
+Numbered (refused k) = IsNumber k
+Numbered (passed c) = Unit {0}
+
+reading-numbered : {A : Type 0} (k : ℕ) (o : Option A) (next : A → Judgement) → IsNumber k → ((a : A) → Numbered (next a)) → Numbered (reading k o next)
+unfolding reading
+reading-numbered k none next n h = n
+reading-numbered k (some a) next n h = h a
+
+abbrev AllNumbered : List Rule → Type 0
+AllNumbered [] = Unit {0}
+AllNumbered (r ∷ rs) = IsNumber (r .number) × AllNumbered rs
+
+tried-numbered : (rs : List Rule) (c : Call) → AllNumbered rs → Numbered (tried rs c)
+unfolding tried choose
+tried-numbered [] c h = tt
+tried-numbered (r ∷ rs) c (n, h) = go (r .applies c) (tried-numbered rs c h)
+  where
+    go : (b : Bool) → Numbered (tried rs c) → Numbered (choose b (λ _. refused (r .number)) (λ _. tried rs c))
+    go true k = n
+    go false k = k
+
+-- every refusal has one of the sixteen numbers
+pub sixteen-numbers : (s : Option State) (i : Inputs) (k : ℕ) → judge s i ≡ refused k → IsNumber k
+unfolding judge triedAfter checks lastChecks readCall
+sixteen-numbers s i k e = subst Numbered e (after (readCall s i) (
+    reading-numbered 1 _ _ (omega arith) λ _.
+    reading-numbered 2 _ _ (omega arith) λ _.
+    reading-numbered 3 _ _ (omega arith) λ _.
+    reading-numbered 4 _ _ (omega arith) λ _.
+    reading-numbered 5 _ _ (omega arith) λ _. tt))
+  where
+    after : (j : Judgement) → Numbered j → Numbered (triedAfter (checks ++ lastChecks) j)
+    after (refused n) h = h
+    after (passed c) h = tried-numbered (checks ++ lastChecks) c (omega arith)
+
+-- a refusal leaves the state, the output bytes and the bytes lent for the new text as given
+pub refusal-leaves : (s : Option State) (output newText : Bytes) (k : ℕ)
+    → (stateAfter s (refused k) ≡ s) × (outputAfter output (refused k) ≡ output) × (textAfter newText (refused k) ≡ newText)
+unfolding stateAfter outputAfter textAfter valueOf textOf written
+refusal-leaves s output newText k = (refl, refl, refl)
