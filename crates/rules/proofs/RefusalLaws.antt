@@ -11,6 +11,7 @@ use Rattle.lists.specs.Lists.{Bytes}
 use Rattle.rules.specs.State.{State}
 use Rattle.rules.specs.Refusals.{Inputs, Call, Judgement, refused, passed, reading, readCall, Rule, checks, lastChecks, tried, triedAfter, judge}
 use Rattle.rules.specs.Calls.{numberOf, stateAfter, valueOf, written, outputAfter, textOf, textAfter}
+use Rattle.rules.specs.Consistency.{accepted, acceptedCalls}
 
 -- no rule of a list applies to a call
 abbrev pub NoneApplies : List Rule → Call → Type 0
@@ -124,3 +125,25 @@ pub refusal-leaves : (s : Option State) (output newText : Bytes) (k : ℕ)
     → (stateAfter s (refused k) ≡ s) × (outputAfter output (refused k) ≡ output) × (textAfter newText (refused k) ≡ newText)
 unfolding stateAfter outputAfter textAfter valueOf textOf written
 refusal-leaves s output newText k = (refl, refl, refl)
+
+-- the number 0 is acceptance
+pub zero-accepts : (s : Option State) (i : Inputs) → numberOf (judge s i) ≡ 0 → (c : Call) × (judge s i ≡ passed c)
+unfolding numberOf
+zero-accepts s i e = go (judge s i) refl e
+  where
+    go : (j : Judgement) → judge s i ≡ j → numberOf j ≡ 0 → (c : Call) × (judge s i ≡ passed c)
+    go (refused k) q z = let n = sixteen-numbers s i k q in absurd (omega arith)
+    go (passed c) q z = (c, q)
+
+-- ---- chains
+
+-- an accepted call is the first of the accepted ones, and the rest of the chain goes on from the state it gave
+pub chain-accepted : (s : Option State) (i : Inputs) (is : List Inputs) (c : Call) → judge s i ≡ passed c
+    → acceptedCalls s (i ∷ is) ≡ c ∷ acceptedCalls (stateAfter s (judge s i)) is
+unfolding acceptedCalls accepted
+chain-accepted s i is c q = ap (λ (j : Judgement). accepted j ++ acceptedCalls (stateAfter s (judge s i)) is) q
+
+-- a refused call is not among the accepted ones, and the rest of the chain goes on from the state that it was given
+pub chain-refused : (s : Option State) (i : Inputs) (is : List Inputs) (k : ℕ) → judge s i ≡ refused k → acceptedCalls s (i ∷ is) ≡ acceptedCalls s is
+unfolding acceptedCalls accepted stateAfter
+chain-refused s i is k q = ap (λ (j : Judgement). accepted j ++ acceptedCalls (stateAfter s j) is) q

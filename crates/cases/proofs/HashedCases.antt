@@ -1,0 +1,128 @@
+-- Whole calls that hash: monitoring after the accepted search, and refusals from 12 on.
+use mathlib.Core.Path.{_≡_, refl, ap, _∙_}
+use mathlib.Core.List.{List, [], _∷_, _++_}
+use mathlib.Core.Option.{Option, some}
+use Prim.Native.Nat.{ℕ}
+use Rattle.lists.specs.Lists.{Bytes}
+use Rattle.lines.specs.Number.{ascii}
+use Rattle.rules.specs.Limits.{responseLimit}
+use Rattle.rules.specs.State.{State}
+use Rattle.rules.specs.Response.{monitor}
+use Rattle.rules.specs.Refusals.{Inputs, Call, refused, judge}
+use Rattle.rules.specs.Calls.{numberOf, stateAfter}
+use Rattle.rules.specs.Consistency.{acceptedCalls}
+use Rattle.rules.proofs.RefusalLaws.{zero-accepts, chain-accepted, chain-refused}
+use Rattle.rules.proofs.Running.{x, outcome, outcomeOf, opened}
+use Rattle.rules.proofs.Cases.{Refused, Accepted, identifier, configuration, sheet-0, sheet-1, log-root, signed, kt-line, head-line, target-line, step-lines, entry-line, in-line, nl-line, end-line, response, searching, honest, answering, new, kept, pair, after-search, accepted-search}
+
+-- ---- monitoring: version 1 was added in a second entry, which stands on the right path of entry 0
+
+abbrev root-of-two : Bytes
+root-of-two = x "586c84a5bec17d274bd69152ce3b4bae918e614b514f266376c6ee0baf8df895"
+
+abbrev monitoring : Inputs
+monitoring =
+    record {
+      limit = responseLimit;
+      kind = some monitor;
+      response =
+          ascii "kt\tmonitor\t000102030405060708090a0b0c0d0e0f\t61\n" ++ ascii "head\t2\n"
+          ++ ascii "step\t0\tc337ee9f07ed7b3ce06bb323f8170d5b410c219602c13456b3dbbe0f70f95d62\n"
+          ++ ascii "entry\t1\t1001\tb19a756adc46aded582c0152f539fc2af21ee6b91b6923e1f65e6546d5fa9acc\n"
+          ++ ascii "in\t0\t5ec370ac7057c9571e7b94f29e374d6aadfab6e9ad8340962e2a64acd3a7b2dd\n" ++ end-line;
+      configuration = configuration;
+      identifier = identifier;
+      clock = 1000;
+      vrfOutputs = sheet-0;
+      signedText = configuration ++ x "0000000000000002" ++ root-of-two;
+      room = 0;
+    }
+
+abbrev after-monitoring : State
+after-monitoring = record { label = x "61"; size = 2; time = 1001; values = root-of-two ∷ []; monitoringMap = pair 1 0 ∷ [] }
+
+pub accepted-monitoring : Accepted (some after-search) monitoring after-monitoring []
+unfolding opened
+accepted-monitoring = refl
+
+-- ---- 12
+
+-- the prefix tree with both versions
+abbrev later-entry : Bytes
+later-entry = ascii "entry\t0\t1000\tb19a756adc46aded582c0152f539fc2af21ee6b91b6923e1f65e6546d5fa9acc\n"
+
+abbrev later-in : Bytes
+later-in = ascii "in\t0\t5ec370ac7057c9571e7b94f29e374d6aadfab6e9ad8340962e2a64acd3a7b2dd\n"
+
+-- the other leaf is the searched one, and its path leads to the root
+pub other-leaf-is-the-searched-one : Refused new (answering (kt-line ++ head-line ++ target-line ++ step-lines ++ later-entry ++ later-in
+    ++ ascii "nl\t1\t8011111111111111111111111111111111111111111111111111111111111111\t968f18585a843fc80a00eb091832100684a027b1c068b755b0ca8c88223818aa\t0470a5b73e5d7206f13eb1efafa43a2e45df17b7bca61b55cda03fac3c31c624\n"
+    ++ end-line)) 12
+unfolding opened
+other-leaf-is-the-searched-one = refl
+
+-- another value than the one committed to
+pub other-value : Refused new (answering (kt-line ++ head-line ++ ascii "target\t0\t30303030303030303030303030303030\t79\n" ++ step-lines ++ entry-line ++ in-line ++ nl-line ++ end-line)) 12
+unfolding opened
+other-value = refl
+
+-- ---- 13
+
+-- an `in` above t: its path is not tried
+pub in-above-target : Refused new (answering (kt-line ++ head-line ++ target-line ++ step-lines ++ entry-line ++ in-line ++ ascii "in\t1\t-\n" ++ end-line)) 13
+unfolding opened
+in-above-target = refl
+
+-- the only entry is short
+pub last-entry-short : Refused new (answering (kt-line ++ head-line ++ target-line ++ step-lines
+    ++ ascii "entry\t0\t1000\t0000000000000000000000000000000000000000000000000000000000000000\n" ++ ascii "no\t0\t-\n" ++ end-line)) 13
+unfolding opened
+last-entry-short = refl
+
+-- ---- 14, 15, 16
+
+-- the kept value of the shown entry is another
+pub kept-value-differs : Refused (some (kept 1 (x "6942d1bc293083ea7b011b18167d992105f9bcb8cf66364b49417fd93dbb2c23") [])) honest 14
+unfolding opened
+kept-value-differs = refl
+
+pub other-root-signed : Refused new (searching response configuration identifier 1000 (sheet-0 ++ sheet-1)
+    (configuration ++ x "00000000000000016942d1bc293083ea7b011b18167d992105f9bcb8cf66364b49417fd93dbb2c23") 1) 15
+unfolding opened
+other-root-signed = refl
+
+pub no-room : Refused new (searching response configuration identifier 1000 (sheet-0 ++ sheet-1) signed 0) 16
+unfolding opened
+no-room = refl
+
+-- ---- a chain: a search with the clock too early, the accepted search, monitoring
+
+abbrev early : Inputs
+early = searching response configuration identifier 989 (sheet-0 ++ sheet-1) signed 1
+
+early-refused : judge new early ≡ refused 11
+unfolding opened
+early-refused = refl
+
+-- the number and the state of an outcome
+number-of : (s t : Option State) (i : Inputs) (k : ℕ) (v : Bytes) → outcome s i ≡ (k, (t, v)) → numberOf (judge s i) ≡ k
+unfolding outcome outcomeOf
+number-of s t i k v e = ap (λ (o : ℕ × (Option State × Bytes)). o .0) e
+
+state-of : (s t : Option State) (i : Inputs) (k : ℕ) (v : Bytes) → outcome s i ≡ (k, (t, v)) → stateAfter s (judge s i) ≡ t
+unfolding outcome outcomeOf
+state-of s t i k v e = ap (λ (o : ℕ × (Option State × Bytes)). o .1 .0) e
+
+-- two of its three calls are accepted, each call with the state that the last one returned
+pub chain-of-three : (c d : Call) × (acceptedCalls new (early ∷ honest ∷ monitoring ∷ []) ≡ c ∷ d ∷ [])
+unfolding acceptedCalls
+chain-of-three =
+    let a = zero-accepts new honest (number-of new (some after-search) honest 0 (x "78") accepted-search) in
+    let b = zero-accepts (some after-search) monitoring (number-of (some after-search) (some after-monitoring) monitoring 0 [] accepted-monitoring) in (
+      a .0,
+      b .0,
+      chain-refused new early (honest ∷ monitoring ∷ []) 11 early-refused
+          ∙ chain-accepted new honest (monitoring ∷ []) (a .0) (a .1)
+          ∙ ap (λ (s : Option State). a .0 ∷ acceptedCalls s (monitoring ∷ [])) (state-of new (some after-search) honest 0 (x "78") accepted-search)
+          ∙ ap (λ (cs : List Call). a .0 ∷ cs) (chain-accepted (some after-search) monitoring [] (b .0) (b .1)),
+    )
