@@ -1,1 +1,4 @@
 pub mod Computing
+pub mod NumberLaws
+pub mod HexLaws
+pub mod LineLaws

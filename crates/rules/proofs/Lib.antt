@@ -1,5 +1,7 @@
 pub mod Computing
-pub mod Running
+pub mod StateLaws
+pub mod StateTextLaws
 pub mod RefusalLaws
+pub mod Running
 pub mod RuleExamples
 pub mod Cases

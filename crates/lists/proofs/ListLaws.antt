@@ -1,0 +1,228 @@
+-- Laws of tests and of steps that may fail (specs/Choice.antt), and of tests on lists (specs/Lists.antt).
+use mathlib.Core.Path.{_≡_, refl, sym, _∙_, ap, ap₂}
+use mathlib.Core.Logic.{_⊎_, inl, inr}
+use mathlib.Core.Bool.{Bool, true, false, _&&_, _||_, false≢true}
+use mathlib.Core.List.{List, [], _∷_, _++_, map, List·Memᴰ, List·Memᴰ·head, List·Memᴰ·tail, List·Memᴰ·cases-cons, List·Memᴰ·not-nil}
+use mathlib.Core.Option.{Option, none, some, bind, Option·map, Option·some-injective, Option·none-ne-some}
+use Prim.Native.Nat.{ℕ}
+use lib.Dec.{eqb}
+use borrow.Author.Tests.{eq-eqb, eqb-true}
+use Rattle.lists.specs.Choice.{choose, provided, _>>_, orElse}
+use Rattle.lists.specs.Lists.{all, every, any, same}
+
+-- ---- two tests
+
+-- if both tests together hold, each does
+pub and-holds : (s t : Bool) → (s && t) ≡ true → (s ≡ true) × (t ≡ true)
+and-holds true t e = (refl, e)
+and-holds false t e = absurd (false≢true e)
+
+-- if each of two tests holds, both together do
+pub holds-and : (s t : Bool) → s ≡ true → t ≡ true → (s && t) ≡ true
+holds-and s t p q = rw (p, q) refl
+
+-- if one of two tests holds, it is the first or the second
+pub or-holds : (s t : Bool) → (s || t) ≡ true → (s ≡ true) ⊎ (t ≡ true)
+or-holds true t e = inl refl
+or-holds false t e = inr e
+
+-- if none of two tests holds, neither does
+pub or-fails : (s t : Bool) → (s || t) ≡ false → (s ≡ false) × (t ≡ false)
+or-fails true t e = absurd (false≢true (sym e))
+or-fails false t e = (refl, e)
+
+-- ---- choices
+
+-- where the test holds, the first is chosen
+pub choose-true : {A : Type 0} (t : Bool) (a b : Unit {0} → A) → t ≡ true → choose t a b ≡ a tt
+unfolding choose
+choose-true t a b e = rw e refl
+
+-- where it does not, the second is chosen
+pub choose-false : {A : Type 0} (t : Bool) (a b : Unit {0} → A) → t ≡ false → choose t a b ≡ b tt
+unfolding choose
+choose-false t a b e = rw e refl
+
+-- a choice between two things of which something holds, each where it may be chosen
+pub choose-by : {A : Type 0} (P : A → Type 0) (t : Bool) (a b : Unit {0} → A) → (t ≡ true → P (a tt)) → (t ≡ false → P (b tt)) → P (choose t a b)
+unfolding choose
+choose-by P true a b p q = p refl
+choose-by P false a b p q = q refl
+
+-- ---- steps that may fail
+
+-- a value is provided if the test holds
+pub provided-true : {A : Type 0} (t : Bool) (a : A) → t ≡ true → provided t a ≡ some a
+unfolding provided
+provided-true t a e = rw e refl
+
+-- where a value is provided, the test holds, and the value is the one given
+pub provided-some : {A : Type 0} (t : Bool) (a b : A) → provided t a ≡ some b → (t ≡ true) × (a ≡ b)
+unfolding provided
+provided-some true a b e = (refl, Option·some-injective a b e)
+provided-some false a b e = absurd (Option·none-ne-some b e)
+
+-- a test that holds is passed over
+pub test-true : {A : Type 0} (t : Bool) (o : Option A) → t ≡ true → (t >> o) ≡ o
+unfolding _>>_
+test-true t o e = rw e refl
+
+-- where the steps after a test give a value, the test holds
+pub test-some : {A : Type 0} (t : Bool) (o : Option A) (a : A) → (t >> o) ≡ some a → (t ≡ true) × (o ≡ some a)
+unfolding _>>_
+test-some true o a e = (refl, e)
+test-some false o a e = absurd (Option·none-ne-some a e)
+
+-- a step that gives a value hands it to the next
+pub bind-at : {A B : Type 0} (o : Option A) (f : A → Option B) (a : A) → o ≡ some a → bind o f ≡ f a
+unfolding bind
+bind-at o f a e = rw e refl
+
+-- where two steps give a value, the first gave one, from which the second made it
+pub bind-some : {A B : Type 0} (o : Option A) (f : A → Option B) (b : B) → bind o f ≡ some b → (a : A) × (o ≡ some a) × (f a ≡ some b)
+unfolding bind
+bind-some none f b e = absurd (Option·none-ne-some b e)
+bind-some (some a) f b e = (a, refl, e)
+
+-- where a mapped step gives a value, the step gave one of which it is made
+pub map-some : {A B : Type 0} (f : A → B) (o : Option A) (b : B) → Option·map f o ≡ some b → (a : A) × (o ≡ some a) × (f a ≡ b)
+map-some f none b e = absurd (Option·none-ne-some b e)
+map-some f (some a) b e = (a, refl, Option·some-injective (f a) b e)
+
+-- what the first or the second gives was given by the first, or by the second while the first gave none
+pub orElse-some : {A : Type 0} (o p : Option A) (a : A) → orElse o p ≡ some a → (o ≡ some a) ⊎ ((o ≡ none) × (p ≡ some a))
+unfolding orElse
+orElse-some none p a e = inr (refl, e)
+orElse-some (some b) p a e = inl e
+
+-- ---- tests on lists
+
+-- a test that holds of all elements holds of the first and of all others
+pub all-cons : {A : Type 0} (f : A → Bool) (x : A) (xs : List A) → all f (x ∷ xs) ≡ true → (f x ≡ true) × (all f xs ≡ true)
+unfolding all
+all-cons f x xs e = and-holds (f x) (all f xs) e
+
+-- a test that holds of the first and of all others holds of all
+pub cons-all : {A : Type 0} (f : A → Bool) (x : A) (xs : List A) → f x ≡ true → all f xs ≡ true → all f (x ∷ xs) ≡ true
+unfolding all
+cons-all f x xs p q = holds-and (f x) (all f xs) p q
+
+-- a test that holds of all elements holds of each
+pub all-at : {A : Type 0} (f : A → Bool) (xs : List A) (x : A) → all f xs ≡ true → List·Memᴰ x xs → f x ≡ true
+all-at f [] x e i = absurd (List·Memᴰ·not-nil i)
+all-at f (y ∷ ys) x e i = let h = all-cons f y ys e in go (h .0) (λ j. all-at f ys x (h .1) j) (List·Memᴰ·cases-cons i)
+  where
+    go : f y ≡ true → (List·Memᴰ x ys → f x ≡ true) → (x ≡ y) ⊎ List·Memᴰ x ys → f x ≡ true
+    go p q (inl z) = ap f z ∙ p
+    go p q (inr j) = q j
+
+-- a test that holds of each element holds of all
+pub at-all : {A : Type 0} (f : A → Bool) (xs : List A) → ((x : A) → List·Memᴰ x xs → f x ≡ true) → all f xs ≡ true
+unfolding all
+at-all f [] h = refl
+at-all f (y ∷ ys) h = holds-and (f y) (all f ys) (h y (List·Memᴰ·head refl)) (at-all f ys (λ x i. h x (List·Memᴰ·tail i)))
+
+-- a test holds of all elements of two lists one after the other if it holds of all elements of each
+pub all-append : {A : Type 0} (f : A → Bool) (xs ys : List A) → all f xs ≡ true → all f ys ≡ true → all f (xs ++ ys) ≡ true
+all-append f [] ys p q = q
+all-append f (x ∷ xs) ys p q = let h = all-cons f x xs p in cons-all f x (xs ++ ys) (h .0) (all-append f xs ys (h .1) q)
+
+-- where one test implies another, the other holds of all elements of which the one does
+pub all-implied : {A : Type 0} (f g : A → Bool) (xs : List A) → ((x : A) → f x ≡ true → g x ≡ true) → all f xs ≡ true → all g xs ≡ true
+unfolding all
+all-implied f g [] h e = refl
+all-implied f g (x ∷ xs) h e = let p = all-cons f x xs e in holds-and (g x) (all g xs) (h x (p .0)) (all-implied f g xs h (p .1))
+
+-- what is made of an element is among what is made of the elements
+pub mapped-at : {A B : Type 0} (f : A → B) (xs : List A) (x : A) → List·Memᴰ x xs → List·Memᴰ (f x) (map f xs)
+mapped-at f xs x (List·Memᴰ·head e) = List·Memᴰ·head (ap f e)
+mapped-at f xs x (List·Memᴰ·tail {xs = ys} m) = List·Memᴰ·tail (mapped-at f ys x m)
+
+-- a test that holds of what is made of each element holds of all that is made
+pub all-mapped : {A B : Type 0} (t : B → Bool) (f : A → B) (xs : List A) → ((x : A) → List·Memᴰ x xs → t (f x) ≡ true) → all t (map f xs) ≡ true
+unfolding all
+all-mapped t f [] h = refl
+all-mapped t f (x ∷ xs) h = rw (h x (List·Memᴰ·head refl)) (all-mapped t f xs (λ y m. h y (List·Memᴰ·tail m)))
+
+-- a test that holds of any element holds of one that is there
+pub any-at : {A : Type 0} (f : A → Bool) (xs : List A) → any f xs ≡ true → (x : A) × List·Memᴰ x xs × (f x ≡ true)
+unfolding any
+any-at f [] e = absurd (false≢true e)
+any-at {A} f (y ∷ ys) e = go (any-at f ys) (or-holds (f y) (any f ys) e)
+  where
+    go : (any f ys ≡ true → (x : A) × List·Memᴰ x ys × (f x ≡ true)) → (f y ≡ true) ⊎ (any f ys ≡ true) → (x : A) × List·Memᴰ x (y ∷ ys) × (f x ≡ true)
+    go q (inl p) = (y, List·Memᴰ·head refl, p)
+    go q (inr p) = let (x, i, h) = q p in (x, List·Memᴰ·tail i, h)
+
+-- a test that holds of one element holds of any
+pub at-any : {A : Type 0} (f : A → Bool) (xs : List A) (x : A) → List·Memᴰ x xs → f x ≡ true → any f xs ≡ true
+unfolding any
+at-any f [] x i e = absurd (List·Memᴰ·not-nil i)
+at-any f (y ∷ ys) x i e = go (f y) refl (λ j. at-any f ys x j e) (List·Memᴰ·cases-cons i)
+  where
+    go : (t : Bool) → f y ≡ t → (List·Memᴰ x ys → any f ys ≡ true) → (x ≡ y) ⊎ List·Memᴰ x ys → (t || any f ys) ≡ true
+    go true p q i = refl
+    go false p q (inl z) = absurd (false≢true (sym p ∙ ap f (sym z) ∙ e))
+    go false p q (inr j) = q j
+
+-- a test that fails of any element fails of each
+pub any-false : {A : Type 0} (f : A → Bool) (xs : List A) (x : A) → any f xs ≡ false → List·Memᴰ x xs → f x ≡ false
+any-false f xs x e i = go (f x) refl
+  where
+    go : (t : Bool) → f x ≡ t → t ≡ false
+    go true p = absurd (false≢true (sym e ∙ at-any f xs x i p))
+    go false p = refl
+
+-- where all tests of a list hold, the first and all others do
+pub every-cons : (b : Bool) (bs : List Bool) → every (b ∷ bs) ≡ true → (b ≡ true) × (every bs ≡ true)
+unfolding every
+every-cons b bs e = and-holds b (every bs) e
+
+-- ---- equal lists
+
+-- a list is the same as itself
+pub same-refl : (xs : List ℕ) → same xs xs ≡ true
+unfolding same
+same-refl [] = refl
+same-refl (x ∷ xs) = holds-and (eqb x x) (same xs xs) (eq-eqb x x refl) (same-refl xs)
+
+-- lists that are the same are equal
+pub same-true : (xs ys : List ℕ) → same xs ys ≡ true → xs ≡ ys
+unfolding same
+same-true [] [] e = refl
+same-true [] (y ∷ ys) e = absurd (false≢true e)
+same-true (x ∷ xs) [] e = absurd (false≢true e)
+same-true (x ∷ xs) (y ∷ ys) e = let h = and-holds (eqb x y) (same xs ys) e in ap₂ _∷_ (eqb-true x y (h .0)) (same-true xs ys (h .1))
+
+-- equal lists are the same
+pub equal-same : (xs ys : List ℕ) → xs ≡ ys → same xs ys ≡ true
+equal-same xs ys e = rw e (same-refl ys)
+
+-- lists that are not the same differ
+pub same-false : (xs ys : List ℕ) → same xs ys ≡ false → xs ≡ ys → ⊥
+same-false xs ys e q = false≢true (sym e ∙ equal-same xs ys q)
+
+-- lists that differ are not the same
+pub differ-same : (xs ys : List ℕ) → (xs ≡ ys → ⊥) → same xs ys ≡ false
+differ-same xs ys h = go (same xs ys) refl
+  where
+    go : (t : Bool) → same xs ys ≡ t → t ≡ false
+    go true e = absurd (h (same-true xs ys e))
+    go false e = refl
+
+-- ---- lists without a number
+
+-- no element is k
+abbrev pub Lacks : ℕ → List ℕ → Type 0
+Lacks k [] = Unit {0}
+Lacks k (x ∷ xs) = (x ≡ k → ⊥) × Lacks k xs
+
+-- two lists one after the other lack what each lacks
+pub lacks-append : (k : ℕ) (xs ys : List ℕ) → Lacks k xs → Lacks k ys → Lacks k (xs ++ ys)
+lacks-append k [] ys p q = q
+lacks-append k (x ∷ xs) ys p q = (p .0, lacks-append k xs ys (p .1) q)
+
+-- a list of whose elements a test holds lacks a number of which it does not
+pub all-lacks : (f : ℕ → Bool) (k : ℕ) (xs : List ℕ) → f k ≡ false → all f xs ≡ true → Lacks k xs
+all-lacks f k [] e h = tt
+all-lacks f k (x ∷ xs) e h = let p = all-cons f x xs h in (λ q. false≢true (sym e ∙ ap f (sym q) ∙ p .0), all-lacks f k xs e (p .1))

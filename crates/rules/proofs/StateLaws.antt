@@ -1,0 +1,83 @@
+-- What a valid state keeps to (specs/State.antt).
+use mathlib.Core.Path.{_≡_, refl, _∙_, ap}
+use mathlib.Core.Bool.{true, _||_}
+use mathlib.Core.List.{List·Memᴰ}
+use Prim.Native.Nat.{ℕ, _+_, _*_, _^_, _≤_, _<_}
+use native.Mathlib.Decide.{decLt}
+use native.Mathlib.Omega.{arith}
+use lib.Dec.{eqb, leb, ltb}
+use lib.ListN.{length}
+use lib.Count.{ones, onesIn, ones-cat, ones-le}
+use borrow.Author.Tests.{le-leb, lt-ltb, eq-eqb, leb-true, ltb-true, eqb-true}
+use Rattle.lists.specs.Lists.{Bytes, every, rising}
+use Rattle.lists.proofs.ListLaws.{every-cons, all-at, at-all, mapped-at, all-mapped}
+use Rattle.tree.specs.LogTree.{fullSubtrees}
+use Rattle.tree.proofs.FullLaws.{full-length}
+use Rattle.rules.specs.Limits.{labelLimit, treeSizeLimit, greatestVersion, mapLimit, hashLength}
+use Rattle.rules.specs.State.{MapEntry, State, positions, versions, isValid}
+
+-- what the tests of a state say
+pub record Valid (s : State) : Type 0 where
+  pub labelFits : length (s .label) ≤ labelLimit
+  pub sizeFits : s .size ≤ treeSizeLimit
+  pub timeFits : (ltb 0 (s .size) || eqb (s .time) 0) ≡ true
+  pub valuesCount : length (s .values) ≡ length (fullSubtrees (s .size))
+  pub valueLength : (v : Bytes) → List·Memᴰ v (s .values) → length v ≡ hashLength
+  pub mapFits : length (s .monitoringMap) ≤ mapLimit
+  pub mapRises : rising (positions (s .monitoringMap)) ≡ true
+  pub positionFits : (e : MapEntry) → List·Memᴰ e (s .monitoringMap) → e .position < s .size
+  pub versionFits : (e : MapEntry) → List·Memᴰ e (s .monitoringMap) → e .version ≤ greatestVersion
+
+-- a valid state passes each test
+pub valid-was : (s : State) → isValid s ≡ true → Valid s
+unfolding isValid
+valid-was s e =
+    let (a, e1) = every-cons _ _ e in
+    let (b, e2) = every-cons _ _ e1 in
+    let (c, e3) = every-cons _ _ e2 in
+    let (d, e4) = every-cons _ _ e3 in
+    let (f, e5) = every-cons _ _ e4 in
+    let (g, e6) = every-cons _ _ e5 in
+    let (h, e7) = every-cons _ _ e6 in
+    let (i, e8) = every-cons _ _ e7 in
+    let (j, e9) = every-cons _ _ e8 in
+    record {
+      labelFits = leb-true _ _ a;
+      sizeFits = leb-true _ _ b;
+      timeFits = c;
+      valuesCount = eqb-true _ _ d;
+      valueLength = λ v m. eqb-true _ _ (all-at (λ (v : Bytes). eqb (length v) hashLength) (s .values) v f m);
+      mapFits = leb-true _ _ g;
+      mapRises = h;
+      positionFits = λ x m.
+          let w = mapped-at (λ (y : MapEntry). y .position) (s .monitoringMap) x m in
+          ltb-true _ _ (all-at (λ (p : ℕ). ltb p (s .size)) (positions (s .monitoringMap)) (x .position) i w);
+      versionFits = λ x m.
+          let w = mapped-at (λ (y : MapEntry). y .version) (s .monitoringMap) x m in
+          leb-true _ _ (all-at (λ (v : ℕ). leb v greatestVersion) (versions (s .monitoringMap)) (x .version) j w);
+    }
+
+-- a state that passes each test is valid
+pub valid-is : (s : State) → Valid s → isValid s ≡ true
+unfolding isValid every
+valid-is s v =
+    let a : leb (length (s .label)) labelLimit ≡ true = le-leb _ _ (v .labelFits) in
+    let b : leb (s .size) treeSizeLimit ≡ true = le-leb _ _ (v .sizeFits) in
+    let c : eqb (length (s .values)) (length (fullSubtrees (s .size))) ≡ true = eq-eqb _ _ (v .valuesCount) in
+    let d = at-all (λ (x : Bytes). eqb (length x) hashLength) (s .values) (λ x m. eq-eqb _ _ (v .valueLength x m)) in
+    let e : leb (length (s .monitoringMap)) mapLimit ≡ true = le-leb _ _ (v .mapFits) in
+    let f = all-mapped (λ (p : ℕ). ltb p (s .size)) (λ (x : MapEntry). x .position) (s .monitoringMap) (λ x m. lt-ltb _ _ (v .positionFits x m)) in
+    let g = all-mapped (λ (n : ℕ). leb n greatestVersion) (λ (x : MapEntry). x .version) (s .monitoringMap) (λ x m. le-leb _ _ (v .versionFits x m)) in
+    rw (a, b, v .timeFits, c, d, e, v .mapRises, f, g) refl
+
+-- a valid state has at most 40 values: below 2 ^ 40 a size has no more than 40 digits, and 2 ^ 40 itself has one set digit
+pub values-few : (s : State) → Valid s → length (s .values) ≤ 40
+unfolding ones onesIn
+values-few s v = let b = v .sizeFits in rw (v .valuesCount ∙ full-length (s .size)) (go (s .size) b (decLt (s .size) (2 ^ 40)))
+  where
+    go : (m : ℕ) → m ≤ 2 ^ 40 → Dec (m < 2 ^ 40) → ones m ≤ 40
+    go m b (yes h) = ones-le 40 m h
+    go m b (no h) =
+        let z : m ≡ 1 * 2 ^ 40 + 0 = omega arith in
+        let o : ones m ≡ 1 = ap ones z ∙ ones-cat 40 1 0 (omega arith) in
+        omega arith
