@@ -1,7 +1,7 @@
 -- Whole calls that hash: monitoring after the accepted search, and refusals from 12 on.
 use mathlib.Core.Path.{_≡_, refl, ap, _∙_}
 use mathlib.Core.List.{List, [], _∷_, _++_}
-use mathlib.Core.Option.{Option, some}
+use mathlib.Core.Option.{Option, none, some}
 use Prim.Native.Nat.{ℕ}
 use Rattle.lists.specs.Lists.{Bytes}
 use Rattle.lines.specs.Number.{ascii}
@@ -13,7 +13,7 @@ use Rattle.rules.specs.Calls.{numberOf, stateAfter}
 use Rattle.rules.specs.Consistency.{acceptedCalls}
 use Rattle.rules.proofs.RefusalLaws.{zero-accepts, chain-accepted, chain-refused}
 use Rattle.rules.proofs.Running.{x, outcome, outcomeOf, opened}
-use Rattle.rules.proofs.Cases.{Refused, Accepted, identifier, configuration, sheet-0, sheet-1, log-root, signed, kt-line, head-line, target-line, step-lines, entry-line, in-line, nl-line, end-line, response, searching, honest, answering, new, kept, pair, after-search, accepted-search}
+use Rattle.rules.proofs.Cases.{Refused, Accepted, identifier, configuration, sheet-0, sheet-1, signed, kt-line, head-line, target-line, step-lines, entry-line, in-line, nl-line, end-line, response, searching, honest, answering, new, kept, pair, after-search, accepted-search}
 
 -- ---- monitoring: version 1 was added in a second entry, which stands on the right path of entry 0
 
@@ -41,7 +41,7 @@ monitoring =
 abbrev after-monitoring : State
 after-monitoring = record { label = x "61"; size = 2; time = 1001; values = root-of-two ∷ []; monitoringMap = pair 1 0 ∷ [] }
 
-pub accepted-monitoring : Accepted (some after-search) monitoring after-monitoring []
+pub accepted-monitoring : Accepted (some after-search) monitoring after-monitoring none
 unfolding opened
 accepted-monitoring = refl
 
@@ -105,24 +105,24 @@ unfolding opened
 early-refused = refl
 
 -- the number and the state of an outcome
-number-of : (s t : Option State) (i : Inputs) (k : ℕ) (v : Bytes) → outcome s i ≡ (k, (t, v)) → numberOf (judge s i) ≡ k
+number-of : (s t : Option State) (i : Inputs) (k : ℕ) (v : Option Bytes) → outcome s i ≡ (k, (t, v)) → numberOf (judge s i) ≡ k
 unfolding outcome outcomeOf
-number-of s t i k v e = ap (λ (o : ℕ × (Option State × Bytes)). o .0) e
+number-of s t i k v e = ap (λ (o : ℕ × (Option State × Option Bytes)). o .0) e
 
-state-of : (s t : Option State) (i : Inputs) (k : ℕ) (v : Bytes) → outcome s i ≡ (k, (t, v)) → stateAfter s (judge s i) ≡ t
+state-of : (s t : Option State) (i : Inputs) (k : ℕ) (v : Option Bytes) → outcome s i ≡ (k, (t, v)) → stateAfter s (judge s i) ≡ t
 unfolding outcome outcomeOf
-state-of s t i k v e = ap (λ (o : ℕ × (Option State × Bytes)). o .1 .0) e
+state-of s t i k v e = ap (λ (o : ℕ × (Option State × Option Bytes)). o .1 .0) e
 
 -- two of its three calls are accepted, each call with the state that the last one returned
 pub chain-of-three : (c d : Call) × (acceptedCalls new (early ∷ honest ∷ monitoring ∷ []) ≡ c ∷ d ∷ [])
 unfolding acceptedCalls
 chain-of-three =
-    let a = zero-accepts new honest (number-of new (some after-search) honest 0 (x "78") accepted-search) in
-    let b = zero-accepts (some after-search) monitoring (number-of (some after-search) (some after-monitoring) monitoring 0 [] accepted-monitoring) in (
+    let a = zero-accepts new honest (number-of new (some after-search) honest 0 (some (x "78")) accepted-search) in
+    let b = zero-accepts (some after-search) monitoring (number-of (some after-search) (some after-monitoring) monitoring 0 none accepted-monitoring) in (
       a .0,
       b .0,
       chain-refused new early (honest ∷ monitoring ∷ []) 11 early-refused
           ∙ chain-accepted new honest (monitoring ∷ []) (a .0) (a .1)
-          ∙ ap (λ (s : Option State). a .0 ∷ acceptedCalls s (monitoring ∷ [])) (state-of new (some after-search) honest 0 (x "78") accepted-search)
+          ∙ ap (λ (s : Option State). a .0 ∷ acceptedCalls s (monitoring ∷ [])) (state-of new (some after-search) honest 0 (some (x "78")) accepted-search)
           ∙ ap (λ (cs : List Call). a .0 ∷ cs) (chain-accepted (some after-search) monitoring [] (b .0) (b .1)),
     )

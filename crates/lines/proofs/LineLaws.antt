@@ -15,7 +15,7 @@ use Rattle.lists.proofs.ListLaws.{and-holds, holds-and, test-true, test-some, b
 use Rattle.lists.proofs.ListLaws.{all-cons, all-append, same-refl, same-true, Lacks, lacks-append, all-lacks}
 use Rattle.lines.specs.Hex.{readHex}
 use Rattle.lines.specs.Field.{Field, number, bytes, Value, Values, readField, readFields, writeField, writeFields}
-use Rattle.lines.specs.Line.{tab, newline, Form, Read, ontoFirst, partsAt, ended, readLines, readAfter, readLine, andThen, leading, joined, writeLine}
+use Rattle.lines.specs.Line.{tab, newline, Form, Read, ontoFirst, partsAt, ended, readLines, readAfter, readLine, andThen, leading, joined, line, writeLine}
 use Rattle.lines.proofs.NumberLaws.{isPlain, read-decimal, decimal-read, decimal-plain}
 use Rattle.lines.proofs.HexLaws.{AreBytes, read-hex, hex-read, hexField-plain}
 
@@ -214,7 +214,7 @@ lineText f vs = joined tab (lineParts f vs)
 
 -- a line that is written is its text and a newline
 pub write-line : (f : Form) (vs : Read f) → writeLine f vs ≡ lineText f vs ++ newline ∷ []
-unfolding writeLine lineText
+unfolding writeLine lineText line
 write-line f vs = refl
 
 -- no word and no field of a line has a tab or a newline

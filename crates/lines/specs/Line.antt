@@ -71,5 +71,9 @@ joined k [] = []
 joined k (p ∷ []) = p
 joined k (p ∷ q ∷ ps) = p ++ k ∷ joined k (q ∷ ps)
 
+-- parts as a line
+unfoldable pub line : List Bytes → Bytes
+line ps = joined tab ps ++ newline ∷ []
+
 unfoldable pub writeLine : (f : Form) → Read f → Bytes
-writeLine f vs = joined tab (f .words ++ writeFields (f .fields) vs) ++ newline ∷ []
+writeLine f vs = line (f .words ++ writeFields (f .fields) vs)

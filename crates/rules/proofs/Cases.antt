@@ -9,7 +9,7 @@ use Rattle.lines.specs.Number.{ascii}
 use Rattle.rules.specs.Limits.{responseLimit}
 use Rattle.rules.specs.State.{MapEntry, State, emptyState}
 use Rattle.rules.specs.StateText.{readState, writeState}
-use Rattle.rules.specs.Response.{Kind, search, monitor}
+use Rattle.rules.specs.Response.{search, monitor}
 use Rattle.rules.specs.ResponseText.{readResponse, writeResponse}
 use Rattle.rules.specs.Refusals.{Inputs}
 use Rattle.rules.specs.Calls.{numberOf}
@@ -18,9 +18,9 @@ use Rattle.rules.proofs.Running.{x, outcome, opened}
 
 -- a call answers a number and leaves the state as given; a call is accepted, with a new state and a value
 abbrev pub Refused : Option State → Inputs → ℕ → Type 0
-Refused s i k = outcome s i ≡ (k, (s, []))
+Refused s i k = outcome s i ≡ (k, (s, none))
 
-abbrev pub Accepted : Option State → Inputs → State → Bytes → Type 0
+abbrev pub Accepted : Option State → Inputs → State → Option Bytes → Type 0
 Accepted s i s′ value = outcome s i ≡ (0, (some s′, value))
 
 -- ---- the accepted search
@@ -106,7 +106,7 @@ pair p v = record { position = p; version = v }
 abbrev pub after-search : State
 after-search = kept 1 log-root (pair 0 0 ∷ [])
 
-pub accepted-search : Accepted new honest after-search (x "78")
+pub accepted-search : Accepted new honest after-search (some (x "78"))
 unfolding opened
 accepted-search = refl
 
@@ -203,7 +203,7 @@ abbrev bare-root : Bytes
 bare-root = x "1926b0eec68d03a909005453247b7c66591fbfe00c25d10b1e6c07850d1bad43"
 
 -- nothing is watched: the frontier without lookups
-pub nothing-watched : Accepted new (watching (head-line ++ bare-entry) [] (configuration ++ x "0000000000000001" ++ bare-root)) (kept 1 bare-root []) []
+pub nothing-watched : Accepted new (watching (head-line ++ bare-entry) [] (configuration ++ x "0000000000000001" ++ bare-root)) (kept 1 bare-root []) none
 unfolding opened
 nothing-watched = refl
 

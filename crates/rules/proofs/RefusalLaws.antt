@@ -2,15 +2,15 @@
 use mathlib.Core.Path.{_≡_, refl, sym, ap, _∙_, subst}
 use mathlib.Core.Logic.{_⊎_, inl, inr}
 use mathlib.Core.Bool.{Bool, true, false}
-use mathlib.Core.List.{List, [], _∷_, _++_, List·Memᴰ, List·Memᴰ·head, List·Memᴰ·tail, List·Memᴰ·not-nil}
-use mathlib.Core.Option.{Option, none, some}
-use Prim.Native.Nat.{ℕ, zero, suc, _≤_, _<_}
+use mathlib.Core.List.{List, [], _∷_, _++_}
+use mathlib.Core.Option.{Option, none, some, Option·elim}
+use Prim.Native.Nat.{ℕ, _≤_}
 use native.Mathlib.Omega.{arith}
-use Rattle.lists.specs.Choice.{choose, provided}
+use Rattle.lists.specs.Choice.{choose}
 use Rattle.lists.specs.Lists.{Bytes}
 use Rattle.rules.specs.State.{State}
 use Rattle.rules.specs.Refusals.{Inputs, Call, Judgement, refused, passed, reading, readCall, Rule, checks, lastChecks, tried, triedAfter, judge}
-use Rattle.rules.specs.Calls.{numberOf, stateAfter, valueOf, written, outputAfter, textOf, textAfter}
+use Rattle.rules.specs.Calls.{numberOf, stateAfter, valueOf, writtenFirst, outputAfter, textOf, textAfter}
 use Rattle.rules.specs.Consistency.{accepted, acceptedCalls}
 
 -- no rule of a list applies to a call
@@ -123,7 +123,7 @@ sixteen-numbers s i k e = subst Numbered e (after (readCall s i) (
 -- a refusal leaves the state, the output bytes and the bytes lent for the new text as given
 pub refusal-leaves : (s : Option State) (output newText : Bytes) (k : ℕ)
     → (stateAfter s (refused k) ≡ s) × (outputAfter output (refused k) ≡ output) × (textAfter newText (refused k) ≡ newText)
-unfolding stateAfter outputAfter textAfter valueOf textOf written
+unfolding stateAfter outputAfter textAfter valueOf textOf writtenFirst Option·elim
 refusal-leaves s output newText k = (refl, refl, refl)
 
 -- the number 0 is acceptance

@@ -1,14 +1,13 @@
 -- Small examples of single rules, without hashing: antt computes each one.
 use mathlib.Core.Path.{_≡_, refl}
-use mathlib.Core.Bool.{Bool, true, false, not, cond}
-use mathlib.Core.List.{List, [], _∷_, _++_, map}
-use mathlib.Core.Option.{none, some}
+use mathlib.Core.Bool.{Bool, true, false, cond}
+use mathlib.Core.List.{List, [], _∷_}
 use Prim.Native.Nat.{ℕ}
+use Rattle.tree.specs.Ladder.{ladder}
 use Rattle.rules.specs.State.{MapEntry}
-use Rattle.rules.specs.Response.{Lookup, Entry, Step, searched, monitored, included, absent, otherLeaf}
-use Rattle.rules.specs.Search.{Asked, askedBySearch, shortThenWhole, mapAfterSearch}
+use Rattle.rules.specs.Response.{Lookup, Entry, included, absent}
+use Rattle.rules.specs.Search.{Asked, askedBySearch, earlyThenComplete, mapAfterSearch}
 use Rattle.rules.specs.Monitoring.{askedByMonitoring, versionsOf, mapAfterMonitoring}
-use Rattle.rules.specs.Refusals.{commitmentAsked, lookupsAsked}
 use Rattle.rules.proofs.Running.{opened}
 
 abbrev pair : ℕ → ℕ → MapEntry
@@ -66,24 +65,24 @@ whole p = entry p (shows 0 true ∷ shows 1 true ∷ shows 3 false ∷ shows 2 f
 
 pub record SearchExamples : Type 0 where
   pub asked : askedBySearch 3 1 ≡ ask 1 (0 ∷ 1 ∷ 3 ∷ 2 ∷ []) ∷ ask 2 (0 ∷ 1 ∷ 3 ∷ 2 ∷ []) ∷ []
-  pub all-whole : shortThenWhole 1 (whole 3 ∷ whole 5 ∷ []) ≡ true
-  pub short-first : shortThenWhole 1 (entry 3 (shows 0 false ∷ []) ∷ entry 5 (shows 0 true ∷ shows 1 false ∷ []) ∷ whole 6 ∷ []) ≡ true
+  pub all-whole : earlyThenComplete (ladder 1) 1 (whole 3 ∷ whole 5 ∷ []) ≡ true
+  pub short-first : earlyThenComplete (ladder 1) 1 (entry 3 (shows 0 false ∷ []) ∷ entry 5 (shows 0 true ∷ shows 1 false ∷ []) ∷ whole 6 ∷ []) ≡ true
   -- the whole ladder, whose last version is up to t and missing, is short
-  pub last-missing : shortThenWhole 2 (entry 3 (shows 0 true ∷ shows 1 true ∷ shows 3 false ∷ shows 2 false ∷ [])
+  pub last-missing : earlyThenComplete (ladder 2) 2 (entry 3 (shows 0 true ∷ shows 1 true ∷ shows 3 false ∷ shows 2 false ∷ [])
       ∷ entry 4 (shows 0 true ∷ shows 1 true ∷ shows 3 false ∷ shows 2 true ∷ []) ∷ []) ≡ true
-  pub no-entry : shortThenWhole 1 [] ≡ false
-  pub last-short : shortThenWhole 1 (whole 3 ∷ entry 5 (shows 0 false ∷ []) ∷ []) ≡ false
-  pub short-between : shortThenWhole 1 (whole 3 ∷ entry 5 (shows 0 false ∷ []) ∷ whole 6 ∷ []) ≡ false
+  pub no-entry : earlyThenComplete (ladder 1) 1 [] ≡ false
+  pub last-short : earlyThenComplete (ladder 1) 1 (whole 3 ∷ entry 5 (shows 0 false ∷ []) ∷ []) ≡ false
+  pub short-between : earlyThenComplete (ladder 1) 1 (whole 3 ∷ entry 5 (shows 0 false ∷ []) ∷ whole 6 ∷ []) ≡ false
   -- `in` above t at an early entry, however right the last one is
-  pub above-early : shortThenWhole 1 (entry 3 (shows 0 true ∷ shows 1 true ∷ shows 3 true ∷ shows 2 false ∷ []) ∷ whole 5 ∷ []) ≡ false
-  pub above-in-short : shortThenWhole 2 (entry 3 (shows 0 true ∷ shows 1 true ∷ shows 3 true ∷ shows 2 false ∷ [])
+  pub above-early : earlyThenComplete (ladder 1) 1 (entry 3 (shows 0 true ∷ shows 1 true ∷ shows 3 true ∷ shows 2 false ∷ []) ∷ whole 5 ∷ []) ≡ false
+  pub above-in-short : earlyThenComplete (ladder 2) 2 (entry 3 (shows 0 true ∷ shows 1 true ∷ shows 3 true ∷ shows 2 false ∷ [])
       ∷ entry 4 (shows 0 true ∷ shows 1 true ∷ shows 3 false ∷ shows 2 true ∷ []) ∷ []) ≡ false
   -- a ladder that stops too soon, and one that goes on after a missing version
-  pub stops-too-soon : shortThenWhole 1 (entry 3 (shows 0 true ∷ shows 1 true ∷ []) ∷ whole 5 ∷ []) ≡ false
-  pub goes-on : shortThenWhole 1 (entry 3 (shows 0 false ∷ shows 1 false ∷ []) ∷ whole 5 ∷ []) ≡ false
+  pub stops-too-soon : earlyThenComplete (ladder 1) 1 (entry 3 (shows 0 true ∷ shows 1 true ∷ []) ∷ whole 5 ∷ []) ≡ false
+  pub goes-on : earlyThenComplete (ladder 1) 1 (entry 3 (shows 0 false ∷ shows 1 false ∷ []) ∷ whole 5 ∷ []) ≡ false
   -- the first whole entry gets the version, in place of one that stands there
-  pub put : mapAfterSearch 1 (entry 3 (shows 0 false ∷ []) ∷ whole 5 ∷ whole 6 ∷ []) (pair 2 0 ∷ pair 6 1 ∷ []) ≡ pair 2 0 ∷ pair 5 1 ∷ pair 6 1 ∷ []
-  pub put-over : mapAfterSearch 1 (whole 5 ∷ whole 6 ∷ []) (pair 2 0 ∷ pair 5 0 ∷ []) ≡ pair 2 0 ∷ pair 5 1 ∷ []
+  pub put : mapAfterSearch (ladder 1) 1 (entry 3 (shows 0 false ∷ []) ∷ whole 5 ∷ whole 6 ∷ []) (pair 2 0 ∷ pair 6 1 ∷ []) ≡ pair 2 0 ∷ pair 5 1 ∷ pair 6 1 ∷ []
+  pub put-over : mapAfterSearch (ladder 1) 1 (whole 5 ∷ whole 6 ∷ []) (pair 2 0 ∷ pair 5 0 ∷ []) ≡ pair 2 0 ∷ pair 5 1 ∷ []
 
 pub search-examples : SearchExamples
 unfolding opened

@@ -20,10 +20,10 @@ unfoldable pub x : String → Bytes
 x s = unhex (ascii s)
 
 -- number, state afterwards, value
-unfoldable pub outcomeOf : Option State → Judgement → ℕ × (Option State × Bytes)
+unfoldable pub outcomeOf : Option State → Judgement → ℕ × (Option State × Option Bytes)
 outcomeOf st j = (numberOf j, (stateAfter st j, valueOf j))
 
-unfoldable pub outcome : Option State → Inputs → ℕ × (Option State × Bytes)
+unfoldable pub outcome : Option State → Inputs → ℕ × (Option State × Option Bytes)
 outcome st i = outcomeOf st (judge st i)
 
 -- everything computes

@@ -13,13 +13,14 @@ use Rattle.lists.specs.Lists.{Bytes, every, rising}
 use Rattle.lists.proofs.ListLaws.{every-cons, all-at, at-all, mapped-at, all-mapped}
 use Rattle.tree.specs.LogTree.{fullSubtrees}
 use Rattle.tree.proofs.FullLaws.{full-length}
-use Rattle.rules.specs.Limits.{labelLimit, treeSizeLimit, greatestVersion, mapLimit, hashLength}
+use Rattle.rules.specs.Limits.{labelLimit, treeSizeLimit, greatestVersion, mapLimit, hashLength, numberBound}
 use Rattle.rules.specs.State.{MapEntry, State, positions, versions, isValid}
 
 -- what the tests of a state say
 pub record Valid (s : State) : Type 0 where
   pub labelFits : length (s .label) ≤ labelLimit
   pub sizeFits : s .size ≤ treeSizeLimit
+  pub timeBound : s .time ≤ numberBound
   pub timeFits : (ltb 0 (s .size) || eqb (s .time) 0) ≡ true
   pub valuesCount : length (s .values) ≡ length (fullSubtrees (s .size))
   pub valueLength : (v : Bytes) → List·Memᴰ v (s .values) → length v ≡ hashLength
@@ -41,20 +42,22 @@ valid-was s e =
     let (h, e7) = every-cons _ _ e6 in
     let (i, e8) = every-cons _ _ e7 in
     let (j, e9) = every-cons _ _ e8 in
+    let (k, e10) = every-cons _ _ e9 in
     record {
       labelFits = leb-true _ _ a;
       sizeFits = leb-true _ _ b;
-      timeFits = c;
-      valuesCount = eqb-true _ _ d;
-      valueLength = λ v m. eqb-true _ _ (all-at (λ (v : Bytes). eqb (length v) hashLength) (s .values) v f m);
-      mapFits = leb-true _ _ g;
-      mapRises = h;
+      timeBound = leb-true _ _ c;
+      timeFits = d;
+      valuesCount = eqb-true _ _ f;
+      valueLength = λ v m. eqb-true _ _ (all-at (λ (v : Bytes). eqb (length v) hashLength) (s .values) v g m);
+      mapFits = leb-true _ _ h;
+      mapRises = i;
       positionFits = λ x m.
           let w = mapped-at (λ (y : MapEntry). y .position) (s .monitoringMap) x m in
-          ltb-true _ _ (all-at (λ (p : ℕ). ltb p (s .size)) (positions (s .monitoringMap)) (x .position) i w);
+          ltb-true _ _ (all-at (λ (p : ℕ). ltb p (s .size)) (positions (s .monitoringMap)) (x .position) j w);
       versionFits = λ x m.
           let w = mapped-at (λ (y : MapEntry). y .version) (s .monitoringMap) x m in
-          leb-true _ _ (all-at (λ (v : ℕ). leb v greatestVersion) (versions (s .monitoringMap)) (x .version) j w);
+          leb-true _ _ (all-at (λ (v : ℕ). leb v greatestVersion) (versions (s .monitoringMap)) (x .version) k w);
     }
 
 -- a state that passes each test is valid
@@ -68,7 +71,8 @@ valid-is s v =
     let e : leb (length (s .monitoringMap)) mapLimit ≡ true = le-leb _ _ (v .mapFits) in
     let f = all-mapped (λ (p : ℕ). ltb p (s .size)) (λ (x : MapEntry). x .position) (s .monitoringMap) (λ x m. lt-ltb _ _ (v .positionFits x m)) in
     let g = all-mapped (λ (n : ℕ). leb n greatestVersion) (λ (x : MapEntry). x .version) (s .monitoringMap) (λ x m. le-leb _ _ (v .versionFits x m)) in
-    rw (a, b, v .timeFits, c, d, e, v .mapRises, f, g) refl
+    let t : leb (s .time) numberBound ≡ true = le-leb _ _ (v .timeBound) in
+    rw (a, b, t, v .timeFits, c, d, e, v .mapRises, f, g) refl
 
 -- a valid state has at most 40 values: below 2 ^ 40 a size has no more than 40 digits, and 2 ^ 40 itself has one set digit
 pub values-few : (s : State) → Valid s → length (s .values) ≤ 40

@@ -21,8 +21,8 @@ use Rattle.lines.proofs.LineLaws.{linesText, text-append, text-written, text-sh
 use Rattle.lines.proofs.LineLaws.{leading-end, leading-none, leading-all, leading-was, leading-each}
 use Rattle.lines.proofs.NumberLaws.{decimal-short}
 use Rattle.lines.proofs.HexLaws.{length-hexField}
-use Rattle.rules.specs.Limits.{labelLimit, hashLength, stateTextLimit, numberBound}
-use Rattle.rules.specs.State.{MapEntry, State, isValid}
+use Rattle.rules.specs.Limits.{labelLimit, hashLength, stateTextLimit}
+use Rattle.rules.specs.State.{MapEntry, State, isValid, HasBytes}
 use Rattle.rules.specs.StateText.{sizeForm, keepForm, pairForm, readKeep, readPair, readStateLines, readState, writeKeep, writePair, writeState}
 use Rattle.rules.proofs.StateLaws.{Valid, valid-was, values-few}
 
@@ -69,13 +69,9 @@ state-text s =
 
 -- ---- values that fit
 
--- the label and the values are bytes
-abbrev pub HasBytes : State → Type 0
-HasBytes s = AreBytes (s .label) × ((v : Bytes) → List·Memᴰ v (s .values) → AreBytes v)
-
 -- the values of the `size` line of a valid state fit it
-size-fits : (s : State) → Valid s → HasBytes s → s .time ≤ numberBound → Fits (sizeForm .fields) (s .size, (s .time, (s .label, tt)))
-size-fits s v h t = let a = v .sizeFits in (omega arith, (t, ((le-leb (length (s .label)) labelLimit (v .labelFits), h .0), tt)))
+size-fits : (s : State) → Valid s → HasBytes s → Fits (sizeForm .fields) (s .size, (s .time, (s .label, tt)))
+size-fits s v h = let a = v .sizeFits in (omega arith, (v .timeBound, ((le-leb (length (s .label)) labelLimit (v .labelFits), h .0), tt)))
 
 -- so does each value of a `keep` line
 keep-fits : (s : State) (v : Bytes) → Valid s → HasBytes s → List·Memᴰ v (s .values) → Fits (keepForm .fields) (v, tt)
@@ -114,30 +110,30 @@ pairs-no-keep [] h = leading-end readKeep
 pairs-no-keep (e ∷ es) h = leading-none readKeep (pairText e) (map pairText es) (pair-no-keep e (h e (List·Memᴰ·head refl)))
 
 -- the lines of a state read as the state
-read-lines : (s : State) → Valid s → HasBytes s → s .time ≤ numberBound → readStateLines (stateLines s) ≡ some s
+read-lines : (s : State) → Valid s → HasBytes s → readStateLines (stateLines s) ≡ some s
 unfolding readStateLines stateLines sizeText bind _>>_
-read-lines s v h t =
+read-lines s v h =
     let k = leading-all readKeep keepText (s .values) (map pairText (s .monitoringMap)) (λ a m. read-keep a (keep-fits s a v h m))
     (pairs-no-keep (s .monitoringMap) (λ e m. pair-fits s e v m)) in
     let p = leading-all readPair pairText (s .monitoringMap) [] (λ e m. read-pair e (pair-fits s e v m)) (leading-end readPair) in
-    rw (read-line sizeForm (s .size, (s .time, (s .label, tt))) size-plain (size-fits s v h t), k, rw append-nil at p) refl
+    rw (read-line sizeForm (s .size, (s .time, (s .label, tt))) size-plain (size-fits s v h), k, rw append-nil at p) refl
 
 -- no line of a state has a newline within it
-lines-lack : (s : State) → Valid s → HasBytes s → s .time ≤ numberBound → AllLack newline (stateLines s)
+lines-lack : (s : State) → Valid s → HasBytes s → AllLack newline (stateLines s)
 unfolding stateLines sizeText keepText pairText
-lines-lack s v h t = (
-  line-lacks sizeForm (s .size, (s .time, (s .label, tt))) size-plain (size-fits s v h t),
+lines-lack s v h = (
+  line-lacks sizeForm (s .size, (s .time, (s .label, tt))) size-plain (size-fits s v h),
   all-lack-append newline (map keepText (s .values)) (map pairText (s .monitoringMap))
       (all-lack-map newline keepText (s .values) (λ a m. line-lacks keepForm (a, tt) keep-plain (keep-fits s a v h m)))
       (all-lack-map newline pairText (s .monitoringMap) (λ e m. line-lacks pairForm (e .position, (e .version, tt)) pair-plain (pair-fits s e v m))),
 )
 
 -- a valid state, once written, reads as itself
-pub read-write : (s : State) → isValid s ≡ true → HasBytes s → s .time ≤ numberBound → readState (writeState s) ≡ some s
+pub read-write : (s : State) → isValid s ≡ true → HasBytes s → readState (writeState s) ≡ some s
 unfolding readState bind _>>_
-read-write s e h t =
+read-write s e h =
     let v = valid-was s e in
-    rw (state-text s, lines-joined (stateLines s) (lines-lack s v h t), read-lines s v h t, e) refl
+    rw (state-text s, lines-joined (stateLines s) (lines-lack s v h), read-lines s v h, e) refl
 
 -- ---- writing what is read
 
@@ -164,7 +160,7 @@ none-left [] e = refl
 none-left (l ∷ ls) e = let z = eqb-true (length (l ∷ ls)) 0 e in absurd (omega arith)
 
 -- lines that read as a state are its lines
-lines-read : (ls : List Bytes) (s : State) → readStateLines ls ≡ some s → (ls ≡ stateLines s) × HasBytes s × (s .time ≤ numberBound)
+lines-read : (ls : List Bytes) (s : State) → readStateLines ls ≡ some s → (ls ≡ stateLines s) × HasBytes s
 unfolding readStateLines stateLines sizeText
 lines-read [] s e = absurd (Option·none-ne-some s e)
 lines-read (l ∷ ls) s e =
@@ -181,7 +177,6 @@ lines-read (l ∷ ls) s e =
     rw (← i) (
       ap₂ _∷_ w (a ∙ ap (λ (z : List Bytes). map keepText (k .0) ++ z) c),
       (f .1 .1 .0 .1, leading-each readKeep AreBytes (λ l v h. keep-was l v h .1) ls),
-      f .1 .0,
     )
 
 -- what is known of a text that reads as a state, and of the state
@@ -189,7 +184,6 @@ pub record TextOf (t : Bytes) (s : State) : Type 0 where
   pub written : t ≡ writeState s
   pub valid : isValid s ≡ true
   pub hasBytes : HasBytes s
-  pub timeFits : s .time ≤ numberBound
 
 -- a text that reads as a state is what is written for it, and the state is valid
 pub state-read : (t : Bytes) (s : State) → readState t ≡ some s → TextOf t s
@@ -199,8 +193,8 @@ state-read t s e =
     let (st, b, e2) = bind-some (readStateLines ls) (λ (st : State). isValid st >> some st) s e1 in
     let (c, e3) = test-some (isValid st) (some st) s e2 in
     let i : st ≡ s = Option·some-injective st s e3 in
-    let (w, h, f) = lines-read ls st b in
-    rw (← i) (record { written = joined-lines t ls a .0 ∙ ap linesText w ∙ sym (state-text st); valid = c; hasBytes = h; timeFits = f })
+    let (w, h) = lines-read ls st b in
+    rw (← i) (record { written = joined-lines t ls a .0 ∙ ap linesText w ∙ sym (state-text st); valid = c; hasBytes = h })
 
 -- so it is exactly the text that is written
 pub write-read : (t : Bytes) (s : State) → readState t ≡ some s → t ≡ writeState s
@@ -209,10 +203,11 @@ write-read t s e = state-read t s e .written
 -- ---- length
 
 -- a `size` line has at most 550 bytes
-size-short : (s : State) → Valid s → s .time ≤ numberBound → length (sizeText s) ≤ 550
+size-short : (s : State) → Valid s → length (sizeText s) ≤ 550
 unfolding sizeText lineText joined writeFields writeField ascii
-size-short s v t =
+size-short s v =
     let b = v .sizeFits in
+    let t = v .timeBound in
     let m = decimal-short 12 (s .size) (omega arith) in
     let n = decimal-short 19 (s .time) (omega arith) in
     let l = length-hexField 255 (s .label) (omega arith) (v .labelFits) in
@@ -236,13 +231,13 @@ pair-short s e v m =
     omega (arith, length-append (decimal (e .position)) (tab ∷ decimal (e .version)))
 
 -- the text of a valid state is within its limit: 551 bytes, at most 40 lines of 70 and 48 of 30
-pub state-short : (s : State) → isValid s ≡ true → s .time ≤ numberBound → length (writeState s) ≤ stateTextLimit
+pub state-short : (s : State) → isValid s ≡ true → length (writeState s) ≤ stateTextLimit
 unfolding stateLines
-state-short s e t =
+state-short s e =
     let v = valid-was s e in
     let k = map keepText (s .values) in
     let p = map pairText (s .monitoringMap) in
-    let a = size-short s v t in
+    let a = size-short s v in
     let b = text-short 69 keepText (s .values) (λ w m. keep-short w (v .valueLength w m)) in
     let c = text-short 29 pairText (s .monitoringMap) (λ w m. pair-short s w v m) in
     let f = values-few s v in

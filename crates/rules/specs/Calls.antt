@@ -1,8 +1,7 @@
 -- What the calls answer, and what they leave in the bytes lent to them (paper 01, Sixteen numbers): search and monitoring, and the signed text;
 -- first over states, then as C programs call them, over state texts.
-use mathlib.Core.Bool.{Bool, true, false, _&&_}
-use mathlib.Core.List.{List, [], _∷_, _++_}
-use mathlib.Core.Option.{Option, none, some}
+use mathlib.Core.List.{[], _++_}
+use mathlib.Core.Option.{Option, none, some, Option·elim, Option·getD}
 use Prim.Native.Nat.{ℕ, zero, suc, _+_, _*_, _^_}
 use lib.Dec.{leb}
 use lib.ListN.{length, take, drop}
@@ -13,9 +12,40 @@ use Rattle.rules.specs.Limits.{responseLimit, stateTextLimit}
 use Rattle.rules.specs.State.{State}
 use Rattle.rules.specs.StateText.{readState, writeState}
 use Rattle.rules.specs.Response.{Kind, search, monitor, Finding, searched, monitored}
-use Rattle.rules.specs.Refusals.{Inputs, Call, Judgement, refused, passed, judge, judgeUnsigned, known, logWalk, lastTime, mapAfter, signedText}
+use Rattle.rules.specs.Refusals.{Inputs, Call, Judgement, refused, passed, judge, judgeWithoutHead, known, logWalk, lastTime, mapAfter, treeHeadOf}
+
+-- ---- what the library's calls are given
+
+-- besides the state, the signed text and the bytes lent
+pub record Arguments : Type 0 where
+  pub response : Bytes
+  pub configuration : Bytes
+  pub identifier : Bytes
+  pub clock : ℕ
+  pub vrfOutputs : Bytes
+
+unfoldable pub libraryInputs : Option Kind → Arguments → Bytes → ℕ → Inputs
+libraryInputs kind a signed room =
+    record {
+      limit = responseLimit;
+      kind = kind;
+      response = a .response;
+      configuration = a .configuration;
+      identifier = a .identifier;
+      clock = a .clock;
+      vrfOutputs = a .vrfOutputs;
+      signedText = signed;
+      room = room;
+    }
 
 -- ---- search and monitoring
+
+-- a search, given output bytes
+unfoldable pub judgeSearch : Option State → Arguments → Bytes → Bytes → Judgement
+judgeSearch st a signed output = judge st (libraryInputs (some search) a signed (length output))
+
+unfoldable pub judgeMonitoring : Option State → Arguments → Bytes → Judgement
+judgeMonitoring st a signed = judge st (libraryInputs (some monitor) a signed 0)
 
 -- 0 for acceptance
 unfoldable pub numberOf : Judgement → ℕ
@@ -23,8 +53,8 @@ numberOf (refused k) = k
 numberOf (passed c) = 0
 
 -- size n, its full-subtree values, the time of n - 1, the new map
-unfoldable pub newState : Call → State
-newState c =
+unfoldable pub nextState : Call → State
+nextState c =
     record {
       label = c .state .label;
       size = c .parts .size;
@@ -36,26 +66,34 @@ newState c =
 -- the state afterwards: a refusal returns it as given
 unfoldable pub stateAfter : Option State → Judgement → Option State
 stateAfter st (refused k) = st
-stateAfter st (passed c) = some (newState c)
+stateAfter st (passed c) = some (nextState c)
 
--- the value that a search yields
-unfoldable pub valueFound : Finding → Bytes
-valueFound (searched t) = t .value
-valueFound monitored = []
+-- the value, which a search alone yields
+unfoldable pub valueFound : Finding → Option Bytes
+valueFound (searched t) = some (t .value)
+valueFound monitored = none
 
-unfoldable pub valueOf : Judgement → Bytes
-valueOf (refused k) = []
+unfoldable pub valueOf : Judgement → Option Bytes
+valueOf (refused k) = none
 valueOf (passed c) = valueFound (c .parts .finding)
 
 -- bytes put into others from a place on; all others stay
 unfoldable pub written : Bytes → ℕ → Bytes → Bytes
 written s at t = take at s ++ t ++ drop (at + length t) s
 
--- the output bytes afterwards: the value from byte 0
+-- lent bytes afterwards: what there is to write, from byte 0
+unfoldable pub writtenFirst : Bytes → Option Bytes → Bytes
+writtenFirst s t = Option·elim t s (written s 0)
+
+-- a search's output bytes afterwards
 unfoldable pub outputAfter : Bytes → Judgement → Bytes
-outputAfter output j = written output 0 (valueOf j)
+outputAfter output j = writtenFirst output (valueOf j)
 
 -- ---- signed text
+
+-- given no signed text and no output bytes
+unfoldable pub judgeUnsigned : Option State → Option Kind → Arguments → Judgement
+judgeUnsigned st kind a = judgeWithoutHead st (libraryInputs kind a [] 0)
 
 -- it is written from an offset on, if there is room for it; 16 if not
 unfoldable pub placed : Bytes → ℕ → Bytes → ℕ × Bytes
@@ -65,11 +103,11 @@ placed buffer offset text =
 -- the answer and the lent bytes: the length written, or the number of a refusal
 unfoldable pub signedTextAfter : Bytes → ℕ → Judgement → ℕ × Bytes
 signedTextAfter buffer offset (refused k) = (k, buffer)
-signedTextAfter buffer offset (passed c) = placed buffer offset (signedText c)
+signedTextAfter buffer offset (passed c) = placed buffer offset (treeHeadOf c)
 
--- ---- for C programs
+-- ---- for C programs, over a state's text
 
--- the state's text must not be too long
+-- the text must not be too long
 unfoldable pub textJudged : Bytes → Judgement → Judgement
 textJudged text j = choose (leb (length text) stateTextLimit) (λ _. j) (λ _. refused 1)
 
@@ -77,27 +115,33 @@ textJudged text j = choose (leb (length text) stateTextLimit) (λ _. j) (λ _. r
 unfoldable pub roomJudged : Bytes → Judgement → Judgement
 roomJudged newText j = choose (leb stateTextLimit (length newText)) (λ _. j) (λ _. refused 1)
 
--- kt_search, kt_monitor: text is the state's text, newText the bytes lent for the new one
-unfoldable pub judgeText : Bytes → Bytes → Inputs → Judgement
-judgeText text newText i = textJudged text (roomJudged newText (judge (readState text) i))
+-- kt_search: text is the state's text; signed text, output bytes, bytes lent for the new text
+unfoldable pub ktSearch : Bytes → Arguments → Bytes → Bytes → Bytes → Judgement
+ktSearch text a signed output newText = textJudged text (roomJudged newText (judgeSearch (readState text) a signed output))
 
-unfoldable pub textOf : Judgement → Bytes
-textOf (refused k) = []
-textOf (passed c) = writeState (newState c)
+-- kt_monitor
+unfoldable pub ktMonitor : Bytes → Arguments → Bytes → Bytes → Judgement
+ktMonitor text a signed newText = textJudged text (roomJudged newText (judgeMonitoring (readState text) a signed))
+
+-- the text of the new state
+unfoldable pub textOf : Judgement → Option Bytes
+textOf (refused k) = none
+textOf (passed c) = some (writeState (nextState c))
 
 -- the bytes lent for the new text afterwards
 unfoldable pub textAfter : Bytes → Judgement → Bytes
-textAfter newText j = written newText 0 (textOf j)
+textAfter newText j = writtenFirst newText (textOf j)
 
 -- one number: the refusal's in the low 8 bits, the value's length in the next 24, the new text's length in the high 32
 unfoldable pub answerWord : Judgement → ℕ
-answerWord j = numberOf j + length (valueOf j) * 2 ^ 8 + length (textOf j) * 2 ^ 32
+answerWord j = numberOf j + length (Option·getD (valueOf j) []) * 2 ^ 8 + length (Option·getD (textOf j) []) * 2 ^ 32
 
--- kt_signed_text: the kind as a number, the state's text
+-- a kind as a number
 unfoldable pub kindNumbered : ℕ → Option Kind
 kindNumbered zero = some search
 kindNumbered (suc zero) = some monitor
 kindNumbered (suc (suc k)) = none
 
-unfoldable pub signedTextForC : Bytes → Inputs → Bytes → ℕ → ℕ × Bytes
-signedTextForC text i buffer offset = signedTextAfter buffer offset (textJudged text (judgeUnsigned (readState text) i))
+-- kt_signed_text: the answer, and the lent bytes afterwards
+unfoldable pub ktSignedText : ℕ → Bytes → Arguments → Bytes → ℕ → ℕ × Bytes
+ktSignedText kind text a buffer offset = signedTextAfter buffer offset (textJudged text (judgeUnsigned (readState text) (kindNumbered kind) a))

@@ -1,14 +1,12 @@
 -- The Configuration of a log (001, 10.2), which paper 01 calls the settings, for contact monitoring; and TreeHeadTBS.
-use mathlib.Core.Bool.{Bool, _&&_}
-use mathlib.Core.List.{List, [], _∷_, _++_}
+use mathlib.Core.List.{[], _∷_, _++_}
 use mathlib.Core.Option.{Option, none, some, bind as _>>=_}
 use Prim.Native.Nat.{ℕ, zero, suc}
 use lib.Dec.{eqb}
-use lib.ListN.{length}
 use Rattle.lists.specs.Choice.{_>>_}
 use Rattle.lists.specs.Lists.{Bytes, same}
 use Rattle.hash.specs.Bytes.{bigEndian}
-use Rattle.rules.specs.Encoding.{opaque, readNumber, readOpaque}
+use Rattle.rules.specs.Encoding.{opaque, readUint, readOpaque}
 
 pub record Configuration : Type 0 where
   pub suite : ℕ
@@ -34,25 +32,25 @@ contactMonitoring = 1
 unfoldable pub readPresent : ℕ → Bytes → Option (Option ℕ × Bytes)
 readPresent zero s = some (none, s)
 readPresent (suc zero) s = do
-  (n, rest) ← readNumber 8 s
+  (n, rest) ← readUint 8 s
   some (some n, rest)
 readPresent (suc (suc k)) s = none
 
 unfoldable pub readOptional : Bytes → Option (Option ℕ × Bytes)
 readOptional s = do
-  (present, rest) ← readNumber 1 s
+  (present, rest) ← readUint 1 s
   readPresent present rest
 
 -- the fields in order and nothing after them; another suite or mode is not taken. In this mode there is no leaf_public_key.
 unfoldable pub readConfiguration : Bytes → Option Configuration
 readConfiguration s = do
-  (suite, s1) ← readNumber 2 s
-  (mode, s2) ← readNumber 1 s1
+  (suite, s1) ← readUint 2 s
+  (mode, s2) ← readUint 1 s1
   (signatureKey, s3) ← readOpaque 2 s2
   (vrfKey, s4) ← readOpaque 2 s3
-  (maxAhead, s5) ← readNumber 8 s4
-  (maxBehind, s6) ← readNumber 8 s5
-  (monitoringWindow, s7) ← readNumber 8 s6
+  (maxAhead, s5) ← readUint 8 s4
+  (maxBehind, s6) ← readUint 8 s5
+  (monitoringWindow, s7) ← readUint 8 s6
   (maximumLifetime, s8) ← readOptional s7
   same s8 []
   eqb suite p256Suite

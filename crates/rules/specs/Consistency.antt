@@ -2,13 +2,14 @@
 use mathlib.Core.Path.{_≡_}
 use mathlib.Core.Logic.{_⊎_}
 use mathlib.Core.List.{List, [], _∷_, _++_, map, flatMap, List·Memᴰ}
-use mathlib.Core.Option.{Option}
+use mathlib.Core.Option.{Option, none, some}
 use Prim.Native.Nat.{ℕ}
 use Rattle.lists.specs.Lists.{Bytes}
+use Rattle.hash.specs.Bytes.{AreBytes}
 use Rattle.hash.specs.Sha256.{sha256}
 use Rattle.tree.specs.LogTree.{LogEntry, zeros}
 use Rattle.rules.specs.VrfOutputs.{outputOf}
-use Rattle.rules.specs.State.{State}
+use Rattle.rules.specs.State.{State, HasBytes}
 use Rattle.rules.specs.Response.{Target, searched, stepVersions, logEntry}
 use Rattle.rules.specs.Refusals.{Inputs, Call, Judgement, refused, passed, judge, logRoot}
 use Rattle.rules.specs.Calls.{stateAfter}
@@ -16,23 +17,39 @@ use Rattle.rules.specs.Hashed.{hashed}
 
 -- ---- what breaks SHA-256
 
--- two different strings of a list with one SHA-256 value
+-- two different byte strings of a list with one SHA-256 value
 pub record Collision (strings : List Bytes) : Type 0 where
   pub x : Bytes
   pub y : Bytes
   pub x-listed : List·Memᴰ x strings
   pub y-listed : List·Memᴰ y strings
+  pub x-bytes : AreBytes x
+  pub y-bytes : AreBytes y
   pub different : x ≡ y → ⊥
   pub equal : sha256 x ≡ sha256 y
 
--- a string of a list whose SHA-256 value is 32 zero bytes
+-- a byte string of a list whose SHA-256 value is 32 zero bytes
 pub record ZeroDigest (strings : List Bytes) : Type 0 where
   pub x : Bytes
   pub x-listed : List·Memᴰ x strings
+  pub x-bytes : AreBytes x
   pub zero-digest : sha256 x ≡ zeros
 
 abbrev pub Broken : List Bytes → Type 0
 Broken strings = Collision strings ⊎ ZeroDigest strings
+
+-- ---- what is given are bytes: numbers below 256. Lists of other numbers stand for nothing that a call can get.
+
+pub record AreByteInputs (i : Inputs) : Type 0 where
+  pub response : AreBytes (i .response)
+  pub configuration : AreBytes (i .configuration)
+  pub identifier : AreBytes (i .identifier)
+  pub vrfOutputs : AreBytes (i .vrfOutputs)
+  pub signedText : AreBytes (i .signedText)
+
+abbrev pub IsByteState : Option State → Type 0
+IsByteState none = Unit {0}
+IsByteState (some s) = HasBytes s
 
 -- ---- the first claim: two searches agree
 
@@ -44,6 +61,7 @@ OutputsAgree c d = (v : ℕ) → List·Memᴰ v (stepVersions (c .parts)) → Li
 abbrev pub SearchesAgree : Type 0
 SearchesAgree =
     (s s′ : Option State) (i i′ : Inputs) (c c′ : Call) (t t′ : Target)
+    → IsByteState s → IsByteState s′ → AreByteInputs i → AreByteInputs i′
     → judge s i ≡ passed c → judge s′ i′ ≡ passed c′
     → c .parts .finding ≡ searched t → c′ .parts .finding ≡ searched t′
     → c .parts .label ≡ c′ .parts .label → c .parts .size ≡ c′ .parts .size → logRoot c ≡ logRoot c′ → OutputsAgree c c′
@@ -71,4 +89,6 @@ Alike es = (x y : LogEntry) → List·Memᴰ x es → List·Memᴰ y es → x .p
 
 -- any list of calls, from any state
 abbrev pub ChainsAgree : Type 0
-ChainsAgree = (s : Option State) (is : List Inputs) → Alike (shownBy (acceptedCalls s is)) ⊎ Broken (flatMap hashed (acceptedCalls s is))
+ChainsAgree =
+    (s : Option State) (is : List Inputs) → IsByteState s → ((i : Inputs) → List·Memᴰ i is → AreByteInputs i)
+    → Alike (shownBy (acceptedCalls s is)) ⊎ Broken (flatMap hashed (acceptedCalls s is))

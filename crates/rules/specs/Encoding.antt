@@ -1,7 +1,6 @@
 -- The encodings of 001 that are read or hashed here (RFC 8446, 3): numbers of fixed width, byte strings with their length before them.
-use mathlib.Core.Bool.{_&&_}
-use mathlib.Core.List.{List, [], _∷_, _++_}
-use mathlib.Core.Option.{Option, none, some, bind as _>>=_}
+use mathlib.Core.List.{[], _∷_, _++_}
+use mathlib.Core.Option.{Option, some, bind as _>>=_}
 use Prim.Native.Nat.{ℕ, _+_, _*_}
 use lib.Dec.{leb}
 use lib.ListN.{length, take, drop}
@@ -13,26 +12,26 @@ use Rattle.hash.specs.Bytes.{bigEndian}
 unfoldable pub opaque : ℕ → Bytes → Bytes
 opaque k s = bigEndian k (length s) ++ s
 
--- the number that bytes spell after those of n, the highest first
+-- the uint that bytes spell after those of n, the highest first
 unfoldable pub bytesAfter : ℕ → Bytes → ℕ
 bytesAfter n [] = n
 bytesAfter n (b ∷ s) = bytesAfter (n * 256 + b) s
 
-unfoldable pub number : Bytes → ℕ
-number s = bytesAfter 0 s
+unfoldable pub uint : Bytes → ℕ
+uint s = bytesAfter 0 s
 
 -- ---- reading: what stands first, and the rest
 
 unfoldable pub readBytes : ℕ → Bytes → Option (Bytes × Bytes)
 readBytes k s = provided (leb k (length s)) (take k s, drop k s)
 
--- a number of k bytes
-unfoldable pub readNumber : ℕ → Bytes → Option (ℕ × Bytes)
-readNumber k s = do
+-- a uint of k bytes
+unfoldable pub readUint : ℕ → Bytes → Option (ℕ × Bytes)
+readUint k s = do
   (b, rest) ← readBytes k s
-  some (number b, rest)
+  some (uint b, rest)
 
 unfoldable pub readOpaque : ℕ → Bytes → Option (Bytes × Bytes)
 readOpaque k s = do
-  (n, rest) ← readNumber k s
+  (n, rest) ← readUint k s
   readBytes n rest

@@ -1,6 +1,6 @@
 -- The strings that an accepted call hashed, and no others (paper 01, What the contracts owe): leaves and parents of the log tree that the walk works out, the
--- leaf and the parents of every lookup, and HMAC's inner and outer string for the commitment of a search's target. (No accepted call has a lookup that is not tried.)
-use mathlib.Core.List.{List, [], _∷_, _++_, flatMap}
+-- leaf and the parents of every lookup, and HMAC's inner and outer string for the commitment of a search's target. Of an accepted call every lookup was tried.
+use mathlib.Core.List.{List, [], _++_, flatMap}
 use Rattle.lists.specs.Lists.{Bytes}
 use Rattle.tree.specs.LogTree.{walkStrings}
 use Rattle.tree.specs.PrefixTree.{lookupStrings}

@@ -31,6 +31,7 @@ valueLimit = 1024
 abbrev pub treeSizeLimit : ℕ
 treeSizeLimit = 2 ^ 40
 
+-- of a target and of a pair; a ladder may hold one more
 abbrev pub greatestVersion : ℕ
 greatestVersion = 2 ^ 32 - 2
 
@@ -57,6 +58,10 @@ vrfOutputLength = 32
 abbrev pub openingLength : ℕ
 openingLength = 16
 
+-- the block of the values of a state's full subtrees
+abbrev pub valuesBlockLength : ℕ
+valuesBlockLength = 1280
+
 -- a state's text, and the bytes that a C call lends for the new one
 abbrev pub stateTextLimit : ℕ
 stateTextLimit = 8192
@@ -67,9 +72,10 @@ requestLimit = 128
 
 -- ---- bounds of numbers that are read
 
--- positions, times, n, and the request's clock
+-- positions, times, n and m, and the request's clock
 abbrev pub numberBound : ℕ
 numberBound = 2 ^ 64 - 1
 
+-- versions of lines
 abbrev pub versionBound : ℕ
 versionBound = 2 ^ 32 - 1

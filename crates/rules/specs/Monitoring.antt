@@ -6,7 +6,7 @@ use lib.Dec.{eqb, leb}
 use Rattle.lists.specs.Lists.{any, select, insertAll, largest, lastOr}
 use Rattle.tree.specs.Ladder.{ladder}
 use Rattle.tree.specs.SearchTree.{frontier, rightAncestors}
-use Rattle.rules.specs.State.{MapEntry}
+use Rattle.rules.specs.State.{MapEntry, versions}
 use Rattle.rules.specs.Search.{Asked, putEntry}
 
 -- the right path of the pair's position holds the entry x
@@ -15,12 +15,13 @@ reaches n x e = any (eqb x) (rightAncestors n (e .position))
 
 -- the versions of the pairs whose right path holds x; they stand below x
 unfoldable pub versionsReaching : ℕ → List MapEntry → ℕ → List ℕ
-versionsReaching n entries x = map (λ (e : MapEntry). e .version) (select (reaches n x) entries)
+versionsReaching n entries x = versions (select (reaches n x) entries)
 
--- of these, v being the largest: the ladder versions not above v, in ladder order; none where no right path holds the entry
+-- the versions looked up in an entry, from those of the pairs whose right path holds it, v being the largest: the ladder versions not above v, in ladder
+-- order; none where no right path holds the entry
 unfoldable pub versionsShown : List ℕ → List ℕ
 versionsShown [] = []
-versionsShown (v ∷ vs) = select (λ (w : ℕ). leb w (largest (v ∷ vs))) (ladder (largest (v ∷ vs)))
+versionsShown (w ∷ ws) = select (λ (u : ℕ). leb u (largest (w ∷ ws))) (ladder (largest (w ∷ ws)))
 
 -- the frontier and all right paths, rising, each once
 unfoldable pub monitoredPositions : ℕ → List MapEntry → List ℕ

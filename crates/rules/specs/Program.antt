@@ -1,22 +1,21 @@
 -- The program: six files in, one line and up to two files out (paper 01, Sixteen numbers).
-use mathlib.Core.Bool.{Bool, true, false, _&&_}
-use mathlib.Core.List.{List, [], _∷_, _++_}
+use mathlib.Core.Bool.{true}
+use mathlib.Core.List.{List, [], _∷_}
 use mathlib.Core.Option.{Option, none, some, Option·getD, Option·map, bind, bind as _>>=_}
 use Prim.Native.Nat.{ℕ}
-use lib.Dec.{eqb, leb}
+use lib.Dec.{leb}
 use lib.ListN.{length, replicate}
-use Rattle.lists.specs.Choice.{provided, orElse, _>>_}
+use Rattle.lists.specs.Choice.{orElse, _>>_}
 use Rattle.lists.specs.Lists.{Bytes}
 use Rattle.lines.specs.Number.{ascii, decimal}
 use Rattle.lines.specs.Field.{number, bytes}
-use Rattle.lines.specs.Line.{Form, Read, tab, newline, readLines, readLine, joined}
+use Rattle.lines.specs.Line.{Form, Read, readLines, readLine, line}
 use Rattle.rules.specs.Limits.{programResponseLimit, configurationLimit, signedTextLimit, vrfOutputsLimit, valueLimit, identifierLength, stateTextLimit, requestLimit, numberBound}
-use Rattle.rules.specs.State.{State}
-use Rattle.rules.specs.StateText.{readState, writeState}
+use Rattle.rules.specs.StateText.{readState}
 use Rattle.rules.specs.Response.{Kind, search, monitor, Finding, searched, monitored}
 use Rattle.rules.specs.ResponseText.{kindWord}
-use Rattle.rules.specs.Refusals.{Inputs, Call, Judgement, refused, passed, reading, judge}
-use Rattle.rules.specs.Calls.{newState}
+use Rattle.rules.specs.Refusals.{Judgement, refused, passed, reading, judge}
+use Rattle.rules.specs.Calls.{nextState}
 
 -- ---- the files
 
@@ -55,7 +54,7 @@ readRequestLine (l ∷ m ∷ ls) = none
 readRequestLine (l ∷ []) =
     orElse (Option·map (requestOf search) (readLine (requestForm search) l)) (Option·map (requestOf monitor) (readLine (requestForm monitor) l))
 
--- a broken line asks for no kind
+-- a broken line asks for no kind, so that 6 applies where none of 1 to 5 does; its identifier and clock stand for none
 unfoldable pub brokenRequest : Request
 brokenRequest = record { kind = none; identifier = replicate identifierLength 0; clock = 0 }
 
@@ -84,31 +83,15 @@ judgeFiles f =
       room = valueLimit;
     })
 
--- ---- what is printed and written
+-- ---- what is printed; the file `state.new` gets what `textOf` gives, the file `value` what `valueOf` gives, and neither is written where that is none
 
-unfoldable pub lineOf : List Bytes → Bytes
-lineOf fields = joined tab fields ++ newline ∷ []
-
-unfoldable pub versionField : Finding → Bytes
-versionField (searched t) = decimal (t .version)
-versionField monitored = ascii "-"
+unfoldable pub printedVersion : Finding → Bytes
+printedVersion (searched t) = decimal (t .version)
+printedVersion monitored = ascii "-"
 
 -- `yes`, t or `-`, n and the number of pairs; or `no` and the number
 unfoldable pub printed : Judgement → Bytes
-printed (refused k) = lineOf (ascii "no" ∷ decimal k ∷ [])
+printed (refused k) = line (ascii "no" ∷ decimal k ∷ [])
 printed (passed c) =
-    lineOf
-    (ascii "yes" ∷ versionField (c .parts .finding) ∷ decimal (c .parts .size) ∷ decimal (length (newState c .monitoringMap)) ∷ [])
-
--- the file `state.new`, and the file `value`, if they are written
-unfoldable pub stateFile : Judgement → Option Bytes
-stateFile (refused k) = none
-stateFile (passed c) = some (writeState (newState c))
-
-unfoldable pub valueIn : Finding → Option Bytes
-valueIn (searched t) = some (t .value)
-valueIn monitored = none
-
-unfoldable pub valueFile : Judgement → Option Bytes
-valueFile (refused k) = none
-valueFile (passed c) = valueIn (c .parts .finding)
+    line
+    (ascii "yes" ∷ printedVersion (c .parts .finding) ∷ decimal (c .parts .size) ∷ decimal (length (nextState c .monitoringMap)) ∷ [])

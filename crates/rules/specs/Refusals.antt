@@ -10,15 +10,15 @@ use Rattle.lists.specs.Choice.{choose, provided}
 use Rattle.lists.specs.Lists.{Bytes, all, any, every, first, lastOr, same, begins, unfalling}
 use Rattle.tree.specs.Ladder.{ladder}
 use Rattle.tree.specs.LogTree.{Known, Walk, walkOf, nodeCount, value, keptValuesMet}
-use Rattle.tree.specs.PrefixTree.{Terminal, inclusion, vacant, otherLeaf as another, lookupRoot, terminalFits}
+use Rattle.tree.specs.PrefixTree.{Terminal, ownLeaf, emptyPlace, foreignLeaf, lookupRoot, terminalFits}
 use Rattle.rules.specs.Limits.{configurationLimit, signedTextLimit, vrfOutputsLimit, treeSizeLimit, greatestVersion, mapLimit, identifierLength}
 use Rattle.rules.specs.Configuration.{Configuration, readConfiguration, treeHead}
 use Rattle.rules.specs.VrfOutputs.{VrfOutput, readOutputs, hasOutput, outputOf}
 use Rattle.rules.specs.State.{MapEntry, State, isValid, versions}
-use Rattle.rules.specs.Response.{Kind, search, monitor, Target, Finding, searched, monitored, Step, Result, included, absent, otherLeaf, Lookup, Entry, Parts, kindOf, isIncluded, stepVersions, lookupVersions, entryPositions, entryTimes, logEntry}
+use Rattle.rules.specs.Response.{Kind, search, monitor, Finding, searched, monitored, Step, Result, included, absent, otherLeaf, Lookup, Entry, Parts, kindOf, isIncluded, stepVersions, lookupVersions, entryPositions, entryTimes, logEntry}
 use Rattle.rules.specs.ResponseText.{readResponse}
 use Rattle.rules.specs.Commitment.{commitmentTo}
-use Rattle.rules.specs.Search.{Asked, askedBySearch, shortThenWhole, mapAfterSearch}
+use Rattle.rules.specs.Search.{Asked, askedBySearch, earlyThenComplete, mapAfterSearch}
 use Rattle.rules.specs.Monitoring.{askedByMonitoring, versionsOf, mapAfterMonitoring}
 
 -- ---- what is given, and what is read of it
@@ -189,9 +189,9 @@ commitmentOf c v = commitmentBy (c .parts .finding) (c .parts .label) (c .parts 
 
 -- what a lookup says stands at its place
 unfoldable pub terminal : Call → ℕ → Result → Terminal
-terminal c v included = inclusion (commitmentOf c v)
-terminal c v absent = vacant
-terminal c v (otherLeaf output commitment) = another output commitment
+terminal c v included = ownLeaf (commitmentOf c v)
+terminal c v absent = emptyPlace
+terminal c v (otherLeaf output commitment) = foreignLeaf output commitment
 
 -- a search's `in` above t has no commitment: its path is not tried
 unfoldable pub untried : Finding → Lookup → Bool
@@ -212,7 +212,7 @@ lookupFails c = not (all (lookupsHold c) (c .parts .entries))
 -- ---- 13: whole and short entries not as asked; a lookup in monitoring not `in`
 
 unfoldable pub resultsWrongIn : Finding → List Entry → Bool
-resultsWrongIn (searched t) es = not (shortThenWhole (t .version) es)
+resultsWrongIn (searched t) es = not (earlyThenComplete (ladder (t .version)) (t .version) es)
 resultsWrongIn monitored es = not (all (λ (e : Entry). all (λ (l : Lookup). isIncluded (l .result)) (e .lookups)) es)
 
 unfoldable pub resultsWrong : Call → Bool
@@ -233,16 +233,16 @@ historyDiffers c = not (keptValuesMet (known c) (logWalk c) (c .parts .nodes))
 unfoldable pub logRoot : Call → Bytes
 logRoot c = value (known c) (logWalk c) (c .parts .nodes)
 
-unfoldable pub signedText : Call → Bytes
-signedText c = treeHead (c .inputs .configuration) (c .parts .size) (logRoot c)
+unfoldable pub treeHeadOf : Call → Bytes
+treeHeadOf c = treeHead (c .inputs .configuration) (c .parts .size) (logRoot c)
 
 unfoldable pub headDiffers : Call → Bool
-headDiffers c = not (same (c .inputs .signedText) (signedText c))
+headDiffers c = not (same (c .inputs .signedText) (treeHeadOf c))
 
 -- ---- 16: a search's output is shorter than the value, or the map would need one pair too many
 
 unfoldable pub mapAfterBy : Finding → Call → List MapEntry
-mapAfterBy (searched t) c = mapAfterSearch (t .version) (c .parts .entries) (c .state .monitoringMap)
+mapAfterBy (searched t) c = mapAfterSearch (ladder (t .version)) (t .version) (c .parts .entries) (c .state .monitoringMap)
 mapAfterBy monitored c = mapAfterMonitoring (c .parts .size) (c .state .monitoringMap)
 
 -- the new map
@@ -296,5 +296,5 @@ unfoldable pub judge : Option State → Inputs → Judgement
 judge st i = triedAfter (checks ++ lastChecks) (readCall st i)
 
 -- the signed-text call: to pass 1 to 14
-unfoldable pub judgeUnsigned : Option State → Inputs → Judgement
-judgeUnsigned st i = triedAfter checks (readCall st i)
+unfoldable pub judgeWithoutHead : Option State → Inputs → Judgement
+judgeWithoutHead st i = triedAfter checks (readCall st i)

@@ -1,17 +1,17 @@
 -- A response as text: the forms of its lines, how it is read and written (paper 01, Response lines).
-use mathlib.Core.Bool.{Bool, true, false, _&&_, _||_}
+use mathlib.Core.Bool.{_&&_, _||_}
 use mathlib.Core.List.{List, [], _∷_, _++_, flatMap, flatten}
 use mathlib.Core.Option.{Option, none, some, Option·getD, Option·map, bind as _>>=_}
 use Prim.Native.Nat.{ℕ, _*_, _/_, _%_}
 use lib.Dec.{eqb, leb}
 use lib.ListN.{length}
 use Rattle.lists.specs.Choice.{orElse, _>>_}
-use Rattle.lists.specs.Lists.{Bytes, same, runs}
+use Rattle.lists.specs.Lists.{Bytes, runs}
 use Rattle.lines.specs.Number.{ascii}
 use Rattle.lines.specs.Field.{Field, number, bytes}
 use Rattle.lines.specs.Line.{Form, Read, readLines, readLine, leading, writeLine}
 use Rattle.rules.specs.Limits.{labelLimit, valueLimit, siblingLimit, identifierLength, hashLength, vrfOutputLength, openingLength, numberBound, versionBound}
-use Rattle.rules.specs.Response.{Kind, search, monitor, Target, Finding, searched, monitored, Step, Result, included, absent, otherLeaf, Lookup, Entry, Parts, kindOf}
+use Rattle.rules.specs.Response.{Kind, search, monitor, Finding, searched, monitored, Step, Result, included, absent, otherLeaf, Lookup, Entry, Parts, kindOf}
 
 -- ---- the fields
 
@@ -21,12 +21,12 @@ exactly k = bytes (λ (n : ℕ). eqb n k)
 abbrev pub upTo : ℕ → Field
 upTo k = bytes (λ (n : ℕ). leb n k)
 
-abbrev pub version : Field
-version = number versionBound
+abbrev pub versionField : Field
+versionField = number versionBound
 
 -- a commitment, or `-`
-abbrev pub commitment : Field
-commitment = bytes (λ (n : ℕ). eqb n 0 || eqb n hashLength)
+abbrev pub commitmentField : Field
+commitmentField = bytes (λ (n : ℕ). eqb n 0 || eqb n hashLength)
 
 -- siblings, their hex joined
 abbrev pub siblingsField : Field
@@ -45,22 +45,22 @@ abbrev pub headForm : Form
 headForm = record { words = ascii "head" ∷ []; fields = number numberBound ∷ [] }
 
 abbrev pub targetForm : Form
-targetForm = record { words = ascii "target" ∷ []; fields = version ∷ exactly openingLength ∷ upTo valueLimit ∷ [] }
+targetForm = record { words = ascii "target" ∷ []; fields = versionField ∷ exactly openingLength ∷ upTo valueLimit ∷ [] }
 
 abbrev pub stepForm : Form
-stepForm = record { words = ascii "step" ∷ []; fields = version ∷ commitment ∷ [] }
+stepForm = record { words = ascii "step" ∷ []; fields = versionField ∷ commitmentField ∷ [] }
 
 abbrev pub entryForm : Form
 entryForm = record { words = ascii "entry" ∷ []; fields = number numberBound ∷ number numberBound ∷ exactly hashLength ∷ [] }
 
 abbrev pub inForm : Form
-inForm = record { words = ascii "in" ∷ []; fields = version ∷ siblingsField ∷ [] }
+inForm = record { words = ascii "in" ∷ []; fields = versionField ∷ siblingsField ∷ [] }
 
 abbrev pub noForm : Form
-noForm = record { words = ascii "no" ∷ []; fields = version ∷ siblingsField ∷ [] }
+noForm = record { words = ascii "no" ∷ []; fields = versionField ∷ siblingsField ∷ [] }
 
 abbrev pub nlForm : Form
-nlForm = record { words = ascii "nl" ∷ []; fields = version ∷ exactly vrfOutputLength ∷ exactly hashLength ∷ siblingsField ∷ [] }
+nlForm = record { words = ascii "nl" ∷ []; fields = versionField ∷ exactly vrfOutputLength ∷ exactly hashLength ∷ siblingsField ∷ [] }
 
 abbrev pub nodeForm : Form
 nodeForm = record { words = ascii "node" ∷ []; fields = exactly hashLength ∷ [] }

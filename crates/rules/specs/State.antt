@@ -1,13 +1,14 @@
 -- The state that is kept between calls (paper 01, What a call is given).
-use mathlib.Core.Bool.{Bool, true, false, _&&_, _||_, not}
-use mathlib.Core.List.{List, [], _∷_, map}
+use mathlib.Core.Bool.{Bool, _||_}
+use mathlib.Core.List.{List, [], _∷_, map, List·Memᴰ}
 use Prim.Native.Nat.{ℕ}
 use lib.Dec.{eqb, leb, ltb}
 use lib.ListN.{length}
 use Rattle.lists.specs.Choice.{choose}
 use Rattle.lists.specs.Lists.{Bytes, all, every, rising}
+use Rattle.hash.specs.Bytes.{AreBytes}
 use Rattle.tree.specs.LogTree.{fullSubtrees}
-use Rattle.rules.specs.Limits.{labelLimit, treeSizeLimit, greatestVersion, mapLimit, hashLength}
+use Rattle.rules.specs.Limits.{labelLimit, treeSizeLimit, greatestVersion, mapLimit, hashLength, numberBound}
 
 -- a pair of the monitoring map
 pub record MapEntry : Type 0 where
@@ -32,6 +33,7 @@ isValid s =
     every
     (leb (length (s .label)) labelLimit
     ∷ leb (s .size) treeSizeLimit
+    ∷ leb (s .time) numberBound
     ∷ (ltb 0 (s .size) || eqb (s .time) 0)
     ∷ eqb (length (s .values)) (length (fullSubtrees (s .size)))
     ∷ all (λ (v : Bytes). eqb (length v) hashLength) (s .values)
@@ -40,6 +42,10 @@ isValid s =
     ∷ all (λ (p : ℕ). ltb p (s .size)) (positions (s .monitoringMap))
     ∷ all (λ (v : ℕ). leb v greatestVersion) (versions (s .monitoringMap))
     ∷ [])
+
+-- its label and values are bytes
+abbrev pub HasBytes : State → Type 0
+HasBytes s = AreBytes (s .label) × ((v : Bytes) → List·Memᴰ v (s .values) → AreBytes v)
 
 unfoldable pub emptyState : Bytes → State
 emptyState label = record { label = label; size = 0; time = 0; values = []; monitoringMap = [] }

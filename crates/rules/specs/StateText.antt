@@ -1,7 +1,6 @@
 -- A state as text: a `size` line, a `keep` line for each value, a `pair` line for each pair of the map (paper 01, What a call is given).
-use mathlib.Core.Bool.{Bool, true, false}
-use mathlib.Core.List.{List, [], _∷_, _++_, map, flatMap}
-use mathlib.Core.Option.{Option, none, some, Option·elim, Option·map, bind as _>>=_}
+use mathlib.Core.List.{List, [], _∷_, _++_, flatMap}
+use mathlib.Core.Option.{Option, none, some, Option·elim, bind as _>>=_}
 use Prim.Native.Nat.{ℕ}
 use lib.Dec.{eqb, leb}
 use lib.ListN.{length}

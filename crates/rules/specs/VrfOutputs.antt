@@ -1,14 +1,14 @@
 -- The VRF outputs that the chip approved, which paper 01 calls the sheet: records of a version in 4 bytes and its output, versions rising.
 use mathlib.Core.Bool.{Bool, _&&_}
-use mathlib.Core.List.{List, [], _∷_, map}
-use mathlib.Core.Option.{Option, none, some, Option·elim}
+use mathlib.Core.List.{List, [], map}
+use mathlib.Core.Option.{Option, Option·elim}
 use Prim.Native.Nat.{ℕ, _+_, _/_, _%_}
 use lib.Dec.{eqb}
 use lib.ListN.{length, take, drop}
 use Rattle.lists.specs.Choice.{provided}
 use Rattle.lists.specs.Lists.{Bytes, any, first, rising, runs}
 use Rattle.rules.specs.Limits.{vrfOutputLength}
-use Rattle.rules.specs.Encoding.{number}
+use Rattle.rules.specs.Encoding.{uint}
 
 pub record VrfOutput : Type 0 where
   pub version : ℕ
@@ -18,7 +18,7 @@ abbrev pub recordLength : ℕ
 recordLength = 4 + vrfOutputLength
 
 unfoldable pub readRecord : Bytes → VrfOutput
-readRecord s = record { version = number (take 4 s); output = drop 4 s }
+readRecord s = record { version = uint (take 4 s); output = drop 4 s }
 
 unfoldable pub readRecords : Bytes → List VrfOutput
 readRecords s = map readRecord (runs (length s / recordLength) recordLength s)

@@ -1,5 +1,5 @@
 -- Binary digits: a number with its low digits cleared.
-use mathlib.Core.Path.{_≡_, refl, sym, ap, _∙_}
+use mathlib.Core.Path.{_≡_, sym, ap, _∙_}
 use Prim.Native.Nat.{ℕ, suc, _+_, _*_, _/_, _%_, _^_, _≤_, _<_}
 use native.Mathlib.Nat.{pow-succ', div-add-mod', mod-lt}
 use native.Mathlib.Numerals.{add-one}

@@ -1,9 +1,9 @@
 -- The log tree (paper 01, Trees; 001, 10.8; 004, 4.1 and 7.3): the strings of its leaves and parents, its full subtrees, and the walk from the root down.
-use mathlib.Core.Bool.{Bool, true, false, _&&_, _||_, not, cond}
-use mathlib.Core.List.{List, [], _∷_, _++_, map}
-use Prim.Native.Nat.{ℕ, zero, suc, _+_, _-_, _<_}
+use mathlib.Core.Bool.{Bool, true, _&&_, _||_, not, cond}
+use mathlib.Core.List.{List, [], _∷_, _++_}
+use Prim.Native.Nat.{ℕ, zero, suc, _+_, _-_}
 use lib.Dec.{eqb, leb, ltb}
-use lib.ListN.{length, getD, drop, replicate}
+use lib.ListN.{getD, drop, replicate}
 use Rattle.lists.specs.Choice.{choose}
 use Rattle.lists.specs.Lists.{Bytes, any, same}
 use Rattle.hash.specs.Bytes.{bigEndian}
@@ -18,15 +18,15 @@ pub record LogEntry : Type 0 where
   pub time : ℕ
   pub prefixRoot : Bytes
 
-unfoldable pub leafString : LogEntry → Bytes
-leafString e = bigEndian 8 (e .time) ++ e .prefixRoot
+unfoldable pub logLeafString : LogEntry → Bytes
+logLeafString e = bigEndian 8 (e .time) ++ e .prefixRoot
 
 -- 001, 10.8: hashContent of a child of so many entries: 0x00 before a leaf's value, 0x01 before a parent's
 unfoldable pub hashContent : ℕ → Bytes → Bytes
 hashContent width value = cond (eqb width 1) 0 1 ∷ value
 
-unfoldable pub parentString : ℕ → Bytes → ℕ → Bytes → Bytes
-parentString leftWidth left rightWidth right = hashContent leftWidth left ++ hashContent rightWidth right
+unfoldable pub logParentString : ℕ → Bytes → ℕ → Bytes → Bytes
+logParentString leftWidth left rightWidth right = hashContent leftWidth left ++ hashContent rightWidth right
 
 -- ---- subtrees
 
@@ -103,8 +103,9 @@ widthOf (given r) = r .width
 widthOf (shown p) = 1
 widthOf (parent r x y) = r .width
 
--- ---- values: m entries and the values of their full subtrees are kept, entries are shown, nodes are given and taken from left to right
+-- ---- values
 
+-- what is known beside the nodes, which are given and taken from left to right: m, the kept values of the full subtrees of m entries, and the entries shown
 pub record Known : Type 0 where
   pub size : ℕ
   pub values : List Bytes
@@ -124,13 +125,13 @@ keptValue k r = valueAmong (fullSubtrees (k .size)) (k .values) r
 -- the leaf string of a shown position
 unfoldable pub stringAt : List LogEntry → ℕ → Bytes
 stringAt [] p = []
-stringAt (e ∷ es) p = choose (eqb (e .position) p) (λ _. leafString e) (λ _. stringAt es p)
+stringAt (e ∷ es) p = choose (eqb (e .position) p) (λ _. logLeafString e) (λ _. stringAt es p)
 
 unfoldable pub value : Known → Walk → List Bytes → Bytes
 value k (retained r) nodes = keptValue k r
 value k (given r) nodes = getD nodes 0 zeros
 value k (shown p) nodes = sha256 (stringAt (k .entries) p)
-value k (parent r x y) nodes = sha256 (parentString (widthOf x) (value k x nodes) (widthOf y) (value k y (drop (nodeCount x) nodes)))
+value k (parent r x y) nodes = sha256 (logParentString (widthOf x) (value k x nodes) (widthOf y) (value k y (drop (nodeCount x) nodes)))
 
 -- a subtree that was worked out has the value that is kept of it, if one is
 unfoldable pub agrees : Known → Range → Bytes → Bool
@@ -159,5 +160,5 @@ walkStrings k (retained r) nodes = []
 walkStrings k (given r) nodes = []
 walkStrings k (shown p) nodes = stringAt (k .entries) p ∷ []
 walkStrings k (parent r x y) nodes =
-    parentString (widthOf x) (value k x nodes) (widthOf y) (value k y (drop (nodeCount x) nodes))
+    logParentString (widthOf x) (value k x nodes) (widthOf y) (value k y (drop (nodeCount x) nodes))
     ∷ walkStrings k x nodes ++ walkStrings k y (drop (nodeCount x) nodes)

@@ -1,19 +1,19 @@
 -- The prefix tree (paper 01, Trees; 001, 10.9 and 11.2): the strings of its leaves and parents, and what a lookup shows.
-use mathlib.Core.Bool.{Bool, true, false, _&&_, not}
+use mathlib.Core.Bool.{Bool, true, _&&_, not}
 use mathlib.Core.List.{List, [], _∷_, _++_}
-use Prim.Native.Nat.{ℕ, zero, suc, _/_, _%_, _^_}
-use lib.ListN.{length, take}
+use Prim.Native.Nat.{ℕ, zero, suc, _/_, _%_}
+use lib.ListN.{take}
 use Rattle.lists.specs.Lists.{Bytes, same}
 use Rattle.hash.specs.Sha256.{sha256}
 use Rattle.tree.specs.LogTree.{zeros}
 
 -- ---- what is hashed
 
-unfoldable pub leafString : Bytes → Bytes → Bytes
-leafString vrfOutput commitment = 0x01 ∷ vrfOutput ++ commitment
+unfoldable pub prefixLeafString : Bytes → Bytes → Bytes
+prefixLeafString vrfOutput commitment = 0x01 ∷ vrfOutput ++ commitment
 
-unfoldable pub parentString : Bytes → Bytes → Bytes
-parentString left right = 0x02 ∷ left ++ right
+unfoldable pub prefixParentString : Bytes → Bytes → Bytes
+prefixParentString left right = 0x02 ∷ left ++ right
 
 -- ---- lookups
 
@@ -29,37 +29,37 @@ bits (b ∷ bs) = lowBits 8 b ++ bits bs
 
 -- what stands at the place a lookup ends in: the leaf of the output looked up, with its commitment; nothing; or another leaf
 pub data Terminal : Type 0 where
-  inclusion : Bytes → Terminal
-  vacant : Terminal
-  otherLeaf : Bytes → Bytes → Terminal
+  ownLeaf : Bytes → Terminal
+  emptyPlace : Terminal
+  foreignLeaf : Bytes → Bytes → Terminal
 
 -- the string hashed for it, if any, and its value
 unfoldable pub terminalStrings : Bytes → Terminal → List Bytes
-terminalStrings output (inclusion commitment) = leafString output commitment ∷ []
-terminalStrings output vacant = []
-terminalStrings output (otherLeaf other commitment) = leafString other commitment ∷ []
+terminalStrings output (ownLeaf commitment) = prefixLeafString output commitment ∷ []
+terminalStrings output emptyPlace = []
+terminalStrings output (foreignLeaf other commitment) = prefixLeafString other commitment ∷ []
 
 unfoldable pub terminalValue : Bytes → Terminal → Bytes
-terminalValue output (inclusion commitment) = sha256 (leafString output commitment)
-terminalValue output vacant = zeros
-terminalValue output (otherLeaf other commitment) = sha256 (leafString other commitment)
+terminalValue output (ownLeaf commitment) = sha256 (prefixLeafString output commitment)
+terminalValue output emptyPlace = zeros
+terminalValue output (foreignLeaf other commitment) = sha256 (prefixLeafString other commitment)
 
 -- the parent of a value and its sibling: a bit 0 leads left, 1 right
-unfoldable pub joined : ℕ → Bytes → Bytes → Bytes
-joined zero v sibling = parentString v sibling
-joined (suc b) v sibling = parentString sibling v
+unfoldable pub parentOver : ℕ → Bytes → Bytes → Bytes
+parentOver zero v sibling = prefixParentString v sibling
+parentOver (suc b) v sibling = prefixParentString sibling v
 
 -- the value of a subtree from that of a place in it: the bits lead down to the place, the siblings stand along them, the topmost first
 unfoldable pub up : List ℕ → List Bytes → Bytes → Bytes
 up [] ss v = v
 up (b ∷ bs) [] v = v
-up (b ∷ bs) (s ∷ ss) v = sha256 (joined b (up bs ss v) s)
+up (b ∷ bs) (s ∷ ss) v = sha256 (parentOver b (up bs ss v) s)
 
 -- the strings hashed on the way up
 unfoldable pub upStrings : List ℕ → List Bytes → Bytes → List Bytes
 upStrings [] ss v = []
 upStrings (b ∷ bs) [] v = []
-upStrings (b ∷ bs) (s ∷ ss) v = joined b (up bs ss v) s ∷ upStrings bs ss v
+upStrings (b ∷ bs) (s ∷ ss) v = parentOver b (up bs ss v) s ∷ upStrings bs ss v
 
 -- the root that a lookup leads to
 unfoldable pub lookupRoot : Bytes → Terminal → List Bytes → Bytes
@@ -70,6 +70,6 @@ lookupStrings output t siblings = terminalStrings output t ++ upStrings (bits ou
 
 -- another leaf is another, and stands where the lookup leads: the two outputs share their first bits, as many as the depth
 unfoldable pub terminalFits : Bytes → Terminal → ℕ → Bool
-terminalFits output (inclusion commitment) depth = true
-terminalFits output vacant depth = true
-terminalFits output (otherLeaf other commitment) depth = not (same output other) && same (take depth (bits output)) (take depth (bits other))
+terminalFits output (ownLeaf commitment) depth = true
+terminalFits output emptyPlace depth = true
+terminalFits output (foreignLeaf other commitment) depth = not (same output other) && same (take depth (bits output)) (take depth (bits other))
