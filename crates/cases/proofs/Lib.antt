@@ -1,1 +1,2 @@
 pub mod HashedCases
+pub mod CallCases

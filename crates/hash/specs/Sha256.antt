@@ -30,6 +30,10 @@ initial =
       h = 0x5be0cd19;
     }
 
+-- 6.2.2: a digest has 8 words, 32 bytes
+abbrev pub digestLength : ℕ
+digestLength = 32
+
 -- 6.2.2: the digest is the last hash value, its words one after the other
 unfoldable pub digestOf : HashValue → List ℕ
 digestOf v =

@@ -231,7 +231,7 @@ refused-monitoring = record { other-leaf-is-the-searched-one = refl; nothing-sta
 -- ---- texts
 
 -- the new state as text, and back
-abbrev state-text : Bytes
+abbrev pub state-text : Bytes
 state-text = ascii "size\t1\t1000\t61\nkeep\t6842d1bc293083ea7b011b18167d992105f9bcb8cf66364b49417fd93dbb2c23\npair\t0\t0\n"
 
 pub record Texts : Type 0 where

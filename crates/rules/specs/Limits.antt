@@ -1,5 +1,6 @@
 -- The limits of paper 01, one name each: the table of what a call is given, then lengths and bounds that stand in its text.
 use Prim.Native.Nat.{ℕ, _-_, _^_}
+use Rattle.hash.specs.Sha256.{digestLength}
 
 -- ---- the table
 
@@ -49,7 +50,7 @@ abbrev pub identifierLength : ℕ
 identifierLength = 16
 
 abbrev pub hashLength : ℕ
-hashLength = 32
+hashLength = digestLength
 
 abbrev pub vrfOutputLength : ℕ
 vrfOutputLength = 32

@@ -52,6 +52,7 @@ unfoldable pub reading : {A : Type 0} → ℕ → Option A → (A → Judgement)
 reading k none next = refused k
 reading k (some a) next = next a
 
+-- 1: no input is over its length, and the identifier has its own
 unfoldable pub lengthsFit : Inputs → Bool
 lengthsFit i =
     every
@@ -62,6 +63,7 @@ lengthsFit i =
     ∷ eqb (length (i .identifier)) identifierLength
     ∷ [])
 
+-- 3: there is a state, and it is valid
 unfoldable pub validState : Option State → Option State
 validState none = none
 validState (some s) = provided (isValid s) s

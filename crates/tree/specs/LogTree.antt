@@ -7,7 +7,7 @@ use lib.ListN.{getD, drop, replicate}
 use Rattle.lists.specs.Choice.{choose}
 use Rattle.lists.specs.Lists.{Bytes, any, same}
 use Rattle.hash.specs.Bytes.{bigEndian}
-use Rattle.hash.specs.Sha256.{sha256}
+use Rattle.hash.specs.Sha256.{digestLength, sha256}
 use Rattle.tree.specs.SearchTree.{power}
 
 -- ---- what is hashed
@@ -78,13 +78,15 @@ pub data Walk : Type 0 where
 unfoldable pub isShown : List ℕ → Range → Bool
 isShown positions r = any (λ (p : ℕ). leb (r .start) p && ltb p (r .start + r .width)) positions
 
+-- A subtree with nothing shown is retained, if it is exactly a full subtree of m; else given, if it holds none. What is left, shown or not, splits, down to
+-- single entries, which are shown. The first number is at least the width.
 unfoldable pub walk : ℕ → ℕ → List ℕ → Range → Walk
 walk zero m positions r = given r
 walk (suc k) m positions r =
-    choose (isShown positions r)
-    (λ _. choose (eqb (r .width) 1) (λ _. shown (r .start)) (λ _. parent r (walk k m positions (leftHalf r)) (walk k m positions (rightHalf r))))
-    (λ _. choose (isFull m r) (λ _. retained r)
-    (λ _. choose (holdsFull m r) (λ _. parent r (walk k m positions (leftHalf r)) (walk k m positions (rightHalf r))) (λ _. given r)))
+    choose (not (isShown positions r) && isFull m r) (λ _. retained r)
+    (λ _. choose (not (isShown positions r) && not (holdsFull m r)) (λ _. given r)
+    (λ _. choose (eqb (r .width) 1) (λ _. shown (r .start))
+    (λ _. parent r (walk k m positions (leftHalf r)) (walk k m positions (rightHalf r)))))
 
 -- the walk of a tree of n entries
 unfoldable pub walkOf : ℕ → ℕ → List ℕ → Walk
@@ -111,8 +113,9 @@ pub record Known : Type 0 where
   pub values : List Bytes
   pub entries : List LogEntry
 
+-- what stands for the value of an empty place (001, 10.9), and for one that is missing
 unfoldable pub zeros : Bytes
-zeros = replicate 32 0
+zeros = replicate digestLength 0
 
 -- the kept value of a full subtree
 unfoldable pub valueAmong : List Range → List Bytes → Range → Bytes

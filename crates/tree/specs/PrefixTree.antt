@@ -50,23 +50,23 @@ parentOver zero v sibling = prefixParentString v sibling
 parentOver (suc b) v sibling = prefixParentString sibling v
 
 -- the value of a subtree from that of a place in it: the bits lead down to the place, the siblings stand along them, the topmost first
-unfoldable pub up : List ℕ → List Bytes → Bytes → Bytes
-up [] ss v = v
-up (b ∷ bs) [] v = v
-up (b ∷ bs) (s ∷ ss) v = sha256 (parentOver b (up bs ss v) s)
+unfoldable pub valueAbove : List ℕ → List Bytes → Bytes → Bytes
+valueAbove [] ss v = v
+valueAbove (b ∷ bs) [] v = v
+valueAbove (b ∷ bs) (s ∷ ss) v = sha256 (parentOver b (valueAbove bs ss v) s)
 
 -- the strings hashed on the way up
-unfoldable pub upStrings : List ℕ → List Bytes → Bytes → List Bytes
-upStrings [] ss v = []
-upStrings (b ∷ bs) [] v = []
-upStrings (b ∷ bs) (s ∷ ss) v = parentOver b (up bs ss v) s ∷ upStrings bs ss v
+unfoldable pub stringsAbove : List ℕ → List Bytes → Bytes → List Bytes
+stringsAbove [] ss v = []
+stringsAbove (b ∷ bs) [] v = []
+stringsAbove (b ∷ bs) (s ∷ ss) v = parentOver b (valueAbove bs ss v) s ∷ stringsAbove bs ss v
 
 -- the root that a lookup leads to
 unfoldable pub lookupRoot : Bytes → Terminal → List Bytes → Bytes
-lookupRoot output t siblings = up (bits output) siblings (terminalValue output t)
+lookupRoot output t siblings = valueAbove (bits output) siblings (terminalValue output t)
 
 unfoldable pub lookupStrings : Bytes → Terminal → List Bytes → List Bytes
-lookupStrings output t siblings = terminalStrings output t ++ upStrings (bits output) siblings (terminalValue output t)
+lookupStrings output t siblings = terminalStrings output t ++ stringsAbove (bits output) siblings (terminalValue output t)
 
 -- another leaf is another, and stands where the lookup leads: the two outputs share their first bits, as many as the depth
 unfoldable pub terminalFits : Bytes → Terminal → ℕ → Bool

@@ -5,9 +5,9 @@ use Prim.Native.Nat.{ℕ, _≤_, _<_}
 use borrow.Author.Tests.{le-leb, lt-leb}
 use lib.ListN.{length, take, drop}
 use lib.Seq.{take-length}
-use Rattle.hash.specs.Sha256.{sha256}
+use Rattle.hash.specs.Sha256.{digestLength, sha256}
 use Rattle.hash.proofs.MessageLaws.{length-digest}
-use Rattle.verifier.specs.Exports.{digestLength, sha256Answer, sha256Output}
+use Rattle.verifier.specs.Exports.{sha256Answer, sha256Output}
 
 pub digest-refused : (m d : List ℕ) → length d < digestLength → (0 ≡ sha256Answer d) × (d ≡ sha256Output m d)
 unfolding sha256Answer sha256Output

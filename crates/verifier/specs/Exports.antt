@@ -4,11 +4,7 @@ use mathlib.Core.List.{List, _++_}
 use Prim.Native.Nat.{ℕ}
 use lib.Dec.{leb}
 use lib.ListN.{length, drop}
-use Rattle.hash.specs.Sha256.{sha256}
-
--- the bytes of a SHA-256 digest
-abbrev pub digestLength : ℕ
-digestLength = 32
+use Rattle.hash.specs.Sha256.{digestLength, sha256}
 
 -- kt_sha256, lent the bytes d: the digest's length, or 0 where it does not fit
 unfoldable pub sha256Answer : List ℕ → ℕ
