@@ -29,7 +29,7 @@ pub record MonitoringExamples : Type 0 where
   pub dominated-steps : versionsOf (askedByMonitoring 4 (pair 1 5 ∷ pair 2 2 ∷ [])) ≡ 0 ∷ 1 ∷ 3 ∷ 5 ∷ []
   -- steps of several entries, rising, each once
   pub steps-merged : versionsOf (askedByMonitoring 14 (pair 4 2 ∷ pair 8 5 ∷ [])) ≡ 0 ∷ 1 ∷ 2 ∷ 3 ∷ 5 ∷ []
-  -- a pair that stands on an entry does not count there
+  -- where a pair stands, its own version is not asked for
   pub on-the-entry : askedByMonitoring 4 (pair 1 0 ∷ pair 3 9 ∷ []) ≡ ask 3 (0 ∷ []) ∷ []
   -- pairs move to the ends of their right paths; where they meet the larger version is kept, from whichever it comes
   pub moved : mapAfterMonitoring 14 (pair 4 1 ∷ pair 8 0 ∷ pair 13 3 ∷ []) ≡ pair 7 1 ∷ pair 11 0 ∷ pair 13 3 ∷ []

@@ -13,7 +13,7 @@ use Rattle.lists.specs.Lists.{Bytes, every, rising}
 use Rattle.lists.proofs.ListLaws.{every-cons, all-at, at-all, mapped-at, all-mapped}
 use Rattle.tree.specs.LogTree.{fullSubtrees}
 use Rattle.tree.proofs.FullLaws.{full-length}
-use Rattle.rules.specs.Limits.{labelLimit, treeSizeLimit, greatestVersion, mapLimit, hashLength, numberBound}
+use Rattle.rules.specs.Limits.{labelLimit, treeSizeLimit, greatestVersion, mapLimit, hashLength, numberBound, valuesBlockLength}
 use Rattle.rules.specs.State.{MapEntry, State, positions, versions, isValid}
 
 -- what the tests of a state say
@@ -85,3 +85,7 @@ values-few s v = let b = v .sizeFits in rw (v .valuesCount ∙ full-length (s .s
         let z : m ≡ 1 * 2 ^ 40 + 0 = omega arith in
         let o : ones m ≡ 1 = ap ones z ∙ ones-cat 40 1 0 (omega arith) in
         omega arith
+
+-- the values of a valid state fit their block
+pub values-fit : (s : State) → Valid s → hashLength * length (s .values) ≤ valuesBlockLength
+values-fit s v = let h = values-few s v in omega arith

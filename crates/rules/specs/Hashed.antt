@@ -1,5 +1,5 @@
--- The strings that an accepted call hashed, and no others (paper 01, What the contracts owe): leaves and parents of the log tree that the walk works out, the
--- leaf and the parents of every lookup, and HMAC's inner and outer string for the commitment of a search's target. Of an accepted call every lookup was tried.
+-- The strings that an accepted call hashed, and no others (paper 01, What the contracts owe): of the log tree what the walk hashes, of every lookup its
+-- leaf, if there is one, and the parents above it, and for the commitment of a search's target HMAC's inner and outer string. Of an accepted call every lookup was tried.
 use mathlib.Core.List.{List, [], _++_, flatMap}
 use Rattle.lists.specs.Lists.{Bytes}
 use Rattle.tree.specs.LogTree.{walkStrings}

@@ -17,8 +17,8 @@ reaches n x e = any (eqb x) (rightAncestors n (e .position))
 unfoldable pub versionsReaching : ℕ → List MapEntry → ℕ → List ℕ
 versionsReaching n entries x = versions (select (reaches n x) entries)
 
--- the versions looked up in an entry, from those of the pairs whose right path holds it, v being the largest: the ladder versions not above v, in ladder
--- order; none where no right path holds the entry
+-- the versions looked up in an entry, from those of the pairs whose right path holds it, v being the largest: as much of v's ladder as is not above v, its
+-- order kept; none where no right path holds the entry
 unfoldable pub versionsShown : List ℕ → List ℕ
 versionsShown [] = []
 versionsShown (w ∷ ws) = select (λ (u : ℕ). leb u (largest (w ∷ ws))) (ladder (largest (w ∷ ws)))
@@ -37,7 +37,7 @@ unfoldable pub versionsOf : List Asked → List ℕ
 versionsOf [] = []
 versionsOf (a ∷ rest) = insertAll (a .versions) (versionsOf rest)
 
--- each pair moves to the end of its right path, or stays if that is empty; of pairs that meet the larger version is kept
+-- a pair goes to the last entry of its right path, and stays where it has none; of pairs that meet the larger version is kept
 unfoldable pub mapAfterMonitoring : ℕ → List MapEntry → List MapEntry
 mapAfterMonitoring n [] = []
 mapAfterMonitoring n (e ∷ es) =

@@ -106,7 +106,7 @@ targetWrongIn entries monitored = false
 unfoldable pub targetWrong : Call → Bool
 targetWrong c = targetWrongIn (c .state .monitoringMap) (c .parts .finding)
 
--- ---- 9: steps, commitments given or left out, entries, lookup versions or the number of nodes are not as asked
+-- ---- 9: something is not as asked: steps or their commitments, entries, the versions looked up, the number of nodes
 
 unfoldable pub askedBy : Finding → ℕ → List MapEntry → List Asked
 askedBy (searched t) n entries = askedBySearch n (t .version)
@@ -125,7 +125,7 @@ unfoldable pub commitmentAsked : Finding → Step → Bool
 commitmentAsked (searched t) s = Option·elim (s .commitment) (leb (t .version) (s .version)) (λ _. ltb (s .version) (t .version))
 commitmentAsked monitored s = Option·elim (s .commitment) false (λ _. true)
 
--- a beginning of the ladder, at least one; in monitoring all versions
+-- in a search one version or more, from the front of the ladder; in monitoring all versions
 unfoldable pub lookupsAsked : Finding → List ℕ → List ℕ → Bool
 lookupsAsked (searched t) wanted shown = ltb 0 (length shown) && begins shown wanted
 lookupsAsked monitored wanted shown = same shown wanted
@@ -150,7 +150,7 @@ notAsAsked c =
     ∷ eqb (length (c .parts .nodes)) (nodeCount (logWalk c))
     ∷ []))
 
--- ---- 10: a version of a step is not in the sheet
+-- ---- 10: the sheet lacks the version of a step
 
 unfoldable pub outputMissing : Call → Bool
 outputMissing c = not (all (hasOutput (c .outputs)) (stepVersions (c .parts)))
@@ -195,7 +195,7 @@ terminal c v included = ownLeaf (commitmentOf c v)
 terminal c v absent = emptyPlace
 terminal c v (otherLeaf output commitment) = foreignLeaf output commitment
 
--- a search's `in` above t has no commitment: its path is not tried
+-- in a search there is no commitment with which an `in` above t could be tried
 unfoldable pub untried : Finding → Lookup → Bool
 untried (searched t) l = ltb (t .version) (l .version) && isIncluded (l .result)
 untried monitored l = false

@@ -22,7 +22,7 @@ askedBySearch n t = map (λ (p : ℕ). record { position = p; versions = ladder 
 
 -- ---- whole and short entries
 
--- a lookup as in a whole entry: `in` up to t and not `in` above
+-- a lookup as in a whole entry: `in` exactly where its version is not above t
 unfoldable pub resultFits : ℕ → Lookup → Bool
 resultFits t l = cond (leb (l .version) t) (isIncluded (l .result)) (not (isIncluded (l .result)))
 
@@ -30,7 +30,7 @@ resultFits t l = cond (leb (l .version) t) (isIncluded (l .result)) (not (isIncl
 unfoldable pub isComplete : List ℕ → ℕ → Entry → Bool
 isComplete vs t e = same (lookupVersions e) vs && all (resultFits t) (e .lookups)
 
--- the ladder ends early, with a lookup that is not `in` for a version up to t, the earlier ones as in a whole entry: paper 01 calls the entry short
+-- the ladder ends early, where a version not above t is missing, the earlier lookups as in a whole entry: paper 01 calls the entry short
 unfoldable pub endsEarly : ℕ → List Lookup → Bool
 endsEarly t [] = false
 endsEarly t (l ∷ []) = leb (l .version) t && not (isIncluded (l .result))
@@ -52,7 +52,7 @@ putEntry pick e (x ∷ xs) =
     (λ _. choose (eqb (e .position) (x .position)) (λ _. record { position = e .position; version = pick (e .version) (x .version) } ∷ xs)
     (λ _. x ∷ putEntry pick e xs))
 
--- the first whole entry's position gets version t, in place of a pair that stands there
+-- version t goes to the position of the first whole entry, over a pair that stands there
 unfoldable pub mapAfterSearch : List ℕ → ℕ → List Entry → List MapEntry → List MapEntry
 mapAfterSearch vs t es old =
     Option·elim (first (isComplete vs t) es) old (λ e. putEntry (λ (new before : ℕ). new) (record { position = e .position; version = t }) old)

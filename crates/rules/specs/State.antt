@@ -55,7 +55,7 @@ pub record NumberedState : Type 0 where
   pub number : ℕ
   pub state : State
 
--- a new state is made from a label
+-- the state to begin with, for a label
 unfoldable pub newState : Bytes → NumberedState
 newState label =
     choose (leb (length label) labelLimit) (λ _. record { number = 0; state = emptyState label })

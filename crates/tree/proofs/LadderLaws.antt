@@ -141,7 +141,7 @@ climb-length j t a b f i lo v d e k h =
         let z = ih (suc i) e (omega arith) (omega arith) in
         omega arith
 
--- where 2 ^ j - 1 ≤ t ≤ 2 ^ (j + 1) - 2, the ladder of t has 2 j + 2 versions
+-- for t from 2 ^ j - 1 to 2 ^ (j + 1) - 2 the ladder has 2 j + 2 versions
 pub ladder-length : (j t : ℕ) → 2 ^ j ≤ t + 1 → t + 1 < 2 ^ suc j → length (ladder t) ≡ 2 * j + 2
 ladder-length j t a b = rw ladder-start (let z = climb-length j t a b t 0 0 1 (omega arith) (omega arith) (omega arith) (omega arith) in omega arith)
 

@@ -103,7 +103,7 @@ split-at width h =
     let (k, e, l, u) = power-at (width - 1) (omega arith) in
     (k, e, omega arith, omega arith)
 
--- it splits at the largest power of two below its width
+-- no larger power of two is below its width
 pub split-largest : (j width : ℕ) → 2 ^ j < width → 2 ^ j ≤ splitAt width
 unfolding splitAt
 split-largest j width h = power-largest j (width - 1) (omega arith)

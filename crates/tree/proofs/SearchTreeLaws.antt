@@ -340,7 +340,7 @@ frontier-last n d h = rw (frontier-digits n n (below-power n)) (digits-last n n 
 
 -- ---- right paths
 
--- the node of level k that holds p: p with its k + 1 low digits replaced by a 0 and k ones
+-- the node of level k that holds p: in place of p's k + 1 low digits stand a 0 and k ones
 abbrev pub ancestor : ℕ → ℕ → ℕ
 ancestor k p = node k (p / 2 ^ suc k)
 

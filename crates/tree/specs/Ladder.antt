@@ -13,11 +13,11 @@ halve (suc k) t lo hi =
     choose (leb hi (lo + 1)) (λ _. [])
     (λ _. (lo + hi) / 2 ∷ halve k t (cond (leb ((lo + hi) / 2) t) ((lo + hi) / 2) lo) (cond (leb ((lo + hi) / 2) t) hi ((lo + hi) / 2)))
 
--- v, 2 v + 1 and so on up to the first above t, then halving between it and the one before it, lo
+-- v, 2 v + 1 and so on until one is above t, then halving between that one and the one before it, lo
 unfoldable pub climb : ℕ → ℕ → ℕ → ℕ → List ℕ
 climb zero t lo v = []
 climb (suc k) t lo v = v ∷ choose (ltb t v) (λ _. halve v t lo v) (λ _. climb k t v (2 * v + 1))
 
--- 0, 1, 3, 7 .. up to the first above t, then halving
+-- the ladder of t: climbing from 0, then halving
 unfoldable pub ladder : ℕ → List ℕ
 ladder t = climb (t + 2) t 0 0

@@ -42,7 +42,7 @@ sameRange x y = eqb (x .start) (y .start) && eqb (x .width) (y .width)
 unfoldable pub holds : Range → Range → Bool
 holds x y = leb (x .start) (y .start) && leb (y .start + y .width) (x .start + x .width)
 
--- 004, 4.1: a tree splits at the largest power of two below its size
+-- 004, 4.1: the left part of a tree has as many entries as the largest power of two that is smaller than the tree
 unfoldable pub splitAt : ℕ → ℕ
 splitAt width = power (width - 1)
 

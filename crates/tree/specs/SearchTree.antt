@@ -53,7 +53,7 @@ unfoldable pub rightward : ℕ → ℕ → ℕ → List ℕ
 rightward zero n x = []
 rightward (suc k) n x = x ∷ choose (ltb (x + 1) n) (λ _. rightward k n (right n x)) (λ _. [])
 
--- the root, its right child and so on to n - 1
+-- right from the root, and right again, as far as n - 1
 unfoldable pub frontier : ℕ → List ℕ
 frontier n = rightward n n (root n)
 
