@@ -1,4 +1,4 @@
--- Demand 3: the two claims, stated whole. They are about acceptance as `judge` has it, and about the real SHA-256.
+-- Demand 3 (paper 01, What the contracts owe): the two claims, stated whole. They are about acceptance as `judge` has it, and about the real SHA-256.
 use mathlib.Core.Path.{_≡_}
 use mathlib.Core.Logic.{_⊎_}
 use mathlib.Core.List.{List, [], _∷_, _++_, map, flatMap, List·Memᴰ}

@@ -1,4 +1,4 @@
--- The VRF outputs that the chip approved, which paper 01 calls the sheet: records of a version in 4 bytes and its output, versions rising.
+-- The VRF outputs that the chip approved, which paper 01 calls the sheet (What a call is given): records of a version in 4 bytes and its output, versions rising.
 use mathlib.Core.Bool.{Bool, _&&_}
 use mathlib.Core.List.{List, [], map}
 use mathlib.Core.Option.{Option, Option·elim}
