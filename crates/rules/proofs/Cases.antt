@@ -7,6 +7,7 @@ use Prim.Native.Nat.{ℕ}
 use Rattle.lists.specs.Lists.{Bytes}
 use Rattle.lines.specs.Number.{ascii}
 use Rattle.rules.specs.Limits.{responseLimit}
+use Rattle.rules.specs.Configuration.{readConfiguration, writeConfiguration}
 use Rattle.rules.specs.State.{MapEntry, State, emptyState}
 use Rattle.rules.specs.StateText.{readState, writeState}
 use Rattle.rules.specs.Response.{search, monitor}
@@ -234,10 +235,18 @@ refused-monitoring = record { other-leaf-is-the-searched-one = refl; nothing-sta
 abbrev pub state-text : Bytes
 state-text = ascii "size\t1\t1000\t61\nkeep\t6842d1bc293083ea7b011b18167d992105f9bcb8cf66364b49417fd93dbb2c23\npair\t0\t0\n"
 
+-- a maximum lifetime of 5
+abbrev with-lifetime : Bytes
+with-lifetime = x "0001010001040000000000000000000a00000000000003e80000000000000000010000000000000005"
+
 pub record Texts : Type 0 where
   pub state-written : writeState after-search ≡ state-text
   pub state-read : readState state-text ≡ some after-search
   pub response-back : Option·map writeResponse (readResponse response) ≡ some response
+  pub configuration-back : Option·map writeConfiguration (readConfiguration configuration) ≡ some configuration
+  pub lifetime-back : Option·map writeConfiguration (readConfiguration with-lifetime) ≡ some with-lifetime
+  -- what follows the presence byte must be there
+  pub lifetime-cut : readConfiguration (x "0001010001040000000000000000000a00000000000003e800000000000000000100000000000000") ≡ none
   -- a foreign identifier, as the program sees it: one line, no file
   pub printed-refusal : printed (judgeFiles (record {
     request = some (ascii "search\t000102030405060708090a0b0c0d0e0e\t1000\n");
@@ -267,4 +276,4 @@ pub record Texts : Type 0 where
 
 pub texts : Texts
 unfolding opened
-texts = record { state-written = refl; state-read = refl; response-back = refl; printed-refusal = refl; broken-request = refl; missing-file = refl }
+texts = record { state-written = refl; state-read = refl; response-back = refl; configuration-back = refl; lifetime-back = refl; lifetime-cut = refl; printed-refusal = refl; broken-request = refl; missing-file = refl }

@@ -6,3 +6,4 @@ pub mod StepLaws
 pub mod SearchTreeLaws
 pub mod FullLaws
 pub mod ExampleLaws
+pub mod ShapeExamples

@@ -1,0 +1,69 @@
+-- Small trees written out: how the walk goes, which bytes are hashed in which order. antt computes each one; SHA-256 stays shut.
+use mathlib.Core.Path.{_≡_, refl}
+use mathlib.Core.List.{[], _∷_, _++_}
+use Prim.Native.Nat.{ℕ}
+use Rattle.lists.specs.Lists.{Bytes}
+use Rattle.lists.proofs.Computing.{list-definitions}
+use Rattle.hash.specs.Bytes.{bigEndian}
+use Rattle.hash.specs.Sha256.{sha256}
+use Rattle.tree.specs.SearchTree.{frontier}
+use Rattle.tree.specs.LogTree.{LogEntry, Range, Walk, retained, given, shown, parent, walkOf, Known, value, fullValues, walkStrings}
+use Rattle.tree.specs.PrefixTree.{bits, ownLeaf, valueAbove, stringsAbove}
+use Rattle.tree.proofs.Computing.{tree-definitions}
+
+abbrev range : ℕ → ℕ → Range
+range s w = record { start = s; width = w }
+
+-- the frontier of 14 from 10 entries kept: entries 0 to 7 are worked out although their value is kept, since 7 is shown; 8 and 9 are taken as kept
+pub walk-of-14 : walkOf 14 10 (frontier 14)
+    ≡ parent (range 0 14)
+    (parent (range 0 8) (given (range 0 4)) (parent (range 4 4) (given (range 4 2)) (parent (range 6 2) (given (range 6 1)) (shown 7))))
+    (parent (range 8 6)
+    (parent (range 8 4) (retained (range 8 2)) (parent (range 10 2) (given (range 10 1)) (shown 11)))
+    (parent (range 12 2) (given (range 12 1)) (shown 13)))
+unfolding list-definitions tree-definitions
+walk-of-14 = refl
+
+-- with nothing shown, what was kept and what is new stand side by side
+pub walk-of-5 : walkOf 5 3 [] ≡ parent (range 0 5) (parent (range 0 4) (retained (range 0 2)) (parent (range 2 2) (retained (range 2 1)) (given (range 3 1)))) (given (range 4 1))
+unfolding list-definitions tree-definitions
+walk-of-5 = refl
+
+-- three entries, of which 0 and 1 are kept and 2 is shown
+module _ (k : Bytes) (t : ℕ) (r : Bytes) where
+  abbrev three : Known
+  three = record { size = 2; values = k ∷ []; entries = record { position = 2; time = t; prefixRoot = r } ∷ [] }
+
+  pub three-value : value three (walkOf 3 2 (2 ∷ [])) [] ≡ sha256 (0x01 ∷ k ++ 0x00 ∷ sha256 (bigEndian 8 t ++ r))
+  unfolding list-definitions tree-definitions
+  three-value = refl
+
+  pub three-full-values : fullValues 3 three (walkOf 3 2 (2 ∷ [])) [] ≡ k ∷ sha256 (bigEndian 8 t ++ r) ∷ []
+  unfolding list-definitions tree-definitions
+  three-full-values = refl
+
+  pub three-strings : walkStrings three (walkOf 3 2 (2 ∷ [])) []
+      ≡ (0x01 ∷ k ++ 0x00 ∷ sha256 (bigEndian 8 t ++ r)) ∷ (bigEndian 8 t ++ r) ∷ []
+  unfolding list-definitions tree-definitions
+  three-strings = refl
+
+-- two nodes are taken from left to right
+pub nodes-in-order : (a b : Bytes) (t : ℕ) (r : Bytes)
+    → value (record { size = 0; values = []; entries = record { position = 3; time = t; prefixRoot = r } ∷ [] }) (walkOf 4 0 (3 ∷ [])) (a ∷ b ∷ [])
+    ≡ sha256 (0x01 ∷ a ++ 0x01 ∷ sha256 (0x00 ∷ b ++ 0x00 ∷ sha256 (bigEndian 8 t ++ r)))
+unfolding list-definitions tree-definitions
+nodes-in-order a b t r = refl
+
+-- the high bit of the first byte leads first
+pub bits-of-two-bytes : bits (0x80 ∷ 0x03 ∷ []) ≡ 1 ∷ 0 ∷ 0 ∷ 0 ∷ 0 ∷ 0 ∷ 0 ∷ 0 ∷ 0 ∷ 0 ∷ 0 ∷ 0 ∷ 0 ∷ 0 ∷ 1 ∷ 1 ∷ []
+unfolding list-definitions tree-definitions
+bits-of-two-bytes = refl
+
+-- a place at depth 2, right of the root and then left: the sibling listed first stands left, at the root
+pub two-siblings : (a b v : Bytes) → valueAbove (1 ∷ 0 ∷ 1 ∷ []) (a ∷ b ∷ []) v ≡ sha256 (0x02 ∷ a ++ sha256 (0x02 ∷ v ++ b))
+unfolding list-definitions tree-definitions
+two-siblings a b v = refl
+
+pub two-siblings-strings : (a b v : Bytes) → stringsAbove (1 ∷ 0 ∷ 1 ∷ []) (a ∷ b ∷ []) v ≡ (0x02 ∷ a ++ sha256 (0x02 ∷ v ++ b)) ∷ (0x02 ∷ v ++ b) ∷ []
+unfolding list-definitions tree-definitions
+two-siblings-strings a b v = refl
