@@ -127,6 +127,7 @@ pub record RefusedUnhashed : Type 0 where
   pub upper-case : Refused new (answering (kt-line ++ head-line ++ ascii "target\t0\t3030303030303030303030303030303A\t78\n" ++ step-lines ++ entry-line ++ in-line ++ nl-line ++ end-line)) 5
   pub newline-missing : Refused new (answering (kt-line ++ head-line ++ target-line ++ step-lines ++ entry-line ++ in-line ++ nl-line ++ ascii "end")) 5
   pub after-end : Refused new (answering (response ++ ascii "end\n")) 5
+  pub other-after-end : Refused new (answering (response ++ ascii "\n")) 5
   pub lookup-first : Refused new (answering (kt-line ++ head-line ++ target-line ++ step-lines ++ in-line ++ entry-line ++ nl-line ++ end-line)) 5
   pub foreign-identifier : Refused new (answering (ascii "kt\tsearch\t000102030405060708090a0b0c0d0e0e\t61\n" ++ head-line ++ target-line ++ step-lines ++ entry-line ++ in-line ++ nl-line ++ end-line)) 6
   pub foreign-label : Refused (some (emptyState (x "62"))) honest 6
@@ -161,6 +162,7 @@ refused-unhashed =
       upper-case = refl;
       newline-missing = refl;
       after-end = refl;
+      other-after-end = refl;
       lookup-first = refl;
       foreign-identifier = refl;
       foreign-label = refl;
@@ -216,6 +218,8 @@ abbrev watched-step : Bytes
 watched-step = ascii "head\t2\nstep\t0\tc337ee9f07ed7b3ce06bb323f8170d5b410c219602c13456b3dbbe0f70f95d62\n"
 
 pub record RefusedMonitoring : Type 0 where
+  pub commitment-left-out : Refused (some watched) (watching
+      (ascii "head\t2\nstep\t0\t-\n" ++ ascii "entry\t1\t1000\t0000000000000000000000000000000000000000000000000000000000000000\nno\t0\t-\n") sheet-0 []) 9
   pub other-leaf-is-the-searched-one : Refused (some watched) (watching
       (watched-step ++ ascii "entry\t1\t1000\t0470a5b73e5d7206f13eb1efafa43a2e45df17b7bca61b55cda03fac3c31c624\n"
       ++ ascii "nl\t0\t0011111111111111111111111111111111111111111111111111111111111111\tc337ee9f07ed7b3ce06bb323f8170d5b410c219602c13456b3dbbe0f70f95d62\t-\n")
@@ -227,7 +231,7 @@ pub record RefusedMonitoring : Type 0 where
 
 pub refused-monitoring : RefusedMonitoring
 unfolding opened
-refused-monitoring = record { other-leaf-is-the-searched-one = refl; nothing-stands = refl; kept-value-differs = refl; other-root-signed = refl }
+refused-monitoring = record { commitment-left-out = refl; other-leaf-is-the-searched-one = refl; nothing-stands = refl; kept-value-differs = refl; other-root-signed = refl }
 
 -- ---- texts
 

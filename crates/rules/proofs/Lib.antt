@@ -5,4 +5,5 @@ pub mod MapLaws
 pub mod RefusalLaws
 pub mod Running
 pub mod RuleExamples
+pub mod BorderExamples
 pub mod Cases

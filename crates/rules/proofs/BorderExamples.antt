@@ -1,0 +1,227 @@
+-- The borders of the rules that need no hashing: what just passes and what just does not. antt computes each one.
+use mathlib.Core.Path.{_≡_, refl}
+use mathlib.Core.Bool.{Bool, true, false}
+use mathlib.Core.List.{List, [], _∷_, _++_}
+use mathlib.Core.Option.{Option, none, some}
+use Prim.Native.Nat.{ℕ, zero, suc, _+_, _-_, _^_}
+use lib.ListN.{replicate}
+use Rattle.lists.specs.Lists.{Bytes}
+use Rattle.tree.specs.Ladder.{ladder}
+use Rattle.rules.specs.State.{MapEntry, State}
+use Rattle.rules.specs.Response.{Finding, searched, monitored, Step, Lookup, included, absent, Entry, Parts}
+use Rattle.rules.specs.Refusals.{Inputs, Call, lengthsFit, sizeWrong, targetWrong, commitmentAsked, lookupsAsked, timesWrong, roomMissing}
+use Rattle.rules.proofs.Running.{opened}
+
+-- ---- calls as read, with what the rule in question looks at
+
+abbrev pair : ℕ → ℕ → MapEntry
+pair p v = record { position = p; version = v }
+
+abbrev state : ℕ → ℕ → List MapEntry → State
+state m t es = record { label = []; size = m; time = t; values = []; monitoringMap = es }
+
+abbrev target : ℕ → Bytes → Finding
+target t v = searched (record { version = t; opening = []; value = v })
+
+abbrev parts : ℕ → Finding → List Entry → Parts
+parts n f es = record { identifier = []; label = []; size = n; finding = f; steps = []; entries = es; nodes = [] }
+
+-- with a clock and bytes of output; max_ahead is 10 and max_behind 20
+abbrev call : State → Parts → ℕ → ℕ → Call
+call s p clock room =
+    record {
+      inputs =
+          record {
+            limit = 0;
+            kind = none;
+            response = [];
+            configuration = [];
+            identifier = [];
+            clock = clock;
+            vrfOutputs = [];
+            signedText = [];
+            room = room;
+          };
+      configuration =
+          record {
+            suite = 1;
+            mode = 1;
+            signatureKey = [];
+            vrfKey = [];
+            maxAhead = 10;
+            maxBehind = 20;
+            monitoringWindow = 0;
+            maximumLifetime = none;
+          };
+      state = s;
+      outputs = [];
+      parts = p;
+    }
+
+-- ---- 1
+
+-- lengths of response, limit, configuration, identifier, sheet, signed text
+abbrev lengths : ℕ → ℕ → ℕ → ℕ → ℕ → ℕ → Inputs
+lengths r l c i v s =
+    record {
+      limit = l;
+      kind = none;
+      response = replicate r 0;
+      configuration = replicate c 0;
+      identifier = replicate i 0;
+      clock = 0;
+      vrfOutputs = replicate v 0;
+      signedText = replicate s 0;
+      room = 0;
+    }
+
+pub record Lengths : Type 0 where
+  pub all-at-limit : lengthsFit (lengths 100 100 2048 16 36864 2088) ≡ true
+  pub response-over : lengthsFit (lengths 101 100 2048 16 36864 2088) ≡ false
+  pub configuration-over : lengthsFit (lengths 100 100 2049 16 36864 2088) ≡ false
+  pub identifier-over : lengthsFit (lengths 100 100 2048 17 36864 2088) ≡ false
+  pub sheet-over : lengthsFit (lengths 100 100 2048 16 36865 2088) ≡ false
+  pub signed-over : lengthsFit (lengths 100 100 2048 16 36864 2089) ≡ false
+
+pub lengths-borders : Lengths
+unfolding opened
+lengths-borders =
+    record { all-at-limit = refl; response-over = refl; configuration-over = refl; identifier-over = refl; sheet-over = refl; signed-over = refl }
+
+-- ---- 7 and 8
+
+abbrev wrong-size : ℕ → ℕ → Bool
+wrong-size m n = sizeWrong (call (state m 0 []) (parts n monitored []) 0 0)
+
+abbrev wrong-target : ℕ → ℕ → Bool
+wrong-target v t = targetWrong (call (state 1 0 (pair 0 v ∷ [])) (parts 1 (target t []) []) 0 0)
+
+pub record SizeAndTarget : Type 0 where
+  pub nothing : wrong-size 0 0 ≡ true
+  pub largest : wrong-size 0 (2 ^ 40) ≡ false
+  pub too-large : wrong-size 0 (2 ^ 40 + 1) ≡ true
+  pub as-kept : wrong-size 5 5 ≡ false
+  pub below-kept : wrong-size 5 4 ≡ true
+  pub greatest-version : wrong-target 0 (2 ^ 32 - 2) ≡ false
+  pub no-version : wrong-target 0 (2 ^ 32 - 1) ≡ true
+  pub as-in-map : wrong-target 3 3 ≡ false
+  pub below-map : wrong-target 3 2 ≡ true
+
+pub size-and-target-borders : SizeAndTarget
+unfolding opened
+size-and-target-borders =
+    record {
+      nothing = refl;
+      largest = refl;
+      too-large = refl;
+      as-kept = refl;
+      below-kept = refl;
+      greatest-version = refl;
+      no-version = refl;
+      as-in-map = refl;
+      below-map = refl;
+    }
+
+-- ---- 9
+
+abbrev step : ℕ → Option Bytes → Step
+step v k = record { version = v; commitment = k }
+
+pub record Commitments : Type 0 where
+  pub below-given : commitmentAsked (target 2 []) (step 1 (some [])) ≡ true
+  pub below-left-out : commitmentAsked (target 2 []) (step 1 none) ≡ false
+  pub target-given : commitmentAsked (target 2 []) (step 2 (some [])) ≡ false
+  pub target-left-out : commitmentAsked (target 2 []) (step 2 none) ≡ true
+  pub above-given : commitmentAsked (target 2 []) (step 3 (some [])) ≡ false
+  pub above-left-out : commitmentAsked (target 2 []) (step 3 none) ≡ true
+  pub one-lookup : lookupsAsked (target 2 []) (ladder 2) (0 ∷ []) ≡ true
+  pub no-lookup : lookupsAsked (target 2 []) (ladder 2) [] ≡ false
+  pub whole-ladder : lookupsAsked (target 2 []) (ladder 2) (0 ∷ 1 ∷ 3 ∷ 2 ∷ []) ≡ true
+  pub beyond-ladder : lookupsAsked (target 2 []) (ladder 2) (0 ∷ 1 ∷ 3 ∷ 2 ∷ 4 ∷ []) ≡ false
+  pub off-ladder : lookupsAsked (target 2 []) (ladder 2) (0 ∷ 2 ∷ []) ≡ false
+  pub monitoring-all : lookupsAsked monitored (0 ∷ 1 ∷ []) (0 ∷ 1 ∷ []) ≡ true
+  pub monitoring-some : lookupsAsked monitored (0 ∷ 1 ∷ []) (0 ∷ []) ≡ false
+
+pub commitments-borders : Commitments
+unfolding opened
+commitments-borders =
+    record {
+      below-given = refl;
+      below-left-out = refl;
+      target-given = refl;
+      target-left-out = refl;
+      above-given = refl;
+      above-left-out = refl;
+      one-lookup = refl;
+      no-lookup = refl;
+      whole-ladder = refl;
+      beyond-ladder = refl;
+      off-ladder = refl;
+      monitoring-all = refl;
+      monitoring-some = refl;
+    }
+
+-- ---- 11
+
+abbrev entry : ℕ → ℕ → List Lookup → Entry
+entry p t ls = record { position = p; time = t; prefixRoot = []; lookups = ls }
+
+-- two entries, at 7 and 11, with times; m is 8, the kept time 50
+abbrev wrong-times : ℕ → ℕ → ℕ → Bool
+wrong-times clock t u = timesWrong (call (state 8 50 []) (parts 12 monitored (entry 7 t [] ∷ entry 11 u [] ∷ [])) clock 0)
+
+pub record Times : Type 0 where
+  pub all-equal : wrong-times 50 50 50 ≡ false
+  pub below-later : wrong-times 50 51 51 ≡ true
+  pub above-earlier : wrong-times 50 49 49 ≡ true
+  pub rising : wrong-times 50 49 51 ≡ false
+  pub falling : timesWrong (call (state 0 0 []) (parts 12 monitored (entry 7 51 [] ∷ entry 11 50 [] ∷ [])) 50 0) ≡ true
+  pub at-ahead : wrong-times 50 40 60 ≡ false
+  pub beyond-ahead : wrong-times 50 40 61 ≡ true
+  pub at-behind : wrong-times 70 40 50 ≡ false
+  pub beyond-behind : wrong-times 71 40 50 ≡ true
+  -- sums are whole numbers
+  pub far-ahead : wrong-times (2 ^ 64 - 1) 40 (2 ^ 64 - 1) ≡ false
+
+pub times-borders : Times
+unfolding opened
+times-borders =
+    record {
+      all-equal = refl;
+      below-later = refl;
+      above-earlier = refl;
+      rising = refl;
+      falling = refl;
+      at-ahead = refl;
+      beyond-ahead = refl;
+      at-behind = refl;
+      beyond-behind = refl;
+      far-ahead = refl;
+    }
+
+-- ---- 16
+
+-- so many pairs, at 0, 1 and so on
+pub pairs-below : ℕ → List MapEntry
+pairs-below zero = []
+pairs-below (suc k) = pairs-below k ++ pair k 0 ∷ []
+
+-- an entry whose ladder of version 0 is complete
+abbrev whole : ℕ → Entry
+whole p =
+    entry p 0
+    (record { version = 0; result = included; siblings = [] } ∷ record { version = 1; result = absent; siblings = [] } ∷ [])
+
+abbrev no-room : ℕ → ℕ → ℕ → Bytes → Bool
+no-room k p room v = roomMissing (call (state 64 0 (pairs-below k)) (parts 64 (target 0 v) (whole p ∷ [])) 0 room)
+
+pub record Room : Type 0 where
+  pub value-fits : no-room 0 0 2 (1 ∷ 2 ∷ []) ≡ false
+  pub value-over : no-room 0 0 1 (1 ∷ 2 ∷ []) ≡ true
+  pub last-pair : no-room 47 63 0 [] ≡ false
+  pub pair-too-many : no-room 48 63 0 [] ≡ true
+  pub old-position : no-room 48 47 0 [] ≡ false
+
+pub room-borders : Room
+unfolding opened pairs-below
+room-borders = record { value-fits = refl; value-over = refl; last-pair = refl; pair-too-many = refl; old-position = refl }
