@@ -17,10 +17,10 @@ use Rattle.rules.proofs.Cases.{Refused, Accepted, identifier, configuration, sh
 
 -- ---- monitoring: version 1 was added in a second entry, which stands on the right path of entry 0
 
-abbrev root-of-two : Bytes
+abbrev pub root-of-two : Bytes
 root-of-two = x "586c84a5bec17d274bd69152ce3b4bae918e614b514f266376c6ee0baf8df895"
 
-abbrev monitoring : Inputs
+abbrev pub monitoring : Inputs
 monitoring =
     record {
       limit = responseLimit;

@@ -10,7 +10,7 @@ use Rattle.rules.specs.Limits.{responseLimit}
 use Rattle.rules.specs.Configuration.{readConfiguration, writeConfiguration}
 use Rattle.rules.specs.State.{MapEntry, State, emptyState}
 use Rattle.rules.specs.StateText.{readState, writeState}
-use Rattle.rules.specs.Response.{search, monitor}
+use Rattle.rules.specs.Response.{Kind, search, monitor}
 use Rattle.rules.specs.ResponseText.{readResponse, writeResponse}
 use Rattle.rules.specs.Refusals.{Inputs}
 use Rattle.rules.specs.Calls.{numberOf}
@@ -72,12 +72,12 @@ end-line = ascii "end\n"
 abbrev pub response : Bytes
 response = kt-line ++ head-line ++ target-line ++ step-lines ++ entry-line ++ in-line ++ nl-line ++ end-line
 
--- a search with a response, a configuration, an identifier, a clock, a sheet, a signed text and bytes of output
-abbrev pub searching : Bytes → Bytes → Bytes → ℕ → Bytes → Bytes → ℕ → Inputs
-searching r c id clock sheet s room =
+-- a kind, a response, a configuration, an identifier, a clock, a sheet, a signed text and bytes of output
+abbrev pub asking : Kind → Bytes → Bytes → Bytes → ℕ → Bytes → Bytes → ℕ → Inputs
+asking kind r c id clock sheet s room =
     record {
       limit = responseLimit;
-      kind = some search;
+      kind = some kind;
       response = r;
       configuration = c;
       identifier = id;
@@ -86,6 +86,9 @@ searching r c id clock sheet s room =
       signedText = s;
       room = room;
     }
+
+abbrev pub searching : Bytes → Bytes → Bytes → ℕ → Bytes → Bytes → ℕ → Inputs
+searching r c id clock sheet s room = asking search r c id clock sheet s room
 
 abbrev pub honest : Inputs
 honest = searching response configuration identifier 1000 (sheet-0 ++ sheet-1) signed 1
@@ -132,6 +135,7 @@ pub record RefusedUnhashed : Type 0 where
   pub foreign-identifier : Refused new (answering (ascii "kt\tsearch\t000102030405060708090a0b0c0d0e0e\t61\n" ++ head-line ++ target-line ++ step-lines ++ entry-line ++ in-line ++ nl-line ++ end-line)) 6
   pub foreign-label : Refused (some (emptyState (x "62"))) honest 6
   pub other-kind : Refused new (answering (ascii "kt\tmonitor\t000102030405060708090a0b0c0d0e0f\t61\n" ++ head-line ++ end-line)) 6
+  pub other-kind-asked : Refused new (asking monitor response configuration identifier 1000 (sheet-0 ++ sheet-1) signed 1) 6
   pub no-entries-in-log : Refused new (answering (kt-line ++ ascii "head\t0\n" ++ target-line ++ step-lines ++ entry-line ++ in-line ++ nl-line ++ end-line)) 7
   pub size-falls : Refused (some (kept 2 log-root [])) honest 7
   pub no-version : Refused new (answering (kt-line ++ head-line ++ ascii "target\t4294967295\t30303030303030303030303030303030\t78\n" ++ step-lines ++ entry-line ++ in-line ++ nl-line ++ end-line)) 8
@@ -167,6 +171,7 @@ refused-unhashed =
       foreign-identifier = refl;
       foreign-label = refl;
       other-kind = refl;
+      other-kind-asked = refl;
       no-entries-in-log = refl;
       size-falls = refl;
       no-version = refl;
@@ -183,20 +188,9 @@ refused-unhashed =
 
 -- ---- monitoring, with little hashing
 
--- with a response, a sheet and a signed text
+-- with lines after the first, a sheet and a signed text
 abbrev pub watching : Bytes → Bytes → Bytes → Inputs
-watching r sheet s =
-    record {
-      limit = responseLimit;
-      kind = some monitor;
-      response = ascii "kt\tmonitor\t000102030405060708090a0b0c0d0e0f\t61\n" ++ r ++ end-line;
-      configuration = configuration;
-      identifier = identifier;
-      clock = 1000;
-      vrfOutputs = sheet;
-      signedText = s;
-      room = 0;
-    }
+watching r sheet s = asking monitor (ascii "kt\tmonitor\t000102030405060708090a0b0c0d0e0f\t61\n" ++ r ++ end-line) configuration identifier 1000 sheet s 0
 
 -- an entry whose prefix tree is empty
 abbrev bare-entry : Bytes

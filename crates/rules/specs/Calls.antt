@@ -16,7 +16,7 @@ use Rattle.rules.specs.Refusals.{Inputs, Call, Judgement, refused, passe
 
 -- ---- what the library's calls are given
 
--- besides the state, the signed text and the bytes lent
+-- besides the kind, the state, the signed text and the bytes lent
 pub record Arguments : Type 0 where
   pub response : Bytes
   pub configuration : Bytes
@@ -77,7 +77,7 @@ unfoldable pub valueOf : Judgement → Option Bytes
 valueOf (refused k) = none
 valueOf (passed c) = valueFound (c .parts .finding)
 
--- bytes put into others from a place on; all others stay
+-- bytes put into others, from a place on where they fit; all others stay
 unfoldable pub written : Bytes → ℕ → Bytes → Bytes
 written s at t = take at s ++ t ++ drop (at + length t) s
 

@@ -148,7 +148,7 @@ keptValuesMet k (shown p) nodes = agrees k (record { start = p; width = 1 }) (va
 keptValuesMet k (parent r x y) nodes =
     agrees k r (value k (parent r x y) nodes) && (keptValuesMet k x nodes && keptValuesMet k y (drop (nodeCount x) nodes))
 
--- the values of the full subtrees of the n entries walked over, left to right
+-- the values of the full subtrees of the n entries walked over, left to right, where entry n - 1 is shown
 unfoldable pub fullValues : ℕ → Known → Walk → List Bytes → List Bytes
 fullValues n k (retained r) nodes = value k (retained r) nodes ∷ []
 fullValues n k (given r) nodes = value k (given r) nodes ∷ []
