@@ -8,7 +8,7 @@ use Rattle.lines.specs.Number.{ascii}
 use Rattle.rules.specs.Limits.{stateTextLimit}
 use Rattle.rules.specs.Refusals.{Judgement}
 use Rattle.rules.specs.Calls.{Arguments, answerWord, outputAfter, textAfter, ktSearch, ktMonitor, ktSignedText}
-use Rattle.rules.proofs.Running.{x, opened}
+use Rattle.rules.proofs.Running.{opened}
 use Rattle.rules.proofs.Cases.{identifier, configuration, sheet-0, sheet-1, signed, response, state-text}
 use Rattle.cases.proofs.HashedCases.{monitoring}
 

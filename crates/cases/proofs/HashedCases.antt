@@ -12,8 +12,8 @@ use Rattle.rules.specs.Refusals.{Inputs, Call, refused, judge}
 use Rattle.rules.specs.Calls.{numberOf, stateAfter}
 use Rattle.rules.specs.Consistency.{acceptedCalls}
 use Rattle.rules.proofs.RefusalLaws.{zero-accepts, chain-accepted, chain-refused}
-use Rattle.rules.proofs.Running.{x, outcome, outcomeOf, opened}
-use Rattle.rules.proofs.Cases.{Refused, Accepted, identifier, configuration, sheet-0, sheet-1, signed, kt-line, head-line, target-line, step-lines, entry-line, in-line, nl-line, end-line, response, searching, honest, answering, new, kept, pair, after-search, accepted-search}
+use Rattle.rules.proofs.Running.{x, pair, outcome, outcomeOf, opened}
+use Rattle.rules.proofs.Cases.{Refused, Accepted, identifier, configuration, sheet-0, sheet-1, signed, kt-line, head-line, target-line, step-lines, entry-line, in-line, nl-line, end-line, response, searching, honest, answering, new, kept, after-search, accepted-search}
 
 -- ---- monitoring: version 1 was added in a second entry, which stands on the right path of entry 0
 

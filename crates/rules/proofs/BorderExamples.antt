@@ -1,21 +1,21 @@
 -- The borders of the rules that need no hashing: what just passes and what just does not. antt computes each one.
 use mathlib.Core.Path.{_≡_, refl}
 use mathlib.Core.Bool.{Bool, true, false}
-use mathlib.Core.List.{List, [], _∷_, _++_}
+use mathlib.Core.List.{List, [], _∷_}
 use mathlib.Core.Option.{Option, none, some}
-use Prim.Native.Nat.{ℕ, zero, suc, _+_, _-_, _^_}
+use Prim.Native.Nat.{ℕ, _+_, _-_, _^_}
 use lib.ListN.{replicate}
 use Rattle.lists.specs.Lists.{Bytes}
 use Rattle.tree.specs.Ladder.{ladder}
+use Rattle.rules.specs.Limits.{stateTextLimit}
 use Rattle.rules.specs.State.{MapEntry, State}
-use Rattle.rules.specs.Response.{Finding, searched, monitored, Step, Lookup, included, absent, Entry, Parts}
-use Rattle.rules.specs.Refusals.{Inputs, Call, lengthsFit, sizeWrong, targetWrong, commitmentAsked, lookupsAsked, timesWrong, roomMissing}
-use Rattle.rules.proofs.Running.{opened}
+use Rattle.rules.specs.Response.{Finding, searched, monitored, Step, Result, included, absent, Lookup, Entry, Parts}
+use Rattle.rules.specs.Refusals.{Inputs, Call, refused, lengthsFit, sizeWrong, targetWrong, commitmentAsked, lookupsAsked, entriesAsked, timesWrong, stepCommitment, commitmentBy, untried, roomMissing}
+use Rattle.rules.specs.Calls.{placed, textJudged, roomJudged}
+use Rattle.rules.proofs.Running.{opened, pair}
+use Rattle.rules.proofs.FormExamples.{pairs-below}
 
 -- ---- calls as read, with what the rule in question looks at
-
-abbrev pair : ℕ → ℕ → MapEntry
-pair p v = record { position = p; version = v }
 
 abbrev state : ℕ → ℕ → List MapEntry → State
 state m t es = record { label = []; size = m; time = t; values = []; monitoringMap = es }
@@ -25,6 +25,9 @@ target t v = searched (record { version = t; opening = []; value = v })
 
 abbrev parts : ℕ → Finding → List Entry → Parts
 parts n f es = record { identifier = []; label = []; size = n; finding = f; steps = []; entries = es; nodes = [] }
+
+abbrev entry : ℕ → ℕ → List Lookup → Entry
+entry p t ls = record { position = p; time = t; prefixRoot = []; lookups = ls }
 
 -- with a clock and bytes of output; max_ahead is 10 and max_behind 20
 abbrev call : State → Parts → ℕ → ℕ → Call
@@ -161,10 +164,22 @@ commitments-borders =
       monitoring-some = refl;
     }
 
--- ---- 11
+-- two entries are asked, at 3 and 5, without lookups
+abbrev asked-two : List Entry → Bool
+asked-two es = entriesAsked monitored (record { position = 3; versions = [] } ∷ record { position = 5; versions = [] } ∷ []) es
 
-abbrev entry : ℕ → ℕ → List Lookup → Entry
-entry p t ls = record { position = p; time = t; prefixRoot = []; lookups = ls }
+pub record Entries : Type 0 where
+  pub as-asked : asked-two (entry 3 0 [] ∷ entry 5 0 [] ∷ []) ≡ true
+  pub one-missing : asked-two (entry 3 0 [] ∷ []) ≡ false
+  pub one-spare : asked-two (entry 3 0 [] ∷ entry 5 0 [] ∷ entry 6 0 [] ∷ []) ≡ false
+  pub one-lower : asked-two (entry 3 0 [] ∷ entry 4 0 [] ∷ []) ≡ false
+  pub one-higher : asked-two (entry 3 0 [] ∷ entry 6 0 [] ∷ []) ≡ false
+
+pub entries-borders : Entries
+unfolding opened
+entries-borders = record { as-asked = refl; one-missing = refl; one-spare = refl; one-lower = refl; one-higher = refl }
+
+-- ---- 11
 
 -- two entries, at 7 and 11, with times; m is 8, the kept time 50
 abbrev wrong-times : ℕ → ℕ → ℕ → Bool
@@ -199,12 +214,36 @@ times-borders =
       far-ahead = refl;
     }
 
--- ---- 16
+-- ---- 12
 
--- so many pairs, at 0, 1 and so on
-pub pairs-below : ℕ → List MapEntry
-pairs-below zero = []
-pairs-below (suc k) = pairs-below k ++ pair k 0 ∷ []
+abbrev looked : ℕ → Result → Lookup
+looked v r = record { version = v; result = r; siblings = [] }
+
+pub record Paths : Type 0 where
+  -- the step of the version itself
+  pub own-step : stepCommitment (step 0 (some (1 ∷ [])) ∷ step 1 (some (2 ∷ [])) ∷ step 3 (some (3 ∷ [])) ∷ []) 1 ≡ 2 ∷ []
+  pub no-step : stepCommitment (step 0 (some (1 ∷ [])) ∷ []) 1 ≡ []
+  -- below t the step's commitment counts
+  pub below-target : commitmentBy (target 1 []) [] (step 0 (some (1 ∷ [])) ∷ []) 0 ≡ 1 ∷ []
+  pub tried-at-target : untried (target 1 []) (looked 1 included) ≡ false
+  pub untried-above : untried (target 1 []) (looked 2 included) ≡ true
+  pub absence-tried : untried (target 1 []) (looked 2 absent) ≡ false
+  pub monitoring-tried : untried monitored (looked 2 included) ≡ false
+
+pub paths-borders : Paths
+unfolding opened
+paths-borders =
+    record {
+      own-step = refl;
+      no-step = refl;
+      below-target = refl;
+      tried-at-target = refl;
+      untried-above = refl;
+      absence-tried = refl;
+      monitoring-tried = refl;
+    }
+
+-- ---- 16
 
 -- an entry whose ladder of version 0 is complete
 abbrev whole : ℕ → Entry
@@ -225,3 +264,27 @@ pub record Room : Type 0 where
 pub room-borders : Room
 unfolding opened pairs-below
 room-borders = record { value-fits = refl; value-over = refl; last-pair = refl; pair-too-many = refl; old-position = refl }
+
+-- ---- lent bytes
+
+pub record Lent : Type 0 where
+  pub fits-exactly : placed (replicate 5 7) 3 (1 ∷ 2 ∷ []) ≡ (2, 7 ∷ 7 ∷ 7 ∷ 1 ∷ 2 ∷ [])
+  pub one-too-little : placed (replicate 5 7) 4 (1 ∷ 2 ∷ []) ≡ (16, replicate 5 7)
+  pub past-the-end : placed (replicate 5 7) 6 (1 ∷ 2 ∷ []) ≡ (16, replicate 5 7)
+  pub text-at-limit : textJudged (replicate stateTextLimit 0) (refused 9) ≡ refused 9
+  pub text-over : textJudged (replicate (stateTextLimit + 1) 0) (refused 9) ≡ refused 1
+  pub room-at-limit : roomJudged (replicate stateTextLimit 0) (refused 9) ≡ refused 9
+  pub room-under : roomJudged (replicate (stateTextLimit - 1) 0) (refused 9) ≡ refused 1
+
+pub lent-borders : Lent
+unfolding opened
+lent-borders =
+    record {
+      fits-exactly = refl;
+      one-too-little = refl;
+      past-the-end = refl;
+      text-at-limit = refl;
+      text-over = refl;
+      room-at-limit = refl;
+      room-under = refl;
+    }

@@ -15,7 +15,7 @@ use Rattle.rules.specs.ResponseText.{readResponse, writeResponse}
 use Rattle.rules.specs.Refusals.{Inputs}
 use Rattle.rules.specs.Calls.{numberOf}
 use Rattle.rules.specs.Program.{judgeFiles, printed}
-use Rattle.rules.proofs.Running.{x, outcome, opened}
+use Rattle.rules.proofs.Running.{x, outcome, opened, pair}
 
 -- a call answers a number and leaves the state as given; a call is accepted, with a new state and a value
 abbrev pub Refused : Option State → Inputs → ℕ → Type 0
@@ -103,9 +103,6 @@ new = some (emptyState (x "61"))
 -- a state of so many entries, whose one value is given, at time 1000, with pairs
 abbrev pub kept : ℕ → Bytes → List MapEntry → State
 kept m value entries = record { label = x "61"; size = m; time = 1000; values = value ∷ []; monitoringMap = entries }
-
-abbrev pub pair : ℕ → ℕ → MapEntry
-pair p v = record { position = p; version = v }
 
 abbrev pub after-search : State
 after-search = kept 1 log-root (pair 0 0 ∷ [])
@@ -212,6 +209,7 @@ abbrev watched-step : Bytes
 watched-step = ascii "head\t2\nstep\t0\tc337ee9f07ed7b3ce06bb323f8170d5b410c219602c13456b3dbbe0f70f95d62\n"
 
 pub record RefusedMonitoring : Type 0 where
+  pub node-missing : Refused new (watching (ascii "head\t2\nentry\t1\t1000\t0000000000000000000000000000000000000000000000000000000000000000\n") [] []) 9
   pub commitment-left-out : Refused (some watched) (watching
       (ascii "head\t2\nstep\t0\t-\n" ++ ascii "entry\t1\t1000\t0000000000000000000000000000000000000000000000000000000000000000\nno\t0\t-\n") sheet-0 []) 9
   pub other-leaf-is-the-searched-one : Refused (some watched) (watching
@@ -225,7 +223,15 @@ pub record RefusedMonitoring : Type 0 where
 
 pub refused-monitoring : RefusedMonitoring
 unfolding opened
-refused-monitoring = record { commitment-left-out = refl; other-leaf-is-the-searched-one = refl; nothing-stands = refl; kept-value-differs = refl; other-root-signed = refl }
+refused-monitoring =
+    record {
+      node-missing = refl;
+      commitment-left-out = refl;
+      other-leaf-is-the-searched-one = refl;
+      nothing-stands = refl;
+      kept-value-differs = refl;
+      other-root-signed = refl;
+    }
 
 -- ---- texts
 

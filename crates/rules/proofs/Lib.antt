@@ -5,5 +5,6 @@ pub mod MapLaws
 pub mod RefusalLaws
 pub mod Running
 pub mod RuleExamples
+pub mod FormExamples
 pub mod BorderExamples
 pub mod Cases

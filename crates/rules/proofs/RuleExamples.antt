@@ -4,14 +4,10 @@ use mathlib.Core.Bool.{Bool, true, false, cond}
 use mathlib.Core.List.{List, [], _∷_}
 use Prim.Native.Nat.{ℕ}
 use Rattle.tree.specs.Ladder.{ladder}
-use Rattle.rules.specs.State.{MapEntry}
 use Rattle.rules.specs.Response.{Lookup, Entry, included, absent}
 use Rattle.rules.specs.Search.{Asked, askedBySearch, earlyThenComplete, mapAfterSearch}
 use Rattle.rules.specs.Monitoring.{askedByMonitoring, versionsOf, mapAfterMonitoring}
-use Rattle.rules.proofs.Running.{opened}
-
-abbrev pair : ℕ → ℕ → MapEntry
-pair p v = record { position = p; version = v }
+use Rattle.rules.proofs.Running.{opened, pair}
 
 abbrev ask : ℕ → List ℕ → Asked
 ask p vs = record { position = p; versions = vs }

@@ -10,7 +10,7 @@ use Rattle.tree.proofs.Computing.{tree-definitions}
 use Rattle.lines.specs.Number.{ascii}
 use Rattle.lines.specs.Hex.{unhex}
 use Rattle.lines.proofs.Computing.{line-definitions}
-use Rattle.rules.specs.State.{State}
+use Rattle.rules.specs.State.{MapEntry, State}
 use Rattle.rules.specs.Refusals.{Inputs, Judgement, judge}
 use Rattle.rules.specs.Calls.{numberOf, stateAfter, valueOf}
 use Rattle.rules.proofs.Computing.{rule-definitions}
@@ -18,6 +18,10 @@ use Rattle.rules.proofs.Computing.{rule-definitions}
 -- bytes, written in hex
 unfoldable pub x : String → Bytes
 x s = unhex (ascii s)
+
+-- a pair of the map
+abbrev pub pair : ℕ → ℕ → MapEntry
+pair p v = record { position = p; version = v }
 
 -- number, state afterwards, value
 unfoldable pub outcomeOf : Option State → Judgement → ℕ × (Option State × Option Bytes)
