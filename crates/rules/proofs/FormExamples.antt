@@ -12,9 +12,10 @@ use Rattle.lines.specs.Hex.{readHex}
 use Rattle.lines.specs.Field.{Field, number, bytes}
 use Rattle.lines.specs.Line.{Form}
 use Rattle.rules.specs.Configuration.{readOptional}
+use Rattle.rules.specs.Limits.{stateTextLimit}
 use Rattle.rules.specs.VrfOutputs.{readOutputs, hasOutput, outputOf}
-use Rattle.rules.specs.State.{MapEntry, isValid}
-use Rattle.rules.specs.StateText.{sizeForm, keepForm, pairForm}
+use Rattle.rules.specs.State.{MapEntry, isValid, emptyState, newState}
+use Rattle.rules.specs.StateText.{sizeForm, keepForm, pairForm, readStateText}
 use Rattle.rules.specs.Response.{search, monitor}
 use Rattle.rules.specs.ResponseText.{ktForm, headForm, targetForm, stepForm, entryForm, inForm, noForm, nlForm, nodeForm}
 use Rattle.rules.specs.Program.{within, requestForm}
@@ -219,6 +220,28 @@ states-borders =
       pairs-over = refl;
       greatest-version = refl;
       no-version = refl;
+    }
+
+pub record MadeStates : Type 0 where
+  pub made : newState (replicate 255 5) ≡ record { number = 0; state = emptyState (replicate 255 5) }
+  pub label-too-long : newState (replicate 256 5) ≡ record { number = 1; state = emptyState [] }
+  pub text-read : readStateText (ascii "size\t0\t0\t61\n") ≡ record { number = 0; state = emptyState (0x61 ∷ []) }
+  pub text-broken : readStateText (ascii "size\t0\t0\t61") ≡ record { number = 3; state = emptyState [] }
+  pub text-invalid : readStateText (ascii "size\t0\t7\t61\n") ≡ record { number = 3; state = emptyState [] }
+  pub text-at-limit : readStateText (replicate stateTextLimit 0) ≡ record { number = 3; state = emptyState [] }
+  pub text-too-long : readStateText (replicate (stateTextLimit + 1) 0) ≡ record { number = 1; state = emptyState [] }
+
+pub made-states : MadeStates
+unfolding opened
+made-states =
+    record {
+      made = refl;
+      label-too-long = refl;
+      text-read = refl;
+      text-broken = refl;
+      text-invalid = refl;
+      text-at-limit = refl;
+      text-too-long = refl;
     }
 
 -- ---- sheets, settings, files
