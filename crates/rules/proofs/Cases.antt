@@ -126,6 +126,7 @@ pub record RefusedUnhashed : Type 0 where
   pub leading-zero : Refused new (answering (kt-line ++ ascii "head\t01\n" ++ target-line ++ step-lines ++ entry-line ++ in-line ++ nl-line ++ end-line)) 5
   pub upper-case : Refused new (answering (kt-line ++ head-line ++ ascii "target\t0\t3030303030303030303030303030303A\t78\n" ++ step-lines ++ entry-line ++ in-line ++ nl-line ++ end-line)) 5
   pub newline-missing : Refused new (answering (kt-line ++ head-line ++ target-line ++ step-lines ++ entry-line ++ in-line ++ nl-line ++ ascii "end")) 5
+  pub end-missing : Refused new (answering (kt-line ++ head-line ++ target-line ++ step-lines ++ entry-line ++ in-line ++ nl-line)) 5
   pub after-end : Refused new (answering (response ++ ascii "end\n")) 5
   pub other-after-end : Refused new (answering (response ++ ascii "\n")) 5
   pub lookup-first : Refused new (answering (kt-line ++ head-line ++ target-line ++ step-lines ++ in-line ++ entry-line ++ nl-line ++ end-line)) 5
@@ -162,6 +163,7 @@ refused-unhashed =
       leading-zero = refl;
       upper-case = refl;
       newline-missing = refl;
+      end-missing = refl;
       after-end = refl;
       other-after-end = refl;
       lookup-first = refl;
