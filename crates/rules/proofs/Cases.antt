@@ -14,7 +14,7 @@ use Rattle.rules.specs.Response.{Kind, search, monitor}
 use Rattle.rules.specs.ResponseText.{readResponse, writeResponse}
 use Rattle.rules.specs.Refusals.{Inputs}
 use Rattle.rules.specs.Calls.{numberOf}
-use Rattle.rules.specs.Program.{judgeFiles, printed}
+use Rattle.rules.specs.Program.{Files, judgeFiles, printed}
 use Rattle.rules.proofs.Running.{x, outcome, opened, pair}
 
 -- a call answers a number and leaves the state as given; a call is accepted, with a new state and a value
@@ -245,6 +245,17 @@ state-text = ascii "size\t1\t1000\t61\nkeep\t6842d1bc293083ea7b011b18167d992105f
 abbrev with-lifetime : Bytes
 with-lifetime = x "0001010001040000000000000000000a00000000000003e80000000000000000010000000000000005"
 
+-- the program's files, with the honest sheet
+abbrev folder : Option Bytes → Option Bytes → Option Bytes → Option Bytes → Option Bytes → Files
+folder request r c st s = record { request = request; response = r; settings = c; state = st; sheet = some (sheet-0 ++ sheet-1); signed = s }
+
+abbrev old-state : Option Bytes
+old-state = some (ascii "size\t0\t0\t61\n")
+
+-- the number for a request line, all else as it should be
+abbrev asked-for : Bytes → ℕ
+asked-for request = numberOf (judgeFiles (folder (some request) (some response) (some configuration) old-state (some signed)))
+
 pub record Texts : Type 0 where
   pub state-written : writeState after-search ≡ state-text
   pub state-read : readState state-text ≡ some after-search
@@ -254,32 +265,49 @@ pub record Texts : Type 0 where
   -- what follows the presence byte must be there
   pub lifetime-cut : readConfiguration (x "0001010001040000000000000000000a00000000000003e800000000000000000100000000000000") ≡ none
   -- a foreign identifier, as the program sees it: one line, no file
-  pub printed-refusal : printed (judgeFiles (record {
-    request = some (ascii "search\t000102030405060708090a0b0c0d0e0e\t1000\n");
+  pub printed-refusal : printed (judgeFiles (folder (some (ascii "search\t000102030405060708090a0b0c0d0e0e\t1000\n")) (some response) (some configuration) old-state (some signed)))
+      ≡ ascii "no\t6\n"
+  -- a broken request line; an identifier of 15 bytes in a sound one
+  pub broken-request : asked-for (ascii "find\t000102030405060708090a0b0c0d0e0f\t1000\n") ≡ 6
+  pub clock-missing : asked-for (ascii "search\t000102030405060708090a0b0c0d0e0f\n") ≡ 6
+  pub two-requests : asked-for (ascii "search\t000102030405060708090a0b0c0d0e0f\t1000\nsearch\t000102030405060708090a0b0c0d0e0f\t1000\n") ≡ 6
+  pub short-identifier : asked-for (ascii "search\t000102030405060708090a0b0c0d0e\t1000\n") ≡ 1
+  pub no-identifier : asked-for (ascii "search\t-\t1000\n") ≡ 1
+  -- a missing file, whatever the request is
+  pub request-missing : numberOf (judgeFiles (folder none (some response) (some configuration) old-state (some signed))) ≡ 1
+  pub response-missing : numberOf (judgeFiles (folder (some []) none (some configuration) old-state (some signed))) ≡ 1
+  pub settings-missing : numberOf (judgeFiles (folder (some []) (some response) none old-state (some signed))) ≡ 1
+  pub state-missing : numberOf (judgeFiles (folder (some []) (some response) (some configuration) none (some signed))) ≡ 1
+  pub signed-missing : numberOf (judgeFiles (folder (some []) (some response) (some configuration) old-state none)) ≡ 1
+  pub sheet-missing : numberOf (judgeFiles (record {
+    request = some [];
     response = some response;
     settings = some configuration;
-    state = some (ascii "size\t0\t0\t61\n");
-    sheet = some (sheet-0 ++ sheet-1);
-    signed = some signed;
-  })) ≡ ascii "no\t6\n"
-  -- a broken request line, and a missing file
-  pub broken-request : numberOf (judgeFiles (record {
-    request = some (ascii "find\t000102030405060708090a0b0c0d0e0f\t1000\n");
-    response = some response;
-    settings = some configuration;
-    state = some (ascii "size\t0\t0\t61\n");
-    sheet = some (sheet-0 ++ sheet-1);
-    signed = some signed;
-  })) ≡ 6
-  pub missing-file : numberOf (judgeFiles (record {
-    request = some (ascii "find\n");
-    response = some response;
-    settings = none;
-    state = some (ascii "size\t0\t0\t61\n");
-    sheet = some (sheet-0 ++ sheet-1);
+    state = old-state;
+    sheet = none;
     signed = some signed;
   })) ≡ 1
 
 pub texts : Texts
 unfolding opened
-texts = record { state-written = refl; state-read = refl; response-back = refl; configuration-back = refl; lifetime-back = refl; lifetime-cut = refl; printed-refusal = refl; broken-request = refl; missing-file = refl }
+texts =
+    record {
+      state-written = refl;
+      state-read = refl;
+      response-back = refl;
+      configuration-back = refl;
+      lifetime-back = refl;
+      lifetime-cut = refl;
+      printed-refusal = refl;
+      broken-request = refl;
+      clock-missing = refl;
+      two-requests = refl;
+      short-identifier = refl;
+      no-identifier = refl;
+      request-missing = refl;
+      response-missing = refl;
+      settings-missing = refl;
+      state-missing = refl;
+      signed-missing = refl;
+      sheet-missing = refl;
+    }
