@@ -3,6 +3,7 @@ use mathlib.Core.Bool.{Bool}
 use mathlib.Core.List.{List, [], _∷_}
 use mathlib.Core.Option.{Option, none, some, bind as _>>=_}
 use Prim.Native.Nat.{ℕ}
+use lib.Dec.{eqb, leb}
 use lib.ListN.{length}
 use Rattle.lists.specs.Choice.{_>>_}
 use Rattle.lists.specs.Lists.{Bytes}
@@ -13,6 +14,13 @@ use Rattle.lines.specs.Hex.{readHex, hexField}
 pub data Field : Type 0 where
   number : ℕ → Field
   bytes : (ℕ → Bool) → Field
+
+-- a byte string of k bytes, or of at most k
+abbrev pub exactly : ℕ → Field
+exactly k = bytes (λ (n : ℕ). eqb n k)
+
+abbrev pub upTo : ℕ → Field
+upTo k = bytes (λ (n : ℕ). leb n k)
 
 -- what a field, and a list of fields, yields
 abbrev pub Value : Field → Type 0

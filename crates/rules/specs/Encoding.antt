@@ -12,7 +12,7 @@ use Rattle.hash.specs.Bytes.{bigEndian}
 unfoldable pub opaque : ℕ → Bytes → Bytes
 opaque k s = bigEndian k (length s) ++ s
 
--- the uint that bytes spell after those of n, the highest first
+-- the number that bytes spell after those of n, the highest first
 unfoldable pub bytesAfter : ℕ → Bytes → ℕ
 bytesAfter n [] = n
 bytesAfter n (b ∷ s) = bytesAfter (n * 256 + b) s
@@ -25,7 +25,7 @@ uint s = bytesAfter 0 s
 unfoldable pub readBytes : ℕ → Bytes → Option (Bytes × Bytes)
 readBytes k s = provided (leb k (length s)) (take k s, drop k s)
 
--- a uint of k bytes
+-- a number of k bytes
 unfoldable pub readUint : ℕ → Bytes → Option (ℕ × Bytes)
 readUint k s = do
   (b, rest) ← readBytes k s

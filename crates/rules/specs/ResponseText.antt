@@ -8,18 +8,12 @@ use lib.ListN.{length}
 use Rattle.lists.specs.Choice.{orElse, _>>_}
 use Rattle.lists.specs.Lists.{Bytes, runs}
 use Rattle.lines.specs.Number.{ascii}
-use Rattle.lines.specs.Field.{Field, number, bytes}
+use Rattle.lines.specs.Field.{Field, number, bytes, exactly, upTo}
 use Rattle.lines.specs.Line.{Form, Read, readLines, readLine, leading, writeLine}
 use Rattle.rules.specs.Limits.{labelLimit, valueLimit, siblingLimit, identifierLength, hashLength, vrfOutputLength, openingLength, numberBound, versionBound}
 use Rattle.rules.specs.Response.{Kind, search, monitor, Finding, searched, monitored, Step, Result, included, absent, otherLeaf, Lookup, Entry, Parts, kindOf}
 
 -- ---- the fields
-
-abbrev pub exactly : ℕ → Field
-exactly k = bytes (λ (n : ℕ). eqb n k)
-
-abbrev pub upTo : ℕ → Field
-upTo k = bytes (λ (n : ℕ). leb n k)
 
 abbrev pub versionField : Field
 versionField = number versionBound

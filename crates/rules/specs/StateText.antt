@@ -1,23 +1,22 @@
 -- A state as text: a `size` line, a `keep` line for each value, a `pair` line for each pair of the map (paper 01, What a call is given).
 use mathlib.Core.List.{List, [], _∷_, _++_, flatMap}
 use mathlib.Core.Option.{Option, none, some, Option·elim, bind as _>>=_}
-use Prim.Native.Nat.{ℕ}
 use lib.Dec.{eqb, leb}
 use lib.ListN.{length}
 use Rattle.lists.specs.Choice.{choose, _>>_}
 use Rattle.lists.specs.Lists.{Bytes}
 use Rattle.lines.specs.Number.{ascii}
-use Rattle.lines.specs.Field.{number, bytes}
+use Rattle.lines.specs.Field.{number, exactly, upTo}
 use Rattle.lines.specs.Line.{Form, readLines, readLine, leading, writeLine}
 use Rattle.rules.specs.Limits.{labelLimit, hashLength, stateTextLimit, numberBound, versionBound}
 use Rattle.rules.specs.State.{MapEntry, State, isValid, emptyState, NumberedState}
 
 -- m, time, label
 abbrev pub sizeForm : Form
-sizeForm = record { words = ascii "size" ∷ []; fields = number numberBound ∷ number numberBound ∷ bytes (λ (n : ℕ). leb n labelLimit) ∷ [] }
+sizeForm = record { words = ascii "size" ∷ []; fields = number numberBound ∷ number numberBound ∷ upTo labelLimit ∷ [] }
 
 abbrev pub keepForm : Form
-keepForm = record { words = ascii "keep" ∷ []; fields = bytes (λ (n : ℕ). eqb n hashLength) ∷ [] }
+keepForm = record { words = ascii "keep" ∷ []; fields = exactly hashLength ∷ [] }
 
 -- position, version
 abbrev pub pairForm : Form
