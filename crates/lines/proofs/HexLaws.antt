@@ -14,14 +14,10 @@ use Rattle.lists.specs.Choice.{provided}
 use Rattle.lists.specs.Lists.{Bytes, all, same}
 use Rattle.lists.proofs.ListLaws.{and-holds, holds-and, or-holds, provided-true, provided-some}
 use Rattle.lists.proofs.ListLaws.{all-cons, cons-all, all-implied, same-refl, same-true, differ-same}
+use Rattle.hash.specs.Bytes.{AreBytes}
 use Rattle.lines.specs.Number.{ascii, isDigit}
 use Rattle.lines.specs.Hex.{dash, isHexDigit, digitValue, unhex, isHex, readHex, hexDigit, hex, hexField}
 use Rattle.lines.proofs.NumberLaws.{digit-bounds, is-digit, isPlain, is-plain}
-
--- each element is a byte
-abbrev pub AreBytes : Bytes → Type 0
-AreBytes [] = Unit
-AreBytes (b ∷ s) = (b < 256) × AreBytes s
 
 -- ---- digits
 

@@ -13,11 +13,12 @@ use Rattle.lists.specs.Choice.{_>>_}
 use Rattle.lists.specs.Lists.{Bytes, all, same}
 use Rattle.lists.proofs.ListLaws.{and-holds, holds-and, test-true, test-some, bind-at, bind-some, map-some}
 use Rattle.lists.proofs.ListLaws.{all-cons, all-append, same-refl, same-true, Lacks, lacks-append, all-lacks}
+use Rattle.hash.specs.Bytes.{AreBytes}
 use Rattle.lines.specs.Hex.{readHex}
 use Rattle.lines.specs.Field.{Field, number, bytes, Value, Values, readField, readFields, writeField, writeFields}
 use Rattle.lines.specs.Line.{tab, newline, Form, Read, ontoFirst, partsAt, ended, readLines, readAfter, readLine, andThen, leading, joined, line, writeLine}
 use Rattle.lines.proofs.NumberLaws.{isPlain, read-decimal, decimal-read, decimal-plain}
-use Rattle.lines.proofs.HexLaws.{AreBytes, read-hex, hex-read, hexField-plain}
+use Rattle.lines.proofs.HexLaws.{read-hex, hex-read, hexField-plain}
 
 -- ---- parts
 

@@ -4,11 +4,11 @@ use mathlib.Core.Logic.{_⊎_, inl, inr}
 use mathlib.Core.Bool.{Bool, true, false, _&&_, _||_, false≢true}
 use mathlib.Core.List.{List, [], _∷_, _++_, map, List·Memᴰ, List·Memᴰ·head, List·Memᴰ·tail, List·Memᴰ·cases-cons, List·Memᴰ·not-nil}
 use mathlib.Core.Option.{Option, none, some, bind, Option·map, Option·some-injective, Option·none-ne-some}
-use Prim.Native.Nat.{ℕ}
-use lib.Dec.{eqb}
-use borrow.Author.Tests.{eq-eqb, eqb-true}
+use Prim.Native.Nat.{ℕ, _<_}
+use lib.Dec.{eqb, ltb}
+use borrow.Author.Tests.{eq-eqb, eqb-true, lt-ltb}
 use Rattle.lists.specs.Choice.{choose, provided, _>>_, orElse}
-use Rattle.lists.specs.Lists.{all, every, any, same}
+use Rattle.lists.specs.Lists.{all, every, any, lastOr, same, rising}
 
 -- ---- two tests
 
@@ -226,3 +226,28 @@ lacks-append k (x ∷ xs) ys p q = (p .0, lacks-append k xs ys (p .1) q)
 pub all-lacks : (f : ℕ → Bool) (k : ℕ) (xs : List ℕ) → f k ≡ false → all f xs ≡ true → Lacks k xs
 all-lacks f k [] e h = tt
 all-lacks f k (x ∷ xs) e h = let p = all-cons f x xs h in (λ q. false≢true (sym e ∙ ap f (sym q) ∙ p .0), all-lacks f k xs e (p .1))
+
+-- ---- rising lists, last elements
+
+-- A list rises where its first is below all others, and those rise.
+pub rising-cons : (x : ℕ) (l : List ℕ) → ((y : ℕ) → List·Memᴰ y l → x < y) → rising l ≡ true → rising (x ∷ l) ≡ true
+unfolding rising
+rising-cons x [] h r = refl
+rising-cons x (y ∷ l) h r = rw (lt-ltb x y (h y (List·Memᴰ·head refl))) r
+
+-- A list rises where its last is above all others, and those rise.
+pub rising-snoc : (l : List ℕ) (x : ℕ) → ((y : ℕ) → List·Memᴰ y l → y < x) → rising l ≡ true → rising (l ++ x ∷ []) ≡ true
+unfolding rising
+rising-snoc [] x h r = refl
+rising-snoc (a ∷ []) x h r = rw (lt-ltb a x (h a (List·Memᴰ·head refl)))
+rising-snoc (a ∷ b ∷ l) x h r = go (ltb a b) r (rising-snoc (b ∷ l) x (λ y m. h y (List·Memᴰ·tail m)))
+  where
+    go : (c : Bool) → c && rising (b ∷ l) ≡ true → (rising (b ∷ l) ≡ true → rising (b ∷ l ++ x ∷ []) ≡ true) → c && rising (b ∷ l ++ x ∷ []) ≡ true
+    go true r ih = ih r
+    go false r ih = r
+
+-- The last element of a list with one put at its end is that one.
+pub last-snoc : (d x : ℕ) (l : List ℕ) → lastOr d (l ++ x ∷ []) ≡ x
+unfolding lastOr
+last-snoc d x [] = refl
+last-snoc d x (y ∷ l) = last-snoc y x l

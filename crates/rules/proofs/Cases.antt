@@ -192,10 +192,10 @@ abbrev pub watching : Bytes → Bytes → Bytes → Inputs
 watching r sheet s = asking monitor (ascii "kt\tmonitor\t000102030405060708090a0b0c0d0e0f\t61\n" ++ r ++ end-line) configuration identifier 1000 sheet s 0
 
 -- an entry whose prefix tree is empty
-abbrev bare-entry : Bytes
+abbrev pub bare-entry : Bytes
 bare-entry = ascii "entry\t0\t1000\t0000000000000000000000000000000000000000000000000000000000000000\n"
 
-abbrev bare-root : Bytes
+abbrev pub bare-root : Bytes
 bare-root = x "1926b0eec68d03a909005453247b7c66591fbfe00c25d10b1e6c07850d1bad43"
 
 -- nothing is watched: the frontier without lookups
@@ -246,10 +246,10 @@ abbrev with-lifetime : Bytes
 with-lifetime = x "0001010001040000000000000000000a00000000000003e80000000000000000010000000000000005"
 
 -- the program's files, with the honest sheet
-abbrev folder : Option Bytes → Option Bytes → Option Bytes → Option Bytes → Option Bytes → Files
+abbrev pub folder : Option Bytes → Option Bytes → Option Bytes → Option Bytes → Option Bytes → Files
 folder request r c st s = record { request = request; response = r; settings = c; state = st; sheet = some (sheet-0 ++ sheet-1); signed = s }
 
-abbrev old-state : Option Bytes
+abbrev pub old-state : Option Bytes
 old-state = some (ascii "size\t0\t0\t61\n")
 
 -- the number for a request line, all else as it should be

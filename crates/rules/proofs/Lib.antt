@@ -7,4 +7,5 @@ pub mod Running
 pub mod RuleExamples
 pub mod FormExamples
 pub mod BorderExamples
+pub mod HashedExamples
 pub mod Cases

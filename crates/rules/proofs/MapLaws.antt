@@ -8,7 +8,7 @@ use lib.Dec.{eqb, ltb}
 use Rattle.lists.specs.Choice.{choose}
 use Rattle.lists.specs.Lists.{lastOr}
 use Rattle.tree.specs.SearchTree.{frontier, rightAncestors}
-use Rattle.tree.proofs.SearchTreeLaws.{right-ancestors-end}
+use Rattle.tree.proofs.AncestorLaws.{right-ancestors-end}
 use Rattle.rules.specs.State.{MapEntry}
 use Rattle.rules.specs.Search.{putEntry}
 use Rattle.rules.specs.Monitoring.{mapAfterMonitoring}

@@ -1,8 +1,9 @@
--- Binary digits: a number with its low digits cleared.
-use mathlib.Core.Path.{_≡_, sym, ap, _∙_}
-use Prim.Native.Nat.{ℕ, suc, _+_, _*_, _/_, _%_, _^_, _≤_, _<_}
+-- Binary digits: a number with its low digits cleared; cases on a digit, and on an order.
+use mathlib.Core.Path.{_≡_, refl, sym, ap, _∙_}
+use Prim.Native.Nat.{ℕ, zero, suc, _+_, _*_, _/_, _%_, _^_, _≤_, _<_}
 use native.Mathlib.Nat.{pow-succ', div-add-mod', mod-lt}
 use native.Mathlib.Numerals.{add-one}
+use native.Mathlib.Decide.{decLt}
 use native.Mathlib.Omega.{arith}
 use lib.Pow.{pow-pos, shr-shr}
 
@@ -31,3 +32,21 @@ cut-clear n k o = let (a, b) = cut-parts n k in rw (b, a, o) (omega arith)
 -- The digits cleared are less than their power.
 pub cut-bounds : (n k : ℕ) → (cut n k ≤ n) × (n < cut n k + 2 ^ k)
 cut-bounds n k = omega (arith, div-add-mod' n (2 ^ k), mod-lt n (pow-pos k))
+
+-- ---- cases
+
+-- A number is even or odd.
+pub by-digit : {A : Type 0} (c : ℕ) → (c % 2 ≡ 0 → A) → (c % 2 ≡ 1 → A) → A
+by-digit {A} c f g = go (c % 2) refl
+  where
+    go : (d : ℕ) → c % 2 ≡ d → A
+    go zero e = f e
+    go (suc d) e = g (omega arith)
+
+-- A number is below another or not.
+pub by-order : {A : Type 0} (x y : ℕ) → (x < y → A) → (y ≤ x → A) → A
+by-order {A} x y f g = go (decLt x y)
+  where
+    go : Dec (x < y) → A
+    go (yes h) = f h
+    go (no h) = g (omega arith)

@@ -3,7 +3,9 @@ pub mod PowerLaws
 pub mod DigitLaws
 pub mod LadderLaws
 pub mod StepLaws
-pub mod SearchTreeLaws
+pub mod ChildLaws
+pub mod FrontierLaws
+pub mod AncestorLaws
 pub mod FullLaws
 pub mod ExampleLaws
 pub mod ShapeExamples

@@ -7,8 +7,8 @@ use Rattle.lists.proofs.Computing.{list-definitions}
 use Rattle.hash.specs.Bytes.{bigEndian}
 use Rattle.hash.specs.Sha256.{sha256}
 use Rattle.tree.specs.SearchTree.{frontier}
-use Rattle.tree.specs.LogTree.{LogEntry, Range, Walk, retained, given, shown, parent, walkOf, Known, value, fullValues, walkStrings}
-use Rattle.tree.specs.PrefixTree.{bits, ownLeaf, valueAbove, stringsAbove}
+use Rattle.tree.specs.LogTree.{Range, retained, given, shown, parent, walkOf, Known, value, fullValues, walkStrings}
+use Rattle.tree.specs.PrefixTree.{bits, valueAbove, stringsAbove}
 use Rattle.tree.proofs.Computing.{tree-definitions}
 
 abbrev range : ℕ → ℕ → Range

@@ -1,5 +1,5 @@
 -- The binary ladder of a version (paper 01, Ladder; 001, 5). In a recursion that is not over the parts of its argument, here and in the other
--- modules, the first number bounds the number of steps; it is enough wherever the definition is used.
+-- modules, the first number bounds the number of steps (laws call it fuel); it is enough wherever the definition is used.
 use mathlib.Core.Bool.{cond}
 use mathlib.Core.List.{List, [], _∷_}
 use Prim.Native.Nat.{ℕ, zero, suc, _+_, _*_, _/_}
