@@ -12,7 +12,7 @@ use Rattle.rules.specs.State.{MapEntry, State}
 use Rattle.rules.specs.Response.{Finding, searched, monitored, Step, Result, included, absent, Lookup, Entry, Parts}
 use Rattle.rules.specs.Refusals.{Inputs, Call, refused, lengthsFit, sizeWrong, targetWrong, commitmentAsked, lookupsAsked, entriesAsked, timesWrong, stepCommitment, commitmentBy, untried, roomMissing}
 use Rattle.rules.specs.Calls.{placed, textJudged, roomJudged}
-use Rattle.rules.proofs.Running.{opened, pair}
+use Rattle.rules.proofs.Running.{opened, pair, blank-inputs, blank-configuration}
 use Rattle.rules.proofs.FormExamples.{pairs-below}
 
 -- ---- calls as read, with what the rule in question looks at
@@ -32,34 +32,7 @@ entry p t ls = record { position = p; time = t; prefixRoot = []; lookups = ls }
 -- with a clock and bytes of output; max_ahead is 10 and max_behind 20
 abbrev call : State → Parts → ℕ → ℕ → Call
 call s p clock room =
-    record {
-      inputs =
-          record {
-            limit = 0;
-            kind = none;
-            response = [];
-            configuration = [];
-            identifier = [];
-            clock = clock;
-            vrfOutputs = [];
-            signedText = [];
-            room = room;
-          };
-      configuration =
-          record {
-            suite = 1;
-            mode = 1;
-            signatureKey = [];
-            vrfKey = [];
-            maxAhead = 10;
-            maxBehind = 20;
-            monitoringWindow = 0;
-            maximumLifetime = none;
-          };
-      state = s;
-      outputs = [];
-      parts = p;
-    }
+    record { inputs = blank-inputs clock room; configuration = blank-configuration 10 20; state = s; outputs = []; parts = p }
 
 -- ---- 1
 

@@ -1,7 +1,7 @@
 -- The strings that a call hashed, of small calls written out. antt computes each one; SHA-256 and HMAC stay shut.
 use mathlib.Core.Path.{_≡_, refl}
 use mathlib.Core.List.{[], _∷_, _++_, flatMap}
-use mathlib.Core.Option.{none, some, Option·elim, bind}
+use mathlib.Core.Option.{some, Option·elim, bind}
 use Prim.Native.Nat.{ℕ}
 use Rattle.lists.specs.Lists.{Bytes}
 use Rattle.lists.proofs.Computing.{list-definitions}
@@ -15,35 +15,15 @@ use Rattle.rules.specs.Commitment.{commitmentKey, commitmentValue}
 use Rattle.rules.specs.Refusals.{Call}
 use Rattle.rules.specs.Hashed.{hashed}
 use Rattle.rules.proofs.Computing.{rule-definitions}
+use Rattle.rules.proofs.Running.{blank-inputs, blank-configuration}
 
 -- a log of one entry with one lookup, of version 0, at depth 1; its output begins with a bit 0, and o are the other bytes
 module _ (o s r label opening value c : Bytes) (t : ℕ) where
   abbrev one-entry : Finding → Result → Call
   one-entry f result =
       record {
-        inputs =
-            record {
-              limit = 0;
-              kind = none;
-              response = [];
-              configuration = [];
-              identifier = [];
-              clock = 0;
-              vrfOutputs = [];
-              signedText = [];
-              room = 0;
-            };
-        configuration =
-            record {
-              suite = 1;
-              mode = 1;
-              signatureKey = [];
-              vrfKey = [];
-              maxAhead = 0;
-              maxBehind = 0;
-              monitoringWindow = 0;
-              maximumLifetime = none;
-            };
+        inputs = blank-inputs 0 0;
+        configuration = blank-configuration 0 0;
         state = record { label = label; size = 0; time = 0; values = []; monitoringMap = [] };
         outputs = record { version = 0; output = 0 ∷ o } ∷ [];
         parts =

@@ -1,6 +1,6 @@
 -- What cases that are proved by computing share.
-use mathlib.Core.List.{flatMap, flatten}
-use mathlib.Core.Option.{Option, Option·elim, bind}
+use mathlib.Core.List.{[], flatMap, flatten}
+use mathlib.Core.Option.{Option, none, Option·elim, bind}
 use Prim.Native.Nat.{ℕ}
 use Prim.Native.String.{String}
 use Rattle.lists.specs.Lists.{Bytes}
@@ -10,6 +10,7 @@ use Rattle.tree.proofs.Computing.{tree-definitions}
 use Rattle.lines.specs.Number.{ascii}
 use Rattle.lines.specs.Hex.{unhex}
 use Rattle.lines.proofs.Computing.{line-definitions}
+use Rattle.rules.specs.Configuration.{Configuration}
 use Rattle.rules.specs.State.{MapEntry, State}
 use Rattle.rules.specs.Refusals.{Inputs, Judgement, judge}
 use Rattle.rules.specs.Calls.{numberOf, stateAfter, valueOf}
@@ -22,6 +23,34 @@ x s = unhex (ascii s)
 -- a pair of the map
 abbrev pub pair : ℕ → ℕ → MapEntry
 pair p v = record { position = p; version = v }
+
+-- inputs of which a rule looks at the clock and the output bytes only, and a configuration with its two bounds
+abbrev pub blank-inputs : ℕ → ℕ → Inputs
+blank-inputs clock room =
+    record {
+      limit = 0;
+      kind = none;
+      response = [];
+      configuration = [];
+      identifier = [];
+      clock = clock;
+      vrfOutputs = [];
+      signedText = [];
+      room = room;
+    }
+
+abbrev pub blank-configuration : ℕ → ℕ → Configuration
+blank-configuration ahead behind =
+    record {
+      suite = 1;
+      mode = 1;
+      signatureKey = [];
+      vrfKey = [];
+      maxAhead = ahead;
+      maxBehind = behind;
+      monitoringWindow = 0;
+      maximumLifetime = none;
+    }
 
 -- number, state afterwards, value
 unfoldable pub outcomeOf : Option State → Judgement → ℕ × (Option State × Option Bytes)
