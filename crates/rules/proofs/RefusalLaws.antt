@@ -41,11 +41,16 @@ abbrev pub Tried : List Rule → Call → Judgement → Type 0
 Tried rs c (refused k) = FirstApplies rs c k
 Tried rs c (passed d) = (d ≡ c) × NoneApplies rs c
 
+-- a refusal is no acceptance
+refused-not-passed : (k : ℕ) (c : Call) → refused k ≡ passed c → ⊥
+refused-not-passed k c e = let z : _≡_ {A = ℕ} 0 1 = cc in omega arith
+
 -- one rule more, before the others
 tried-more : (r : Rule) (rs : List Rule) (c : Call) → r .applies c ≡ false → (j : Judgement) → Tried rs c j → Tried (r ∷ rs) c j
 tried-more r rs c a (refused k) h = inr (a, h)
 tried-more r rs c a (passed d) (e, h) = (e, (a, h))
 
+-- the answer of a trial says which of the two it was: the first rule that applies, or none
 pub tried-meaning : (rs : List Rule) (c : Call) → Tried rs c (tried rs c)
 unfolding tried choose
 tried-meaning [] c = (refl, tt)
@@ -64,14 +69,14 @@ accepted-meaning s i c = go (readCall s i) refl
   where
     inner : (d : Call) → readCall s i ≡ passed d → (j : Judgement) → Tried (checks ++ lastChecks) d j → j ≡ passed c
         → (readCall s i ≡ passed c) × NoneApplies (checks ++ lastChecks) c
-    inner d r (refused k) h e = absurd (let z : _≡_ {A = ℕ} 0 1 = cc in omega arith)
+    inner d r (refused k) h e = absurd (refused-not-passed k c e)
     inner d r (passed f) (q, h) e =
         let z : f ≡ c = cc in
         let w : d ≡ c = sym q ∙ z in
         (r ∙ ap passed w, subst (NoneApplies (checks ++ lastChecks)) w h)
 
     go : (j : Judgement) → readCall s i ≡ j → triedAfter (checks ++ lastChecks) j ≡ passed c → (readCall s i ≡ passed c) × NoneApplies (checks ++ lastChecks) c
-    go (refused k) r e = absurd (let z : _≡_ {A = ℕ} 0 1 = cc in omega arith)
+    go (refused k) r e = absurd (refused-not-passed k c e)
     go (passed d) r e = inner d r (tried (checks ++ lastChecks) d) (tried-meaning (checks ++ lastChecks) d) e
 
 -- and the other way
@@ -83,20 +88,23 @@ acceptance s i c r h = rw r (passes (checks ++ lastChecks) c h)
 abbrev pub IsNumber : ℕ → Type 0
 IsNumber k = (1 ≤ k) × (k ≤ 16)
 
--- a reading, whatever follows it, refuses with one of the sixteen if the rest does
+-- a judgement, if it is a refusal, has one of them
 abbrev Numbered : Judgement → Type 0
 Numbered (refused k) = IsNumber k
 Numbered (passed c) = Unit {0}
 
+-- a reading with such a number, and such judgements after it
 reading-numbered : {A : Type 0} (k : ℕ) (o : Option A) (next : A → Judgement) → IsNumber k → ((a : A) → Numbered (next a)) → Numbered (reading k o next)
 unfolding reading
 reading-numbered k none next n h = n
 reading-numbered k (some a) next n h = h a
 
+-- so have all rules of a list
 abbrev AllNumbered : List Rule → Type 0
 AllNumbered [] = Unit {0}
 AllNumbered (r ∷ rs) = IsNumber (r .number) × AllNumbered rs
 
+-- and then their trial
 tried-numbered : (rs : List Rule) (c : Call) → AllNumbered rs → Numbered (tried rs c)
 unfolding tried choose
 tried-numbered [] c h = tt
