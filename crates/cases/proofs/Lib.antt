@@ -1,2 +1,3 @@
 pub mod HashedCases
 pub mod CallCases
+pub mod MadeCases

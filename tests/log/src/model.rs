@@ -78,11 +78,11 @@ pub struct Lookup {
 
 #[derive(Clone, Debug, PartialEq, Eq)]
 pub enum LookupResult {
-    /// `in`: the leaf of the version is there.
+    /// `in`: the path ends in the version's leaf.
     Inclusion,
-    /// `no`: an empty place is there.
+    /// `no`: it ends in an empty place.
     EmptyPlace,
-    /// `nl`: another leaf is there.
+    /// `nl`: it ends in another version's leaf.
     OtherLeaf { output: Digest, commitment: Digest },
 }
 

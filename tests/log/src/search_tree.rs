@@ -24,7 +24,7 @@ pub fn right(position: u64, size: u64) -> u64 {
     child
 }
 
-/// The root, its right child and so on to the last entry (004 4.3.1).
+/// What is met going right from the root as far as the last entry (004 4.3.1).
 pub fn frontier(size: u64) -> Vec<u64> {
     let mut position = root(size);
     let mut entries = vec![position];

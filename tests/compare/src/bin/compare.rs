@@ -1,0 +1,197 @@
+//! Compares a checker with the second program on many calls.
+//!
+//!     compare program PATH FOLDER COUNT [SEED]    runs the program at PATH in folders under FOLDER
+//!     compare library PATH COUNT [SEED]           calls a library through the C program at PATH
+//!
+//! Up to COUNT of the fixed cases come first, of each number alike; then COUNT cases that follow from the seed. With
+//! COUNT 0 the small cases are run alone. The second program's answers are held against those that are known from how
+//! the cases were made. Prints how often each number was answered; fails if anything differs or a number was never
+//! answered.
+
+use compare::case::{Case, Folder};
+use compare::folders::of_case;
+use compare::library::{self, Library, Request};
+use compare::program;
+use compare::selection::{by_number, spread, NUMBERS};
+use compare::tally::Tally;
+use std::env;
+use std::io;
+use std::path::{Path, PathBuf};
+use std::process::exit;
+use std::thread;
+
+const THREADS: usize = 2;
+
+fn main() {
+    let arguments: Vec<String> = env::args().skip(1).collect();
+    let words: Vec<&str> = arguments.iter().map(String::as_str).collect();
+    let seed = |words: &[&str]| words.first().map_or(1, |seed| number(seed));
+    let tally = match &words[..] {
+        ["program", path, folder, count, rest @ ..] if rest.len() < 2 => {
+            let path = std::fs::canonicalize(path).unwrap_or_else(|error| fail(path, error));
+            let folder = PathBuf::from(folder);
+            together(number(count), seed(rest), move |share| {
+                programs(&path, &folder, share)
+            })
+        }
+        ["library", path, count, rest @ ..] if rest.len() < 2 => {
+            let path = PathBuf::from(path);
+            together(number(count), seed(rest), move |share| {
+                libraries(&path, share)
+            })
+        }
+        _ => {
+            eprintln!("usage: compare program PATH FOLDER COUNT [SEED]\n       compare library PATH COUNT [SEED]");
+            exit(2);
+        }
+    };
+    println!("{tally}");
+    if !tally.passes() {
+        exit(1);
+    }
+}
+
+fn number(word: &str) -> u64 {
+    word.parse().unwrap_or_else(|error| fail(word, error))
+}
+
+fn fail(what: &str, error: impl std::fmt::Display) -> ! {
+    eprintln!("compare: {what}: {error}");
+    exit(2);
+}
+
+/// One thread's share of the cases.
+struct Share {
+    thread: usize,
+    count: usize,
+    seed: u64,
+}
+
+impl Share {
+    /// Fixed cases and then as many that follow from the seed.
+    fn cases(&self) -> impl Iterator<Item = Case> {
+        let mut fixed = compare::small();
+        if self.count > 0 {
+            fixed.extend(compare::named());
+            let part = (THREADS * self.count).div_ceil(NUMBERS);
+            let parts = by_number(fixed).into_iter();
+            fixed = parts.flat_map(|cases| spread(cases, part)).collect();
+        }
+        let made = compare::stream(self.seed.wrapping_add(self.thread as u64 * 0x1_0000_0000));
+        self.of(fixed).chain(made.take(self.count))
+    }
+
+    /// This thread's elements of a list.
+    fn of<T>(&self, list: Vec<T>) -> impl Iterator<Item = T> {
+        list.into_iter().skip(self.thread).step_by(THREADS)
+    }
+}
+
+/// Does the work in a few threads and adds up what they found.
+fn together(
+    count: u64,
+    seed: u64,
+    work: impl Fn(Share) -> io::Result<Tally> + Send + Clone + 'static,
+) -> Tally {
+    let threads: Vec<_> = (0..THREADS)
+        .map(|thread| {
+            let work = work.clone();
+            let share = Share {
+                thread,
+                count: count as usize / THREADS,
+                seed,
+            };
+            thread::spawn(move || work(share))
+        })
+        .collect();
+    let mut all = Tally::default();
+    for thread in threads {
+        match thread.join().expect("a thread of the comparison ends") {
+            Ok(tally) => all.add(tally),
+            Err(error) => fail("no comparison", error),
+        }
+    }
+    all
+}
+
+fn programs(path: &Path, folder: &Path, share: Share) -> io::Result<Tally> {
+    let mut tally = Tally::default();
+    let place = folder.join(share.thread.to_string());
+    let folders = share.of(spread(compare::folders(share.seed), THREADS * share.count));
+    let cases = share.cases().map(|case| of_case(&case));
+    for (number, case) in folders.chain(cases).enumerate() {
+        if tally.enough() {
+            break;
+        }
+        run(
+            path,
+            &place.join(number.to_string()),
+            &case,
+            number,
+            &mut tally,
+        )?;
+    }
+    Ok(tally)
+}
+
+/// Runs the program once; a folder in which something differs stays.
+fn run(
+    path: &Path,
+    place: &Path,
+    case: &Folder,
+    number: usize,
+    tally: &mut Tally,
+) -> io::Result<()> {
+    let answer = program::plain(&case.files);
+    if case.answer.as_ref().is_some_and(|known| *known != answer) {
+        let known = case.answer.as_ref().map(program::line).unwrap_or_default();
+        tally.differs(format!(
+            "{}: the second program answers {:?}, known is {known:?}",
+            case.name,
+            program::line(&answer)
+        ));
+    }
+    tally.count(answer.number());
+    if let Some(what) = program::compare(path, place, &case.files, number % 2 == 0, &answer)? {
+        tally.differs(format!("{}: {what} (in {})", case.name, place.display()));
+    }
+    Ok(())
+}
+
+fn libraries(path: &Path, share: Share) -> io::Result<Tally> {
+    let mut tally = Tally::default();
+    let mut library = Library::start(path)?;
+    for (number, case) in share.cases().enumerate() {
+        for (i, request) in library::requests(&case, number).iter().enumerate() {
+            if tally.enough() {
+                break;
+            }
+            if let Err(error) = call(&mut library, request, i == 0, &mut tally) {
+                tally.differs(format!("{}: no reply, {error}", case.name));
+                return Ok(tally);
+            }
+        }
+    }
+    if !library.end()? {
+        tally.differs("the C program did not end well".to_string());
+    }
+    Ok(tally)
+}
+
+fn call(library: &mut Library, request: &Request, own: bool, tally: &mut Tally) -> io::Result<()> {
+    let name = &request.case.name;
+    let expected = library::plain(request);
+    if let (true, Some(answer)) = (own, &request.case.answer) {
+        if let Some(what) = library::difference(&expected, &library::known(request, answer)) {
+            tally.differs(format!("{name}: the second program {what}"));
+        }
+    }
+    match request.call {
+        library::Call::Search | library::Call::Monitor => tally.count(expected.word as u8),
+        _ => tally.count_other(),
+    }
+    if let Some(what) = library::difference(&library.call(request)?, &expected) {
+        tally.differs(format!("{name}: {:?} {what}", request.call));
+    }
+    Ok(())
+}

@@ -1,0 +1,179 @@
+//! The examples that paper 01 asks to be run by a program (Worked examples, both sides), and the
+//! easy errors it names.
+
+use crate::base::{self, question, Base, Plan};
+use crate::case::{Answer, Case, Inputs};
+use crate::damage::leaves::misplaced;
+use crate::damage::Damage;
+use crate::honest::extremes::with_greatest;
+use crate::honest::maps::plain_log;
+use crate::limits;
+use honest_log::ladder::binary_ladder;
+use honest_log::model::{Kind, LookupResult};
+use honest_log::VrfRule;
+
+pub fn cases() -> Vec<Case> {
+    let mut list = targets();
+    list.extend(sizes());
+    list.extend(bounds());
+    list.extend(maps());
+    list.extend(hidden_version());
+    list.extend(early_version());
+    list.extend(compared_value());
+    list
+}
+
+/// The greatest version has a ladder of 64 steps; the number above it is no version.
+fn targets() -> Vec<Case> {
+    let log = with_greatest(limits::VERSION, VrfRule::Hashed { seed: 1 });
+    let question = question(&log, b"hub", 0, &[], 5);
+    let base = Base::new("ladder of 2^32 - 2", Kind::Search, &log, question);
+    assert_eq!(binary_ladder(limits::VERSION).len(), 64);
+    let past = Damage::on_exchange(8, "target 2^32 - 1", |exchange| {
+        if let Some(target) = &mut exchange.response.target {
+            target.version = u32::MAX;
+        }
+    });
+    let mut list = vec![
+        Case::of("ladder of 2^32 - 2 by 64 versions", 0, &base.exchange),
+        past.apply(&base),
+    ];
+    if let Ok(answer) = log.search_target(&base.question, u32::MAX) {
+        list.push(Case::of(
+            "t = 2^32 - 1 with a ladder of its own",
+            8,
+            &answer.exchange,
+        ));
+    }
+    list
+}
+
+/// n = m is accepted, n = m - 1 is not.
+fn sizes() -> Vec<Case> {
+    let log = Plan::new(b"mast", 12, &[(0, 0), (5, 1)]).log();
+    let mut list = Vec::new();
+    for (size, number) in [(11, 0), (10, 7)] {
+        for kind in [Kind::Search, Kind::Monitor] {
+            let question = question(&log, b"mast", 11, &[(7, 1)], size);
+            let answer = crate::honest::answer(&log, kind, &question);
+            let name = format!("{} with n = {size} and m = 11", kind.word());
+            list.extend(answer.map(|answer| Case::of(name, number, &answer.exchange)));
+        }
+    }
+    list
+}
+
+/// An identifier off by one bit, and a last time at clock + max_ahead and one more.
+fn bounds() -> Vec<Case> {
+    let mut list = Vec::new();
+    for base in [base::searches().remove(0), base::monitorings().remove(0)] {
+        let earliest = base.exchange.new_state.time - base.exchange.settings.max_ahead;
+        let damages = [
+            Damage::on_inputs(6, "identifier off by one bit", |inputs| {
+                inputs.identifier[15] ^= 1
+            }),
+            Damage::on_inputs(0, "last time at clock + max_ahead", move |inputs| {
+                inputs.clock = earliest
+            }),
+            Damage::on_inputs(11, "last time one past clock + max_ahead", move |inputs| {
+                inputs.clock = earliest - 1
+            }),
+        ];
+        list.extend(damages.iter().map(|damage| damage.apply(&base)));
+    }
+    list
+}
+
+/// 48 pairs: a new position is one too many, an old one is not.
+fn maps() -> Vec<Case> {
+    let log = plain_log();
+    let most = limits::PAIRS as u64;
+    let mut list = Vec::new();
+    for (name, first, number) in [("new", 0, 16), ("old", 128 - most, 0)] {
+        let pairs: Vec<(u64, u32)> = (first..first + most)
+            .map(|position| (position, 0))
+            .collect();
+        let question = question(&log, b"pitch", 128, &pairs, 128);
+        if let Ok(answer) = log.search(&question) {
+            list.push(Case::of(
+                format!("48 pairs and {name} position"),
+                number,
+                &answer.exchange,
+            ));
+        }
+    }
+    list
+}
+
+/// A newer version that is there, shown as another leaf than the searched one.
+fn hidden_version() -> Vec<Case> {
+    let log = Plan::new(b"yaw", 3, &[(0, 0), (2, 1)]).log();
+    let question = question(&log, b"yaw", 0, &[], 3);
+    let Ok(answer) = log.search_target(&question, 0) else {
+        return Vec::new();
+    };
+    let mut exchange = answer.exchange;
+    let mut list = vec![Case::of(
+        "version 1 is there and 0 is said to be the last",
+        13,
+        &exchange,
+    )];
+    let output = log.output(b"yaw", 1);
+    let commitment = log.commitment(b"yaw", 1);
+    for entry in &mut exchange.response.entries {
+        for lookup in &mut entry.lookups {
+            if lookup.version == 1 && lookup.result == LookupResult::Inclusion {
+                lookup.result = LookupResult::OtherLeaf { output, commitment };
+            }
+        }
+    }
+    list.push(Case::of(
+        "nl whose other leaf is the searched one",
+        12,
+        &exchange,
+    ));
+    list.push(Case::of(
+        "nl whose other leaf stands elsewhere",
+        12,
+        &misplaced(4, 3),
+    ));
+    list
+}
+
+/// A version above the target at an early entry, the last one being right.
+fn early_version() -> Vec<Case> {
+    let log = Plan::new(b"yaw", 3, &[(0, 0)]).log();
+    let tree = log
+        .entry(1)
+        .prefix_tree
+        .with(&[(log.output(b"yaw", 1), [7; limits::DIGEST])]);
+    let log = log.with_prefix_tree(1, tree);
+    let question = question(&log, b"yaw", 0, &[], 3);
+    let answer = log.search_target(&question, 0).ok();
+    let name = "in above t at an early entry";
+    answer
+        .map(|answer| Case::of(name, 13, &answer.exchange))
+        .into_iter()
+        .collect()
+}
+
+/// A kept value under which something is shown is compared even where the rest is right.
+fn compared_value() -> Vec<Case> {
+    let log = Plan::new(b"yaw", 5, &[(0, 0)]).log();
+    let question = question(&log, b"yaw", 5, &[], 5);
+    let base = Base::new("yaw of 5 after 5", Kind::Monitor, &log, question);
+    let mut list = Vec::new();
+    for at in 0..2 {
+        let mut exchange = base.exchange.clone();
+        exchange.state.values[at] = [3; limits::DIGEST];
+        let answer = Some(Answer::Refused(14));
+        let name = format!("kept value {at} of 5 that a shown entry contradicts");
+        list.push(Case {
+            name,
+            inputs: Inputs::of(&exchange),
+            room: 0,
+            answer,
+        });
+    }
+    list
+}
