@@ -196,10 +196,7 @@ fn one(base: &Base, random: &mut Random) -> Option<Case> {
 }
 
 fn number(case: &Case) -> u8 {
-    match case.answer {
-        Some(Answer::Refused(number)) => number,
-        _ => 0,
-    }
+    case.answer.as_ref().map_or(0, Answer::number)
 }
 
 /// Both changes at once. Two of one number could undo each other, and so could a lookup's version

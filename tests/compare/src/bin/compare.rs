@@ -3,10 +3,10 @@
 //!     compare program PATH FOLDER COUNT [SEED]    runs the program at PATH in folders under FOLDER
 //!     compare library PATH COUNT [SEED]           calls a library through the C program at PATH
 //!
-//! Up to COUNT of the fixed cases come first, of each number alike; then COUNT cases that follow from the seed. With
-//! COUNT 0 the small cases are run alone. The second program's answers are held against those that are known from how
-//! the cases were made. Prints how often each number was answered; fails if anything differs or a number was never
-//! answered.
+//! A library is called on all fixed cases and on COUNT cases that follow from the seed; a program is run on up to COUNT
+//! fixed cases, of each number alike, and on COUNT others. With COUNT 0 the small cases are run alone. The second
+//! program's answers are held against those that are known from how the cases were made. Prints how often each number
+//! was answered; fails if anything differs or a number was never answered.
 
 use compare::case::{Case, Folder};
 use compare::folders::of_case;
@@ -68,14 +68,13 @@ struct Share {
 }
 
 impl Share {
-    /// Fixed cases and then as many that follow from the seed.
-    fn cases(&self) -> impl Iterator<Item = Case> {
+    /// Fixed cases, up to so many of each number, and then those that follow from the seed.
+    fn cases(&self, most: usize) -> impl Iterator<Item = Case> {
         let mut fixed = compare::small();
         if self.count > 0 {
             fixed.extend(compare::named());
-            let part = (THREADS * self.count).div_ceil(NUMBERS);
             let parts = by_number(fixed).into_iter();
-            fixed = parts.flat_map(|cases| spread(cases, part)).collect();
+            fixed = parts.flat_map(|cases| spread(cases, most)).collect();
         }
         let made = compare::stream(self.seed.wrapping_add(self.thread as u64 * 0x1_0000_0000));
         self.of(fixed).chain(made.take(self.count))
@@ -118,7 +117,8 @@ fn programs(path: &Path, folder: &Path, share: Share) -> io::Result<Tally> {
     let mut tally = Tally::default();
     let place = folder.join(share.thread.to_string());
     let folders = share.of(spread(compare::folders(share.seed), THREADS * share.count));
-    let cases = share.cases().map(|case| of_case(&case));
+    let most = (THREADS * share.count).div_ceil(NUMBERS);
+    let cases = share.cases(most).map(|case| of_case(&case));
     for (number, case) in folders.chain(cases).enumerate() {
         if tally.enough() {
             break;
@@ -161,7 +161,7 @@ fn run(
 fn libraries(path: &Path, share: Share) -> io::Result<Tally> {
     let mut tally = Tally::default();
     let mut library = Library::start(path)?;
-    for (number, case) in share.cases().enumerate() {
+    for (number, case) in share.cases(usize::MAX).enumerate() {
         for (i, request) in library::requests(&case, number).iter().enumerate() {
             if tally.enough() {
                 break;
