@@ -10,6 +10,7 @@ use crate::state::State;
 
 /// The files of the program's folder: none where one is missing or can't be read, and more bytes
 /// than its limit where one is too long.
+#[derive(Clone, Debug)]
 pub struct Files {
     pub request: Option<Vec<u8>>,
     pub response: Option<Vec<u8>>,

@@ -1,6 +1,7 @@
 //! A call with all its inputs, as bytes, and the answer that is known from how it was made.
 
 use honest_log::model::Kind;
+pub use second::program::Files;
 
 #[derive(Clone, Debug)]
 pub struct Inputs {
@@ -44,17 +45,6 @@ pub struct Case {
     pub room: usize,
     /// The library's answer, where it is known from how the case was made.
     pub answer: Option<Answer>,
-}
-
-/// The program's folder; none: the file is missing.
-#[derive(Clone, Debug)]
-pub struct Files {
-    pub request: Option<Vec<u8>>,
-    pub response: Option<Vec<u8>>,
-    pub settings: Option<Vec<u8>>,
-    pub state: Option<Vec<u8>>,
-    pub sheet: Option<Vec<u8>>,
-    pub signed: Option<Vec<u8>>,
 }
 
 /// A run of the program that is no call of the library: files missing, too long, a broken request line.

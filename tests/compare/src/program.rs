@@ -12,14 +12,7 @@ type Contents = BTreeMap<String, Vec<u8>>;
 
 /// What the second program answers.
 pub fn plain(files: &Files) -> Answer {
-    let outcome = second::program::judge(&second::program::Files {
-        request: files.request.clone(),
-        response: files.response.clone(),
-        settings: files.settings.clone(),
-        state: files.state.clone(),
-        sheet: files.sheet.clone(),
-        signed: files.signed.clone(),
-    });
+    let outcome = second::program::judge(files);
     let line = String::from_utf8(outcome.line).expect("the second program prints text");
     let fields: Vec<&str> = line.trim_end_matches('\n').split('\t').collect();
     match (&fields[..], outcome.state) {

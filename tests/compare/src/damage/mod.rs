@@ -86,51 +86,39 @@ impl Damage {
 
 /// Collecting damages.
 pub trait Damages {
+    fn add(&mut self, damage: Damage);
+
     fn on_exchange(
         &mut self,
         number: u8,
         name: impl Into<String>,
         change: impl Fn(&mut Exchange) + 'static,
-    );
+    ) {
+        self.add(Damage::on_exchange(number, name, change));
+    }
 
     fn on_inputs(
         &mut self,
         number: u8,
         name: impl Into<String>,
         change: impl Fn(&mut Inputs) + 'static,
-    );
+    ) {
+        self.add(Damage::on_inputs(number, name, change));
+    }
 
     /// A change of the response that leads to number 9.
-    fn on_response(&mut self, name: impl Into<String>, change: impl Fn(&mut Response) + 'static);
-
-    fn on_room(&mut self, number: u8, name: impl Into<String>, room: usize);
-}
-
-impl Damages for Vec<Damage> {
-    fn on_exchange(
-        &mut self,
-        number: u8,
-        name: impl Into<String>,
-        change: impl Fn(&mut Exchange) + 'static,
-    ) {
-        self.push(Damage::on_exchange(number, name, change));
-    }
-
-    fn on_inputs(
-        &mut self,
-        number: u8,
-        name: impl Into<String>,
-        change: impl Fn(&mut Inputs) + 'static,
-    ) {
-        self.push(Damage::on_inputs(number, name, change));
-    }
-
     fn on_response(&mut self, name: impl Into<String>, change: impl Fn(&mut Response) + 'static) {
         self.on_exchange(9, name, move |exchange| change(&mut exchange.response));
     }
 
     fn on_room(&mut self, number: u8, name: impl Into<String>, room: usize) {
-        self.push(Damage::on_room(number, name, room));
+        self.add(Damage::on_room(number, name, room));
+    }
+}
+
+impl Damages for Vec<Damage> {
+    fn add(&mut self, damage: Damage) {
+        self.push(damage);
     }
 }
 
