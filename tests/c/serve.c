@@ -16,35 +16,8 @@
 #include <stdlib.h>
 #include <string.h>
 
+#include "calls.h"
 #include "kt.h"
-
-/* The calls to compare; the numbers and byte strings as in the definitions of the calls. */
-uint64_t kt_search(const uint8_t *response, size_t response_length,
-                   const uint8_t *configuration, size_t configuration_length,
-                   const uint8_t *state, size_t state_length,
-                   const uint8_t *identifier, size_t identifier_length,
-                   uint64_t clock,
-                   const uint8_t *vrf_outputs, size_t vrf_outputs_length,
-                   const uint8_t *signed_text, size_t signed_text_length,
-                   uint8_t *output, size_t output_length,
-                   uint8_t *new_state, size_t new_state_length);
-uint64_t kt_monitor(const uint8_t *response, size_t response_length,
-                    const uint8_t *configuration, size_t configuration_length,
-                    const uint8_t *state, size_t state_length,
-                    const uint8_t *identifier, size_t identifier_length,
-                    uint64_t clock,
-                    const uint8_t *vrf_outputs, size_t vrf_outputs_length,
-                    const uint8_t *signed_text, size_t signed_text_length,
-                    uint8_t *new_state, size_t new_state_length);
-uint64_t kt_signed_text(uint32_t kind,
-                        const uint8_t *response, size_t response_length,
-                        const uint8_t *configuration, size_t configuration_length,
-                        const uint8_t *state, size_t state_length,
-                        const uint8_t *identifier, size_t identifier_length,
-                        uint64_t clock,
-                        const uint8_t *vrf_outputs, size_t vrf_outputs_length,
-                        uint8_t *buffer, size_t buffer_length, uint64_t offset);
-uint64_t kt_ladder(uint32_t version, uint8_t *versions, size_t versions_length);
 
 enum { CALL_SEARCH, CALL_MONITOR, CALL_SIGNED_TEXT, CALL_LADDER, CALL_SHA256 };
 enum { RESPONSE, CONFIGURATION, STATE, IDENTIFIER, VRF_OUTPUTS, SIGNED_TEXT, GIVEN, FIRST = GIVEN, SECOND, STRINGS };

@@ -6,16 +6,11 @@
 #include <stdlib.h>
 #include <string.h>
 
-#define INPUTS                                                                                             \
-    const uint8_t *response, size_t response_length, const uint8_t *configuration,                         \
-        size_t configuration_length, const uint8_t *state, size_t state_length, const uint8_t *identifier, \
-        size_t identifier_length, uint64_t clock, const uint8_t *vrf_outputs, size_t vrf_outputs_length
+#include "calls.h"
+
 #define GIVEN                                                                                          \
     response, response_length, configuration, configuration_length, state, state_length, identifier, \
         identifier_length, clock, vrf_outputs, vrf_outputs_length
-#define SIGNED const uint8_t *signed_text, size_t signed_text_length
-#define OUTPUT uint8_t *output, size_t output_length
-#define NEW_STATE uint8_t *new_state, size_t new_state_length
 
 uint64_t __real_kt_search(INPUTS, SIGNED, OUTPUT, NEW_STATE);
 uint64_t __real_kt_monitor(INPUTS, SIGNED, NEW_STATE);
