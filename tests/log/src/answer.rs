@@ -1,7 +1,6 @@
 //! What a checker asks and what it gets (paper 01, What a call is given), and the part of a
 //! response that searches and monitoring write alike.
 
-use crate::limits;
 use crate::log::Log;
 use crate::log_tree::needed_nodes;
 use crate::model::{
@@ -38,15 +37,6 @@ impl Answer {
         self.obstacles
             .first()
             .map_or(0, |obstacle| obstacle.number())
-    }
-
-    /// The number the program must answer, which reads shorter responses only (paper 01, What a
-    /// call is given).
-    pub fn expected_of_program(&self) -> u32 {
-        if self.exchange.response.text().len() > limits::PROGRAM_RESPONSE {
-            return Obstacle::Length.number();
-        }
-        self.expected()
     }
 
     /// The exchange if it must be accepted.

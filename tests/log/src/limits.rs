@@ -3,7 +3,6 @@
 use std::ops::RangeInclusive;
 
 pub const RESPONSE: usize = 1_048_576;
-pub const PROGRAM_RESPONSE: usize = 65_536;
 pub const SETTINGS: usize = 2_048;
 pub const SHEET: usize = 36_864;
 pub const STATE_TEXT: usize = 8_192;

@@ -269,15 +269,4 @@ impl Exchange {
         bytes.extend(self.root);
         bytes
     }
-
-    /// The program's request line.
-    pub fn request(&self) -> Vec<u8> {
-        format!(
-            "{}\t{}\t{}\n",
-            self.kind.word(),
-            hex(&self.identifier),
-            self.clock
-        )
-        .into_bytes()
-    }
 }
