@@ -1,7 +1,7 @@
 -- Laws of byte strings in hex (specs/Hex.antt): what is written reads as itself, and what reads is what is written.
 use mathlib.Core.Path.{_≡_, refl, sym, _∙_, ap, ap₂}
 use mathlib.Core.Logic.{_⊎_, inl, inr}
-use mathlib.Core.Bool.{Bool, true, false, _&&_, cond}
+use mathlib.Core.Bool.{Bool, true, false, _&&_, _||_, cond}
 use mathlib.Core.List.{[], _∷_}
 use mathlib.Core.Option.{some, Option·some-injective}
 use Prim.Native.Nat.{ℕ, _+_, _-_, _*_, _/_, _%_, _≤_, _<_}
@@ -17,7 +17,7 @@ use Rattle.lists.proofs.ListLaws.{all-cons, cons-all, all-implied, same-refl, s
 use Rattle.hash.specs.Bytes.{AreBytes}
 use Rattle.lines.specs.Number.{ascii, isDigit}
 use Rattle.lines.specs.Hex.{dash, isHexDigit, digitValue, unhex, isHex, readHex, hexDigit, hex, hexField}
-use Rattle.lines.proofs.NumberLaws.{digit-bounds, is-digit, isPlain, is-plain}
+use Rattle.lines.proofs.NumberLaws.{digit-bounds, is-digit, above-digits, isPlain, is-plain}
 
 -- ---- digits
 
@@ -32,14 +32,14 @@ unfolding hexDigit
 hex-digit-high d h = rw (le-ltb d 10 h) refl
 
 -- the value of a byte from 48 to 57
-value-low : (b : ℕ) → 48 ≤ b → b ≤ 57 → digitValue b ≡ b - 48
+pub value-low : (b : ℕ) → 48 ≤ b → b ≤ 57 → digitValue b ≡ b - 48
 unfolding digitValue
 value-low b l h = rw (is-digit b l h) refl
 
 -- the value of a byte above 57
-value-high : (b : ℕ) → 57 < b → digitValue b ≡ b - 87
-unfolding digitValue isDigit
-value-high b h = let l : 48 ≤ b = omega arith in rw (le-leb 48 b l, lt-leb b 57 h) refl
+pub value-high : (b : ℕ) → 57 < b → digitValue b ≡ b - 87
+unfolding digitValue
+value-high b h = rw (above-digits b h) refl
 
 -- a byte from 48 to 57 is a hex digit
 is-hex-low : (b : ℕ) → 48 ≤ b → b ≤ 57 → isHexDigit b ≡ true
@@ -48,11 +48,22 @@ is-hex-low b l h = rw (is-digit b l h) refl
 
 -- so is a byte from 97 to 102
 is-hex-high : (b : ℕ) → 97 ≤ b → b ≤ 102 → isHexDigit b ≡ true
+unfolding isHexDigit
+is-hex-high b l h = let p : 57 < b = omega arith in rw (above-digits b p, le-leb 97 b l, le-leb b 102 h) refl
+
+-- up to 57, the hex digits are the bytes from 48 on
+pub is-hex-below : (b : ℕ) → b ≤ 57 → leb 48 b ≡ isHexDigit b
 unfolding isHexDigit isDigit
-is-hex-high b l h =
-    let p : 48 ≤ b = omega arith in
-    let q : 57 < b = omega arith in
-    rw (le-leb 48 b p, lt-leb b 57 q, le-leb 97 b l, le-leb b 102 h) refl
+is-hex-below b h = let l : b < 97 = omega arith in rw (le-leb b 57 h, lt-leb 97 b l) (go (leb 48 b))
+  where
+    go : (t : Bool) → t ≡ ((t && true) || false)
+    go true = refl
+    go false = refl
+
+-- above 57, they are those from 97 to 102
+pub is-hex-above : (b : ℕ) → 57 < b → (leb 97 b && leb b 102) ≡ isHexDigit b
+unfolding isHexDigit
+is-hex-above b h = rw (above-digits b h) refl
 
 -- a digit that is written is a hex digit with its value
 pub digit-value : (d : ℕ) → d < 16 → (isHexDigit (hexDigit d) ≡ true) × (digitValue (hexDigit d) ≡ d)
@@ -86,13 +97,19 @@ value-digit b e = go (or-holds (isDigit b) (leb 97 b && leb b 102) e)
         rw (value-high b (omega arith)) (omega arith, q)
 
 -- a hex digit is at least 48
-hex-digit-bound : (b : ℕ) → isHexDigit b ≡ true → 48 ≤ b
+pub hex-digit-bound : (b : ℕ) → isHexDigit b ≡ true → 48 ≤ b
 unfolding isHexDigit
 hex-digit-bound b e = go (or-holds (isDigit b) (leb 97 b && leb b 102) e)
   where
     go : (isDigit b ≡ true) ⊎ ((leb 97 b && leb b 102) ≡ true) → 48 ≤ b
     go (inl d) = digit-bounds b d .0
     go (inr d) = let l = leb-true 97 b (and-holds (leb 97 b) (leb b 102) d .0) in omega arith
+
+-- a hex digit above 57 is at most 102, and at least 97
+pub hex-digit-high-bound : (b : ℕ) → isHexDigit b ≡ true → 57 < b → (97 ≤ b) × (b ≤ 102)
+hex-digit-high-bound b e h =
+    let (s, t) = and-holds (leb 97 b) (leb b 102) (is-hex-above b h ∙ e) in
+    (leb-true 97 b s, leb-true b 102 t)
 
 -- ---- reading what is written
 

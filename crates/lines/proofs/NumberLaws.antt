@@ -1,6 +1,6 @@
 -- Laws of decimal numbers (specs/Number.antt): what is written reads as itself, and what reads is what is written.
 use mathlib.Core.Path.{_≡_, refl, sym, _∙_, ap}
-use mathlib.Core.Bool.{Bool, true, _&&_, not, false≢true}
+use mathlib.Core.Bool.{Bool, true, false, _&&_, not, false≢true}
 use mathlib.Core.List.{[], _∷_, _++_, append-assoc, append-nil}
 use mathlib.Core.Option.{some}
 use Prim.Native.Nat.{ℕ, zero, suc, _+_, _-_, _*_, _/_, _%_, _^_, _≤_, _<_}
@@ -8,7 +8,7 @@ use native.Mathlib.Decide.{decLt}
 use native.Mathlib.Omega.{arith}
 use lib.Dec.{eqb, leb}
 use lib.ListN.{length, length-append}
-use borrow.Author.Tests.{ne-eqb, lt-ltb, le-ltb, le-leb, leb-true, eqb-false, not-true}
+use borrow.Author.Tests.{ne-eqb, lt-ltb, le-ltb, le-leb, lt-leb, leb-true, eqb-false, not-true}
 use Rattle.lists.specs.Choice.{choose}
 use Rattle.lists.specs.Lists.{Bytes, all}
 use Rattle.lists.proofs.ListLaws.{and-holds, holds-and, provided-true, provided-some, cons-all, all-cons, all-append, all-implied}
@@ -26,6 +26,16 @@ digit-bounds b e = let h = and-holds (leb 48 b) (leb b 57) e in (leb-true 48 b (
 pub is-digit : (b : ℕ) → 48 ≤ b → b ≤ 57 → isDigit b ≡ true
 unfolding isDigit
 is-digit b l h = holds-and (leb 48 b) (leb b 57) (le-leb 48 b l) (le-leb b 57 h)
+
+-- a byte below 48 is none
+pub below-digits : (b : ℕ) → b < 48 → isDigit b ≡ false
+unfolding isDigit
+below-digits b h = rw (lt-leb 48 b h) refl
+
+-- nor is one above 57
+pub above-digits : (b : ℕ) → 57 < b → isDigit b ≡ false
+unfolding isDigit
+above-digits b h = let l : 48 ≤ b = omega arith in rw (le-leb 48 b l, lt-leb b 57 h) refl
 
 -- a byte that is neither a tab nor a newline
 abbrev pub isPlain : ℕ → Bool

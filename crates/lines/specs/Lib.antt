@@ -2,3 +2,4 @@ pub mod Number
 pub mod Hex
 pub mod Field
 pub mod Line
+pub mod Readings

@@ -33,6 +33,15 @@ unfoldable pub partsAt : ℕ → Bytes → List Bytes
 partsAt k [] = [] ∷ []
 partsAt k (b ∷ s) = cond (eqb b k) ([] ∷ partsAt k s) (ontoFirst b (partsAt k s))
 
+-- the bytes before the first k, all where there is none; the bytes after it, none where there is none
+unfoldable pub before : ℕ → Bytes → Bytes
+before k [] = []
+before k (b ∷ s) = cond (eqb b k) [] (b ∷ before k s)
+
+unfoldable pub after : ℕ → Bytes → Bytes
+after k [] = []
+after k (b ∷ s) = cond (eqb b k) s (after k s)
+
 -- the lines, if nothing stands after the last newline
 unfoldable pub ended : List Bytes → Option (List Bytes)
 ended [] = none

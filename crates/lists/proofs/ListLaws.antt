@@ -173,6 +173,12 @@ any-false f xs x e i = go (f x) refl
     go true p = absurd (false≢true (sym e ∙ at-any f xs x i p))
     go false p = refl
 
+-- a test that fails of each element fails of any
+pub any-none : {A : Type 0} (f : A → Bool) (xs : List A) → ((x : A) → List·Memᴰ x xs → f x ≡ false) → any f xs ≡ false
+unfolding any
+any-none f [] h = refl
+any-none f (y ∷ ys) h = rw (h y (List·Memᴰ·head refl)) (any-none f ys (λ x i. h x (List·Memᴰ·tail i)))
+
 -- where all tests of a list hold, the first and all others do
 pub every-cons : (b : Bool) (bs : List Bool) → every (b ∷ bs) ≡ true → (b ≡ true) × (every bs ≡ true)
 unfolding every
