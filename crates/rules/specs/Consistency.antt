@@ -4,39 +4,15 @@ use mathlib.Core.Logic.{_⊎_}
 use mathlib.Core.List.{List, [], _∷_, _++_, map, flatMap, List·Memᴰ}
 use mathlib.Core.Option.{Option, none, some}
 use Prim.Native.Nat.{ℕ}
-use Rattle.lists.specs.Lists.{Bytes}
 use Rattle.hash.specs.Bytes.{AreBytes}
-use Rattle.hash.specs.Sha256.{sha256}
-use Rattle.tree.specs.LogTree.{LogEntry, zeros}
+use Rattle.tree.specs.LogTree.{LogEntry}
+use Rattle.tree.specs.Collisions.{Broken}
 use Rattle.rules.specs.VrfOutputs.{outputOf}
 use Rattle.rules.specs.State.{State, HasBytes}
 use Rattle.rules.specs.Response.{Target, searched, stepVersions, logEntry}
 use Rattle.rules.specs.Refusals.{Inputs, Call, Judgement, refused, passed, judge, logRoot}
 use Rattle.rules.specs.Calls.{stateAfter}
 use Rattle.rules.specs.Hashed.{hashed}
-
--- ---- what breaks SHA-256
-
--- two different byte strings of a list with one SHA-256 value
-pub record Collision (strings : List Bytes) : Type 0 where
-  pub x : Bytes
-  pub y : Bytes
-  pub x-listed : List·Memᴰ x strings
-  pub y-listed : List·Memᴰ y strings
-  pub x-bytes : AreBytes x
-  pub y-bytes : AreBytes y
-  pub different : x ≡ y → ⊥
-  pub equal : sha256 x ≡ sha256 y
-
--- a byte string of a list whose SHA-256 value is 32 zero bytes
-pub record ZeroDigest (strings : List Bytes) : Type 0 where
-  pub x : Bytes
-  pub x-listed : List·Memᴰ x strings
-  pub x-bytes : AreBytes x
-  pub zero-digest : sha256 x ≡ zeros
-
-abbrev pub Broken : List Bytes → Type 0
-Broken strings = Collision strings ⊎ ZeroDigest strings
 
 -- ---- what is given are bytes: numbers below 256. Lists of other numbers stand for nothing that a call can get.
 

@@ -1,6 +1,7 @@
 -- The limits of paper 01, one name each: the table of what a call is given, then lengths and bounds that stand in its text.
 use Prim.Native.Nat.{ℕ, _-_, _^_}
 use Rattle.hash.specs.Sha256.{digestLength}
+use Rattle.tree.specs.LogHead.{levelLimit, blockLength}
 
 -- ---- the table
 
@@ -28,9 +29,9 @@ labelLimit = 255
 abbrev pub valueLimit : ℕ
 valueLimit = 1024
 
--- entries of a log
+-- entries of a log: 2 ^ 40
 abbrev pub treeSizeLimit : ℕ
-treeSizeLimit = 2 ^ 40
+treeSizeLimit = 2 ^ levelLimit
 
 -- of a target and of a pair; a ladder may hold one more
 abbrev pub greatestVersion : ℕ
@@ -59,9 +60,9 @@ vrfOutputLength = 32
 abbrev pub openingLength : ℕ
 openingLength = 16
 
--- the block of the values of a state's full subtrees
+-- the block of the values of a state's full subtrees: 1,280
 abbrev pub valuesBlockLength : ℕ
-valuesBlockLength = 1280
+valuesBlockLength = blockLength
 
 -- a state's text, and the bytes that a C call lends for the new one
 abbrev pub stateTextLimit : ℕ

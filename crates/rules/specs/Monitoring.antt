@@ -5,8 +5,8 @@ use Prim.Native.Nat.{ℕ, max}
 use lib.Dec.{eqb, leb}
 use Rattle.lists.specs.Lists.{any, select, insertAll, largest, lastOr}
 use Rattle.tree.specs.Ladder.{ladder}
-use Rattle.tree.specs.SearchTree.{frontier, rightAncestors}
-use Rattle.rules.specs.State.{MapEntry, versions}
+use Rattle.tree.specs.SearchTree.{rightAncestors, frontierAndPaths}
+use Rattle.rules.specs.State.{MapEntry, positions, versions}
 use Rattle.rules.specs.Search.{Asked, putEntry}
 
 -- the right path of the pair's position holds the entry x
@@ -25,8 +25,7 @@ versionsShown (w ∷ ws) = select (λ (u : ℕ). leb u (largest (w ∷ ws))) (la
 
 -- the frontier and all right paths, rising, each once
 unfoldable pub monitoredPositions : ℕ → List MapEntry → List ℕ
-monitoredPositions n [] = frontier n
-monitoredPositions n (e ∷ es) = insertAll (rightAncestors n (e .position)) (monitoredPositions n es)
+monitoredPositions n entries = frontierAndPaths n (positions entries)
 
 unfoldable pub askedByMonitoring : ℕ → List MapEntry → List Asked
 askedByMonitoring n entries =

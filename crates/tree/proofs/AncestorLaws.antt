@@ -28,19 +28,19 @@ abbrev pub ancestor : ℕ → ℕ → ℕ
 ancestor k p = node k (p / 2 ^ suc k)
 
 -- the last of the 2 ^ k entries that p stands among: p with its k low digits replaced by ones
-abbrev blockEnd : ℕ → ℕ → ℕ
+abbrev pub blockEnd : ℕ → ℕ → ℕ
 blockEnd k p = p / 2 ^ k * 2 ^ k + (2 ^ k - 1)
 
 -- p is not above the end of its block.
-end-above : (k p : ℕ) → p ≤ blockEnd k p
+pub end-above : (k p : ℕ) → p ≤ blockEnd k p
 end-above k p = let (l, h) = cut-bounds p k in omega arith
 
 -- At a clear digit the node is the last entry of p's block, and the larger block ends later.
-clear-digit : (k p : ℕ) → p / 2 ^ k % 2 ≡ 0 → (ancestor k p ≡ blockEnd k p) × (blockEnd (suc k) p ≡ blockEnd k p + 2 ^ k)
+pub clear-digit : (k p : ℕ) → p / 2 ^ k % 2 ≡ 0 → (ancestor k p ≡ blockEnd k p) × (blockEnd (suc k) p ≡ blockEnd k p + 2 ^ k)
 clear-digit k p z = let c = cut-clear p k z in let e = pow-succ' 2 k in let h = pow-pos k in (omega arith, omega arith)
 
 -- At a set digit the node is below p, and the larger block ends with the same entry.
-set-digit : (k p : ℕ) → p / 2 ^ k % 2 ≡ 1 → (ancestor k p < p) × (blockEnd (suc k) p ≡ blockEnd k p)
+pub set-digit : (k p : ℕ) → p / 2 ^ k % 2 ≡ 1 → (ancestor k p < p) × (blockEnd (suc k) p ≡ blockEnd k p)
 set-digit k p z = let c = cut-set p k z in let e = pow-succ' 2 k in let h = pow-pos k in let (l, u) = cut-bounds p k in (omega arith, omega arith)
 
 -- the nodes above p of levels below k that hold p and are below n, rising
@@ -212,11 +212,11 @@ by-step : {A : Type 0} (k n p : ℕ) → (p < ancestor k p → ancestor k p < n 
 by-step k n p more same = by-order p (ancestor k p) (λ u. by-order (ancestor k p) n (more u) (λ v. same (path-high k n p v))) (λ u. same (path-low k n p u))
 
 -- The digit at which a node is above p is clear.
-above-clear : (k p : ℕ) → p < ancestor k p → p / 2 ^ k % 2 ≡ 0
+pub above-clear : (k p : ℕ) → p < ancestor k p → p / 2 ^ k % 2 ≡ 0
 above-clear k p h = by-digit (p / 2 ^ k) (λ z. z) (λ z. absurd (omega (arith, set-digit k p z)))
 
 -- The block of twice as many entries ends no earlier.
-end-rises : (k p : ℕ) → blockEnd k p ≤ blockEnd (suc k) p
+pub end-rises : (k p : ℕ) → blockEnd k p ≤ blockEnd (suc k) p
 end-rises k p = by-digit (p / 2 ^ k) (λ z. omega (arith, clear-digit k p z)) (λ z. omega (arith, set-digit k p z))
 
 -- Each node above p that holds p, below n and of a level below k, is on the path.

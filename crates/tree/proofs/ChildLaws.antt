@@ -6,8 +6,8 @@ use native.Mathlib.Omega.{arith}
 use lib.Pow.{pow-pos}
 use borrow.Author.Tests.{lt-ltb, le-ltb}
 use Rattle.lists.specs.Choice.{choose}
-use Rattle.tree.specs.SearchTree.{leftStep, moveWithin, root, left, right}
-use Rattle.tree.proofs.PowerLaws.{power-unique}
+use Rattle.tree.specs.SearchTree.{power, leftStep, moveWithin, root, left, right}
+use Rattle.tree.proofs.PowerLaws.{power-unique, power-end}
 use Rattle.tree.proofs.DigitLaws.{by-order}
 use Rattle.tree.proofs.StepLaws.{node, level-node, left-step, right-step}
 
@@ -80,6 +80,15 @@ move-fuel (suc f) (suc g) n (suc k) q b c h =
 pub root-highest : (k n : ℕ) → 2 ^ k ≤ n → n < 2 ^ suc k → root n ≡ 2 ^ k - 1
 unfolding root
 root-highest k n l h = rw (power-unique k n l h)
+
+-- The root of a log is the power of its size, less one.
+pub root-power : (n p : ℕ) → p ≡ power n → p - 1 ≡ root n
+unfolding root
+root-power n p e = rw e
+
+-- An empty log has the root 0.
+pub root-empty : (n : ℕ) → n ≡ 0 → 0 ≡ root n
+root-empty n e = root-power n 1 (sym (power-end n (omega arith)))
 
 -- The left child of a node is the node of its left half, moved left to below n.
 pub left-moved : (n k q : ℕ) → left n (node (suc k) q) ≡ moveWithin (suc k) n (node k (2 * q))

@@ -115,7 +115,7 @@ below-top e j w p q l b =
     (2 ^ suc d, ap (λ (x : ℕ). x / 2 ^ e) z ∙ mul-add-div-right (pow-pos e) (2 ^ suc d) (w - p), sym y, omega arith)
 
 -- such a power changes neither the digit e nor the range for which it stands
-digit-below : (e j w p s : ℕ) → p ≡ 2 ^ j → p ≤ w → e < j
+pub digit-below : (e j w p s : ℕ) → p ≡ 2 ^ j → p ≤ w → e < j
     → (w / 2 ^ e % 2 ≡ (w - p) / 2 ^ e % 2) × ((w - p) / 2 ^ e % 2 ≡ 1 → digitRange (s + p) (w - p) e ≡ digitRange s w e)
 digit-below e j w p s q l b =
     let (h, d, y, v) = below-top e j w p q l b in (
@@ -127,7 +127,7 @@ digit-below e j w p s q l b =
     )
 
 -- the highest digit is set and stands for the first full subtree
-digit-top : (j w s : ℕ) → power w ≡ 2 ^ j → power w ≤ w → w < 2 * power w
+pub digit-top : (j w s : ℕ) → power w ≡ 2 ^ j → power w ≤ w → w < 2 * power w
     → (w / 2 ^ j ≡ 1) × (record { start = s; width = power w } ≡ digitRange s w j)
 digit-top j w s q l u =
     let z : w ≡ 1 * 2 ^ j + (w - 2 ^ j) = omega arith in

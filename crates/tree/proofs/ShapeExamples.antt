@@ -1,13 +1,18 @@
 -- Small trees written out: how the walk goes, which bytes are hashed in which order. antt computes each one; SHA-256 stays shut.
 use mathlib.Core.Path.{_≡_, refl}
-use mathlib.Core.List.{[], _∷_, _++_}
-use Prim.Native.Nat.{ℕ}
+use mathlib.Core.List.{[], _∷_, _++_, map}
+use mathlib.Core.Option.{bind}
+use Prim.Native.Nat.{ℕ, _-_, _^_}
 use Rattle.lists.specs.Lists.{Bytes}
 use Rattle.lists.proofs.Computing.{list-definitions}
 use Rattle.hash.specs.Bytes.{bigEndian}
 use Rattle.hash.specs.Sha256.{sha256}
-use Rattle.tree.specs.SearchTree.{frontier}
-use Rattle.tree.specs.LogTree.{Range, retained, given, shown, parent, walkOf, Known, value, fullValues, walkStrings}
+use Rattle.lines.proofs.Computing.{line-definitions}
+use Rattle.tree.specs.Ladder.{ladderWithin}
+use Rattle.tree.specs.SearchTree.{frontier, frontierAndPaths, nextFrom}
+use Rattle.tree.specs.LogTree.{LogEntry, Range, retained, given, shown, parent, walkOf, Known, zeros, value, fullValues, walkStrings}
+use Rattle.tree.specs.LogText.{entryIn, entriesAt}
+use Rattle.tree.specs.LogHead.{knownIn, nodesAsked}
 use Rattle.tree.specs.PrefixTree.{bits, valueAbove, stringsAbove}
 use Rattle.tree.proofs.Computing.{tree-definitions}
 
@@ -67,3 +72,42 @@ two-siblings a b v = refl
 pub two-siblings-strings : (a b v : Bytes) → stringsAbove (1 ∷ 0 ∷ 1 ∷ []) (a ∷ b ∷ []) v ≡ (0x02 ∷ a ++ sha256 (0x02 ∷ v ++ b)) ∷ (0x02 ∷ v ++ b) ∷ []
 unfolding list-definitions tree-definitions
 two-siblings-strings a b v = refl
+
+-- ---- positions asked, and what stands in a text
+
+-- the frontier of 14 with the right paths of 4 and 8: each entry once, rising
+pub asked-of-14 : frontierAndPaths 14 (4 ∷ 8 ∷ []) ≡ 5 ∷ 7 ∷ 9 ∷ 11 ∷ 13 ∷ []
+unfolding list-definitions tree-definitions
+asked-of-14 = refl
+
+-- the next of them from an entry on, itself or a later one, and 14 where none is left
+pub next-of-14 : map (nextFrom 14 (frontierAndPaths 14 (4 ∷ 8 ∷ []))) (0 ∷ 7 ∷ 8 ∷ 14 ∷ []) ≡ 5 ∷ 7 ∷ 9 ∷ 14 ∷ []
+unfolding list-definitions tree-definitions
+next-of-14 = refl
+
+-- 2 ^ 32 - 2 is the last version that has a ladder within 32 bits
+pub ladder-beyond : ladderWithin (2 ^ 32 - 1) ≡ []
+unfolding list-definitions tree-definitions
+ladder-beyond = refl
+
+-- the positions 7, 11 and 13, each before a tab
+abbrev frontier-text : Bytes
+frontier-text = 0x37 ∷ 0x09 ∷ 0x31 ∷ 0x31 ∷ 0x09 ∷ 0x31 ∷ 0x33 ∷ 0x09 ∷ []
+
+-- fields that are there are read; a time that does not read is 0, and a value that does not is zeros
+pub entry-in-text : map (λ (e : LogEntry). e .position) (entriesAt frontier-text (0 ∷ 2 ∷ 5 ∷ 8 ∷ [])) ≡ 7 ∷ 11 ∷ 13 ∷ 0 ∷ []
+unfolding list-definitions line-definitions tree-definitions
+entry-in-text = refl
+
+pub time-in-text : entryIn frontier-text ≡ record { position = 7; time = 11; prefixRoot = zeros }
+unfolding list-definitions line-definitions tree-definitions bind
+time-in-text = refl
+
+-- nodes for the frontier of 14 at m = 0 and at m = 10; none where there is no walk: more kept than there is, no entries, positions that do not rise
+pub nodes-of-14 : map (λ (m : ℕ). nodesAsked 14 (knownIn frontier-text (0 ∷ 2 ∷ 5 ∷ []) m [])) (0 ∷ 10 ∷ 15 ∷ []) ≡ 6 ∷ 5 ∷ 0 ∷ []
+unfolding list-definitions line-definitions tree-definitions
+nodes-of-14 = refl
+
+pub no-walk : nodesAsked 0 (knownIn frontier-text [] 0 []) ∷ nodesAsked 14 (knownIn frontier-text (2 ∷ 0 ∷ []) 0 []) ∷ [] ≡ 0 ∷ 0 ∷ []
+unfolding list-definitions line-definitions tree-definitions
+no-walk = refl

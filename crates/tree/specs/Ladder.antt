@@ -2,7 +2,7 @@
 -- modules, the first number bounds the number of steps (laws call it fuel); it is enough wherever the definition is used.
 use mathlib.Core.Bool.{cond}
 use mathlib.Core.List.{List, [], _∷_}
-use Prim.Native.Nat.{ℕ, zero, suc, _+_, _*_, _/_}
+use Prim.Native.Nat.{ℕ, zero, suc, _+_, _-_, _*_, _/_, _^_}
 use lib.Dec.{leb, ltb}
 use Rattle.lists.specs.Choice.{choose}
 
@@ -21,3 +21,11 @@ climb (suc k) t lo v = v ∷ choose (ltb t v) (λ _. halve v t lo v) (λ _. clim
 -- the ladder of t: climbing from 0, then halving
 unfoldable pub ladder : ℕ → List ℕ
 ladder t = climb (t + 2) t 0 0
+
+-- the ladders whose versions are all numbers of 32 bits: those of the versions up to 2 ^ 32 - 2 (paper 01, What a call is given)
+unfoldable pub ladderWithin : ℕ → List ℕ
+ladderWithin t = choose (ltb t (2 ^ 32 - 1)) (λ _. ladder t) (λ _. [])
+
+-- the most versions that such a ladder has
+abbrev pub ladderCapacity : ℕ
+ladderCapacity = 64

@@ -1,5 +1,10 @@
 pub mod Ladder
 pub mod SearchTree
 pub mod LogTree
+pub mod LogText
+pub mod LogHead
+pub mod LogWalk
 pub mod PrefixTree
+pub mod Lookups
+pub mod Collisions
 pub mod Examples

@@ -1,10 +1,11 @@
 -- The search tree over the entries of a log (paper 01, Trees; 004, 4.3.1, with start 0): its root, the steps left and right, the frontier and the right paths.
 use mathlib.Core.List.{List, [], _∷_, reverse}
+use mathlib.Core.Option.{Option·getD}
 use Prim.Native.Nat.{ℕ, zero, suc, _+_, _-_, _*_, _/_, _%_, _^_}
 use lib.Bits.{bitXor}
-use lib.Dec.{eqb, ltb}
+use lib.Dec.{eqb, leb, ltb}
 use Rattle.lists.specs.Choice.{choose}
-use Rattle.lists.specs.Lists.{select}
+use Rattle.lists.specs.Lists.{select, first, insertAll}
 
 -- ---- powers of two
 
@@ -57,6 +58,10 @@ rightward (suc k) n x = x ∷ choose (ltb (x + 1) n) (λ _. rightward k n (right
 unfoldable pub frontier : ℕ → List ℕ
 frontier n = rightward n n (root n)
 
+-- the most entries that the frontier of a log of fewer than 2 ^ 64 entries has
+abbrev pub frontierCapacity : ℕ
+frontierCapacity = 64
+
 unfoldable pub downTo : ℕ → ℕ → ℕ → ℕ → List ℕ
 downTo zero n p x = []
 downTo (suc k) n p x = choose (eqb x p) (λ _. []) (λ _. x ∷ downTo k n p (choose (ltb p x) (λ _. left n x) (λ _. right n x)))
@@ -68,3 +73,14 @@ directPath n p = choose (ltb p n) (λ _. downTo n n p (root n)) (λ _. [])
 -- the right path of p: its ancestors above p, rising
 unfoldable pub rightAncestors : ℕ → ℕ → List ℕ
 rightAncestors n p = reverse (select (λ (x : ℕ). ltb p x) (directPath n p))
+
+-- ---- entries together
+
+-- the frontier and the right paths of some entries, rising, each once
+unfoldable pub frontierAndPaths : ℕ → List ℕ → List ℕ
+frontierAndPaths n [] = frontier n
+frontierAndPaths n (p ∷ ps) = insertAll (rightAncestors n p) (frontierAndPaths n ps)
+
+-- the next of some entries from x on, or n where none is left
+unfoldable pub nextFrom : ℕ → List ℕ → ℕ → ℕ
+nextFrom n entries x = Option·getD (first (λ (a : ℕ). leb x a) entries) n

@@ -1,0 +1,129 @@
+-- Facts that hold unless SHA-256 is broken (specs/Collisions.antt): each law gives its fact or what breaks SHA-256 among the strings of a list.
+use mathlib.Core.Path.{_≡_, refl, sym, ap, _∙_, subst}
+use mathlib.Core.Logic.{_⊎_, inl, inr}
+use mathlib.Core.Bool.{Bool, true, false}
+use mathlib.Core.List.{List, [], _∷_, _++_, List·Memᴰ, List·Memᴰ·head, List·Memᴰ·tail, List·Memᴰ·cases-cons, List·Memᴰ·not-nil, List·Memᴰ·append-cases}
+use Prim.Native.Nat.{ℕ, zero, suc}
+use native.Mathlib.Omega.{arith}
+use lib.ListN.{length, take, drop, replicate}
+use lib.Seq.{take-at, drop-at, drop-append-seam}
+use Rattle.lists.specs.Lists.{Bytes, same}
+use Rattle.lists.proofs.ListLaws.{same-true, same-false}
+use Rattle.hash.specs.Bytes.{AreBytes}
+use Rattle.hash.specs.Sha256.{digestLength, sha256}
+use Rattle.tree.specs.LogTree.{zeros}
+use Rattle.tree.specs.Collisions.{Broken}
+
+-- ---- a fact or a way out
+
+infixl 10 _>>=_
+-- A fact, or a way out: what follows from the fact, or the same way out. For `do` blocks.
+pub _>>=_ : {A B C : Type 0} → A ⊎ C → (A → B ⊎ C) → B ⊎ C
+_>>=_ (inl a) f = f a
+_>>=_ (inr c) f = inr c
+
+-- A way out that leads to another one may be exchanged for it.
+pub map-out : {A C D : Type 0} → (C → D) → A ⊎ C → A ⊎ D
+map-out f (inl a) = inl a
+map-out f (inr c) = inr (f c)
+
+-- A fact or a way out, where the fact leads to the way out too: the way out.
+pub settled : {A C : Type 0} → A ⊎ C → (A → C) → C
+settled (inl a) f = f a
+settled (inr c) f = c
+
+-- A fact of each member of a list, or a way out: it is a fact of all members, or there is a way out.
+pub all-or : {A B : Type 0} (P : A → Type 0) (l : List A) → ((x : A) → List·Memᴰ x l → P x ⊎ B) → ((x : A) → List·Memᴰ x l → P x) ⊎ B
+all-or P [] f = inl (λ x m. absurd (List·Memᴰ·not-nil m))
+all-or {A = A} P (y ∷ l) f = do
+  h ← f y (List·Memᴰ·head refl)
+  t ← all-or P l (λ x m. f x (List·Memᴰ·tail m))
+  inl (λ x m. go x h t (List·Memᴰ·cases-cons m))
+  where
+    go : (x : A) → P y → ((z : A) → List·Memᴰ z l → P z) → (x ≡ y) ⊎ List·Memᴰ x l → P x
+    go x h t (inl e) = subst P (sym e) h
+    go x h t (inr m) = t x m
+
+-- ---- joined lists
+
+-- After a common front the rests of equal lists are equal.
+pub append-cancel : {A : Type 0} (p x y : List A) → p ++ x ≡ p ++ y → x ≡ y
+append-cancel p x y e = sym (drop-append-seam p x) ∙ ap (drop (length p)) e ∙ drop-append-seam p y
+
+-- Two equal joined lists whose fronts have one length have equal fronts and equal rests.
+pub append-split : {A : Type 0} (l l′ r r′ : List A) → length l ≡ length l′ → l ++ r ≡ l′ ++ r′ → (l ≡ l′) × (r ≡ r′)
+append-split l l′ r r′ h e =
+    (sym (take-at l r (length l′) h) ∙ ap (take (length l′)) e ∙ take-at l′ r′ (length l′) refl, sym (drop-at l r (length l′) h) ∙ ap (drop (length l′)) e ∙ drop-at l′ r′ (length l′) refl)
+
+-- ---- lists of strings
+
+-- every value of a list has as many bytes as a digest
+abbrev pub Sized : List Bytes → Type 0
+Sized ss = (s : Bytes) → List·Memᴰ s ss → length s ≡ digestLength
+
+-- every string of a list is a byte string
+abbrev pub ByteStrings : List Bytes → Type 0
+ByteStrings S = (x : Bytes) → List·Memᴰ x S → AreBytes x
+
+-- Zeros are bytes.
+pub bytes-zeros : (n : ℕ) → AreBytes (replicate n 0)
+bytes-zeros zero = tt
+bytes-zeros (suc n) = (omega arith, bytes-zeros n)
+
+-- Of no strings all are byte strings.
+pub nil-bytes : ByteStrings []
+nil-bytes x m = absurd (List·Memᴰ·not-nil m)
+
+-- A byte string before byte strings.
+pub cons-bytes : (s : Bytes) (S : List Bytes) → AreBytes s → ByteStrings S → ByteStrings (s ∷ S)
+cons-bytes s S h f x m = go (List·Memᴰ·cases-cons m)
+  where
+    go : (x ≡ s) ⊎ List·Memᴰ x S → AreBytes x
+    go (inl e) = subst AreBytes (sym e) h
+    go (inr n) = f x n
+
+-- Byte strings before byte strings.
+pub append-bytes : (S T : List Bytes) → ByteStrings S → ByteStrings T → ByteStrings (S ++ T)
+append-bytes S T f g x m = go (List·Memᴰ·append-cases S m)
+  where
+    go : List·Memᴰ x S ⊎ List·Memᴰ x T → AreBytes x
+    go (inl n) = f x n
+    go (inr n) = g x n
+
+-- every string of the first list is one of the second
+abbrev pub Within : List Bytes → List Bytes → Type 0
+Within S T = (x : Bytes) → List·Memᴰ x S → List·Memᴰ x T
+
+-- What breaks SHA-256 among the strings of a list does so among those of a list that has them all.
+pub broken-within : (S T : List Bytes) → Within S T → Broken S → Broken T
+broken-within S T f (inl c) =
+    inl
+    (record {
+      x = c .x;
+      y = c .y;
+      x-listed = f (c .x) (c .x-listed);
+      y-listed = f (c .y) (c .y-listed);
+      x-bytes = c .x-bytes;
+      y-bytes = c .y-bytes;
+      different = c .different;
+      equal = c .equal;
+    })
+broken-within S T f (inr z) = inr (record { x = z .x; x-listed = f (z .x) (z .x-listed); x-bytes = z .x-bytes; zero-digest = z .zero-digest })
+
+module _ (S : List Bytes) (bytes : ByteStrings S) where
+  -- Two different strings of a list with one SHA-256 value break it.
+  pub colliding : (x y : Bytes) → List·Memᴰ x S → List·Memᴰ y S → (x ≡ y → ⊥) → sha256 x ≡ sha256 y → Broken S
+  colliding x y hx hy n e =
+      inl (record { x = x; y = y; x-listed = hx; y-listed = hy; x-bytes = bytes x hx; y-bytes = bytes y hy; different = n; equal = e })
+
+  -- A string of a list whose SHA-256 value is that of an empty place breaks it.
+  pub zero-valued : (x : Bytes) → List·Memᴰ x S → sha256 x ≡ zeros → Broken S
+  zero-valued x hx e = inr (record { x = x; x-listed = hx; x-bytes = bytes x hx; zero-digest = e })
+
+  -- Two strings of a list with one SHA-256 value are equal.
+  pub same-string : (x y : Bytes) → List·Memᴰ x S → List·Memᴰ y S → sha256 x ≡ sha256 y → (x ≡ y) ⊎ Broken S
+  same-string x y hx hy e = go (same x y) refl
+    where
+      go : (t : Bool) → same x y ≡ t → (x ≡ y) ⊎ Broken S
+      go true q = inl (same-true x y q)
+      go false q = inr (colliding x y hx hy (same-false x y q) e)

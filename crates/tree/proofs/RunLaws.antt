@@ -1,0 +1,80 @@
+-- Laws of runs of elements (lists, specs/Lists.antt), and of a run copied out of a string.
+use mathlib.Core.Path.{_≡_, refl, sym, _∙_, ap, ap₂}
+use mathlib.Core.List.{List, [], _∷_, map, flatMap, List·Memᴰ, List·Memᴰ·head, List·Memᴰ·tail}
+use Prim.Native.Nat.{ℕ, zero, suc, _+_, _*_, _≤_, _<_}
+use native.Mathlib.Numerals.{add-one}
+use native.Mathlib.Omega.{arith}
+use lib.ListN.{length, take, drop, getD, set, length-append, length-drop, length-map, List·getD-map, List·getD-eq-default}
+use lib.Seq.{take-nil, take-suc, take-suc-set, take-at, drop-at, drop-drop, getD-drop}
+use Rattle.lists.specs.Lists.{runs}
+
+-- within a list it does not matter what stands beyond its end
+getD-any : {A : Type 0} (l : List A) (i : ℕ) (d e : A) → i < length l → getD l i d ≡ getD l i e
+getD-any [] i d e h = absurd (omega arith)
+getD-any (x ∷ l) zero d e h = refl
+getD-any (x ∷ l) (suc i) d e h = getD-any l i d e (omega arith)
+
+module _ {A : Type 0} where
+  -- there are as many runs as are asked for
+  pub length-runs : (n k : ℕ) (s : List A) → length (runs n k s) ≡ n
+  unfolding runs
+  length-runs zero k s = refl
+  length-runs (suc n) k s = ap suc (length-runs n k (drop k s))
+
+  -- the runs without the first
+  pub runs-rest : (n k : ℕ) (s : List A) → drop 1 (runs (suc n) k s) ≡ runs n k (drop k s)
+  unfolding runs
+  runs-rest n k s = refl
+
+  -- the run of a number below theirs
+  pub runs-at : (n k : ℕ) (s : List A) (i : ℕ) (d : List A) → i < n → getD (runs n k s) i d ≡ take k (drop (k * i) s)
+  unfolding runs
+  runs-at zero k s i d h = absurd (omega arith)
+  runs-at (suc n) k s zero d h = let e : k * 0 ≡ 0 = omega arith in rw e refl
+  runs-at (suc n) k s (suc i) d h =
+      let e : k * suc i ≡ k + k * i = omega arith in
+      runs-at n k (drop k s) i d (omega arith) ∙ ap (take k) (drop-drop (k * i) k s ∙ ap (λ (m : ℕ). drop m s) (sym e))
+
+  -- and the value of a function at it
+  pub mapped-run : {B : Type 0} (f : List A → B) (n k : ℕ) (s : List A) (i : ℕ) (d : B) → i < n → getD (map f (runs n k s)) i d ≡ f (take k (drop (k * i) s))
+  mapped-run f n k s i d h =
+      let l : i < length (map f (runs n k s)) = omega (arith, length-map (runs n k s) f, length-runs n k s) in
+      getD-any (map f (runs n k s)) i d (f []) l ∙ List·getD-map f (runs n k s) i [] ∙ ap f (runs-at n k s i [] h)
+
+  -- there is none beyond them
+  pub mapped-none : {B : Type 0} (f : List A → B) (n k : ℕ) (s : List A) (i : ℕ) (d : B) → n ≤ i → getD (map f (runs n k s)) i d ≡ d
+  mapped-none f n k s i d h =
+      List·getD-eq-default (map f (runs n k s)) d {n = i} (omega (arith, length-map (runs n k s) f, length-runs n k s))
+
+  -- texts of k elements each, one after the other, are k times as long as there are texts
+  pub length-texts : {B : Type 0} (k : ℕ) (text : B → List A) (xs : List B) → ((b : B) → List·Memᴰ b xs → length (text b) ≡ k)
+      → length (flatMap text xs) ≡ k * length xs
+  unfolding flatMap
+  length-texts k text [] h = omega arith
+  length-texts k text (x ∷ xs) h =
+      let i = length-texts k text xs (λ b m. h b (List·Memᴰ·tail m)) in
+      let j = h x (List·Memᴰ·head refl) in
+      omega (arith, length-append (text x) (flatMap text xs))
+
+  -- and they are the runs of what they join to
+  pub runs-texts : {B : Type 0} (k : ℕ) (text : B → List A) (xs : List B) → ((b : B) → List·Memᴰ b xs → length (text b) ≡ k)
+      → runs (length xs) k (flatMap text xs) ≡ map text xs
+  unfolding runs flatMap
+  runs-texts k text [] h = refl
+  runs-texts k text (x ∷ xs) h =
+      let j = h x (List·Memᴰ·head refl) in
+      let i = runs-texts k text xs (λ b m. h b (List·Memᴰ·tail m)) in
+      ap₂ _∷_ (take-at (text x) (flatMap text xs) k j) (ap (runs (length xs) k) (drop-at (text x) (flatMap text xs) k j) ∙ i)
+
+  -- the first elements of what stands a little into a string are those of its front
+  pub drop-take : (m n : ℕ) (s : List A) → drop m (take (m + n) s) ≡ take n (drop m s)
+  drop-take zero n s = let e : 0 + n ≡ n = omega arith in rw e refl
+  drop-take (suc m) n [] = rw (take-nil {A = A} (suc m + n), take-nil {A = A} n) refl
+  drop-take (suc m) n (x ∷ s) = let e : suc m + n ≡ suc (m + n) = omega arith in rw e (drop-take m n s)
+
+-- one element more of a run that is copied
+pub copied-step : (r s : List ℕ) (n k : ℕ) → k < length r → n + k < length s → take k r ≡ take k (drop n s)
+    → take (k + 1) (set r k (getD s (n + k) 0)) ≡ take (k + 1) (drop n s)
+copied-step r s n k h l e =
+    let j : k < length (drop n s) = omega (arith, length-drop n s) in
+    rw (add-one k, take-suc-set r k (getD s (n + k) 0) h, take-suc (drop n s) k 0 j, getD-drop n s k 0, e) refl

@@ -1,0 +1,52 @@
+-- Log entries and values where they stand in a text (paper 01, Response lines). Of lines that keep the rules these are the entries, nodes and siblings that the
+-- lines say; of other bytes they are some entry and some values, so that whoever reads them there has nothing to check first.
+use mathlib.Core.List.{List, map}
+use mathlib.Core.Option.{Option·getD}
+use Prim.Native.Nat.{ℕ, _+_, _-_, _*_, _/_, _^_}
+use lib.ListN.{length, take, drop}
+use Rattle.lists.specs.Lists.{Bytes, runs}
+use Rattle.hash.specs.Sha256.{digestLength}
+use Rattle.lines.specs.Number.{readNumber}
+use Rattle.lines.specs.Field.{exactly, readField}
+use Rattle.lines.specs.Line.{tab, before, after}
+use Rattle.tree.specs.LogTree.{LogEntry, zeros}
+
+-- the number of 64 bits that a field spells, or 0
+unfoldable pub numberIn : Bytes → ℕ
+numberIn s = Option·getD (readNumber (2 ^ 64 - 1) s) 0
+
+-- the value that a field spells, or zeros
+unfoldable pub valueIn : Bytes → Bytes
+valueIn s = Option·getD (readField (exactly digestLength) s) zeros
+
+-- the digits of a value
+abbrev pub valueDigits : ℕ
+valueDigits = 2 * digestLength
+
+-- siblings: values with their digits joined
+unfoldable pub valuesIn : Bytes → List Bytes
+valuesIn s = map valueIn (runs (length s / valueDigits) valueDigits s)
+
+-- the entry whose position, time and prefix root stand at the front of s, parted by tabs
+unfoldable pub entryIn : Bytes → LogEntry
+entryIn s =
+    record {
+      position = numberIn (before tab s);
+      time = numberIn (before tab (after tab s));
+      prefixRoot = valueIn (take valueDigits (after tab (after tab s)));
+    }
+
+-- the entries at some places of a text
+unfoldable pub entriesAt : Bytes → List ℕ → List LogEntry
+entriesAt text places = map (λ (p : ℕ). entryIn (drop p text)) places
+
+-- a node line: its word and a tab, the digits, the newline
+abbrev pub nodeWord : ℕ
+nodeWord = 5
+
+abbrev pub nodeLine : ℕ
+nodeLine = nodeWord + valueDigits + 1
+
+-- the values of the node lines that follow each other in s
+unfoldable pub nodesIn : Bytes → List Bytes
+nodesIn s = map (λ (l : Bytes). valueIn (take valueDigits (drop nodeWord l))) (runs (length s / nodeLine) nodeLine s)

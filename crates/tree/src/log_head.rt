@@ -1,0 +1,120 @@
+// The head of a log (paper 01, Trees).
+ghost use mathlib.Core.Path.{_≡_};
+ghost use mathlib.Core.List.{[]};
+ghost use Rattle.tree.specs.LogText.{entriesAt, nodesIn};
+ghost use Rattle.tree.specs.LogHead.{positions, knownIn, isWalkable, logHead, nodesAsked};
+ghost use Rattle.tree.specs.LogWalk.{risingBelow};
+use crate::log_text::position_at;
+use crate::log_tree::Cursor;
+use crate::log_tree::spine;
+use crate::log_tree::spine_end;
+
+// Its root, the values of its full subtrees, left to right and zeros after them, and whether the kept values were met.
+pub struct LogHead {
+    pub root: [u8; 32],
+    pub values: [u8; LogHead::BLOCK],
+    pub met: bool,
+}
+
+impl LogHead {
+    // The levels of the largest log, and so the most full subtrees that a log has.
+    pub const LEVELS: u32 = 40;
+
+    // The entries of the largest log.
+    pub const LARGEST_SIZE: u64 = 1 << LogHead::LEVELS;
+
+    // The bytes of as many values.
+    pub const BLOCK: usize = 32 * LogHead::LEVELS as usize;
+}
+
+// Whether the shown positions rise and are below size.
+fn rising_below(text: &[u8], places: &[u32], size: u64) -> bool
+    ensures { λ r. ⌜ r ≡ risingBelow size (positions (entriesAt (now (text .entry)) (now (places .entry)))) ⌝ }
+{
+    let mut least: u64 = 0;
+    let mut i: usize = 0;
+    while i < places.len() {
+        let position = position_at(text, places[i]);
+        if position < least {
+            return false;
+        }
+        if size <= position {
+            return false;
+        }
+        least = position + 1;
+        i += 1;
+    }
+    true
+}
+
+// Whether there is a walk over size entries: the log is not empty, nor too large, nor smaller than the kept one, and the shown
+// entries rise and are in it.
+fn walkable(text: &[u8], places: &[u32], size: u64, kept_size: u64) -> bool
+    ensures { λ r. ⌜ r ≡ isWalkable size (knownIn (now (text .entry)) (now (places .entry)) «kept_size» []) ⌝ }
+{
+    if size == 0 {
+        return false;
+    }
+    if LogHead::LARGEST_SIZE < size {
+        return false;
+    }
+    if size < kept_size {
+        return false;
+    }
+    rising_below(text, places, size)
+}
+
+// The head of a log of size entries, of which those at some places of a text are shown: kept are the values of the full subtrees
+// of its first kept_size entries, and the node lines give the other values.
+pub fn log_head(
+    text: &[u8],
+    places: &[u32],
+    nodes: &[u8],
+    size: u64,
+    kept_size: u64,
+    kept: &[u8; LogHead::BLOCK],
+) -> LogHead
+    ensures { λ r. ⌜ r ≡ logHead size (knownIn (now (text .entry)) (now (places .entry)) «kept_size» (now (kept .entry))) (nodesIn (now (nodes .entry))) ⌝ }
+{
+    let mut values = [0u8; LogHead::BLOCK];
+    if walkable(text, places, size, kept_size) {
+        let cursor = Cursor::at(text, places, 0, 0);
+        let top = spine(
+            text,
+            places,
+            nodes,
+            kept_size,
+            kept,
+            size,
+            0,
+            cursor,
+            &mut values,
+            0,
+        );
+        let root = top.value;
+        LogHead {
+            root,
+            values,
+            met: top.met,
+        }
+    } else {
+        let root = [0u8; 32];
+        LogHead {
+            root,
+            values,
+            met: false,
+        }
+    }
+}
+
+// The number of nodes that the walk takes; 0 where there is no walk.
+pub fn nodes_asked(text: &[u8], places: &[u32], size: u64, kept_size: u64) -> u64
+    ensures { λ r. ⌜ r ≡ nodesAsked size (knownIn (now (text .entry)) (now (places .entry)) «kept_size» []) ⌝ }
+{
+    if walkable(text, places, size, kept_size) {
+        let cursor = Cursor::at(text, places, 0, 0);
+        let end = spine_end(text, places, kept_size, size, 0, cursor);
+        return end.node as u64;
+    }
+    0
+}

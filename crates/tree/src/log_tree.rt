@@ -1,0 +1,414 @@
+// The walk over the log tree (paper 01, Trees): from the root down, by subtrees whose width falls at each call.
+ghost use mathlib.Core.Path.{_≡_};
+ghost use mathlib.Core.Bool.{true, false, _&&_, cond};
+ghost use mathlib.Core.List.{[]};
+ghost use Prim.Native.Nat.{_+_, _-_, _*_, _<_, _≤_, _^_};
+ghost use lib.Count.{ones};
+ghost use lib.Dec.{ltb, eqb};
+ghost use lib.ListN.{length};
+ghost use Rattle.lists.specs.Lists.{same};
+ghost use Rattle.hash.specs.Sha256.{digestLength};
+ghost use Rattle.tree.specs.LogTree.{isFull, keptValue, agrees, shown};
+ghost use Rattle.tree.specs.LogText.{entriesAt, nodesIn};
+ghost use Rattle.tree.specs.LogHead.{levelLimit, blockLength, positions, knownIn};
+ghost use Rattle.tree.specs.LogWalk.{range, cursorAt, pastNode, Ready, Whole, Halves, StepFacts, Tail, EdgeFacts, walkedBy, endOn, walkedOn, nodeNext, parentBy, comparedBy, Filled, valuesFrom};
+use crate::log_text::leaf_at;
+use crate::log_text::node_at;
+use crate::log_text::position_at;
+use crate::log_text::stored_at;
+use crate::search_tree::power;
+use hash::strings::digest_66;
+
+// The bytes of a value.
+const VALUE: usize = 32;
+
+// Where the walk stands: how many shown entries and nodes are passed, and the position of the next shown entry.
+pub struct Cursor {
+    pub shown: usize,
+    pub position: u64,
+    pub node: usize,
+}
+
+impl Cursor {
+    // The position where no shown entry is left.
+    pub const NONE: u64 = u64::MAX;
+
+    // So many shown entries and so many nodes passed.
+    pub(crate) fn at(text: &[u8], places: &[u32], shown: usize, node: usize) -> Cursor
+        ensures { λ r. ⌜ r ≡ cursorAt (positions (entriesAt (now (text .entry)) (now (places .entry)))) shown node ⌝ }
+    {
+        if shown < places.len() {
+            let position = position_at(text, places[shown]);
+            return Cursor {
+                shown,
+                position,
+                node,
+            };
+        }
+        Cursor {
+            shown,
+            position: Cursor::NONE,
+            node,
+        }
+    }
+
+    // One node more passed.
+    fn past_node(self) -> Cursor
+        requires { ⌜ self .node ≤ 2 ^ levelLimit ⌝ }
+        ensures { λ r. ⌜ r ≡ pastNode self ⌝ }
+    {
+        Cursor {
+            shown: self.shown,
+            position: self.position,
+            node: self.node + 1,
+        }
+    }
+}
+
+// How a subtree is worked out: its value is kept, or is the next node; it is a shown entry, or has two halves.
+pub enum Step {
+    Retained,
+    Given,
+    Shown,
+    Parent,
+}
+
+// Whether a whole block is a full subtree of size entries: the last one of its width, and the left one of its pair.
+fn is_full(size: u64, start: u64, width: u64) -> bool
+    requires { ⌜ Whole start width ⌝ }
+    ensures { λ r. ⌜ r ≡ isFull size (range start width) ⌝ }
+{
+    let number = start / width;
+    if size / width == number + 1 {
+        number % 2 == 0
+    } else {
+        false
+    }
+}
+
+// The step at a whole block, where the next shown entry has a position.
+fn step_at(size: u64, start: u64, width: u64, position: u64) -> Step
+    requires { ⌜ Whole start width ⌝ }
+    ensures { λ r. ⌜ StepFacts (ltb position (start + width)) size (range start width) r ⌝ }
+{
+    let end = start + width;
+    if position < end {
+        return if width == 1 {
+            Step::Shown
+        } else {
+            Step::Parent
+        };
+    }
+    if is_full(size, start, width) {
+        return Step::Retained;
+    }
+    if size <= start {
+        return Step::Given;
+    }
+    if end <= size {
+        Step::Given
+    } else {
+        Step::Parent
+    }
+}
+
+// What the walk over a subtree yields: its value, where the walk then stands, and whether the kept values were met.
+pub struct Walked {
+    pub value: [u8; 32],
+    pub cursor: Cursor,
+    pub met: bool,
+}
+
+// Whether two values are the same.
+fn same_value(a: [u8; 32], b: [u8; 32]) -> bool
+    ensures { λ r. ⌜ r ≡ same a b ⌝ }
+{
+    let mut i: usize = 0;
+    while i < VALUE {
+        if a[i] != b[i] {
+            return false;
+        }
+        i += 1;
+    }
+    true
+}
+
+// The kept value of a full subtree: before it stand those of wider ones.
+fn kept_value(size: u64, kept: &[u8], start: u64, width: u64) -> [u8; 32]
+    requires { ⌜ Whole start width × (isFull size (range start width) ≡ true) ⌝ }
+    requires { ⌜ (size ≤ 2 ^ levelLimit) × (length (now kept) ≡ blockLength) ⌝ }
+    ensures { λ r. ⌜ r ≡ keptValue (knownIn [] [] size (now (kept .entry))) (range start width) ⌝ }
+{
+    stored_at(kept, u64::count_ones(size / (2 * width)) as usize)
+}
+
+// Whether a value that was worked out is the one that is kept, if one is.
+fn is_met(size: u64, kept: &[u8], start: u64, width: u64, value: [u8; 32]) -> bool
+    requires { ⌜ Whole start width × (size ≤ 2 ^ levelLimit) × (length (now kept) ≡ blockLength) ⌝ }
+    ensures { λ r. ⌜ r ≡ agrees (knownIn [] [] size (now (kept .entry))) (range start width) value ⌝ }
+{
+    if is_full(size, start, width) {
+        let v = kept_value(size, kept, start, width);
+        return same_value(value, v);
+    }
+    true
+}
+
+// The next node.
+fn next_node(nodes: &[u8], cursor: Cursor) -> Walked
+    requires { ⌜ cursor .node ≤ 2 ^ levelLimit ⌝ }
+    ensures { λ r. ⌜ r ≡ nodeNext (nodesIn (now (nodes .entry))) cursor ⌝ }
+{
+    let value = node_at(nodes, cursor.node);
+    Walked {
+        value,
+        cursor: cursor.past_node(),
+        met: true,
+    }
+}
+
+// A shown entry, which the cursor is at.
+fn shown_entry(
+    text: &[u8],
+    places: &[u32],
+    size: u64,
+    kept: &[u8],
+    start: u64,
+    cursor: Cursor,
+) -> Walked
+    requires { ⌜ Ready (positions (entriesAt (now text) (now places))) size start cursor × (start < 2 ^ levelLimit) × (cursor .position < start + 1) × (length (now kept) ≡ blockLength) ⌝ }
+    ensures { λ r. ⌜ r ≡ walkedBy (knownIn (now (text .entry)) (now (places .entry)) size (now (kept .entry))) [] (start + 1) (cursor .node) (shown start) ⌝ }
+{
+    let i = cursor.shown;
+    let value = leaf_at(text, places[i]);
+    let met = is_met(size, kept, start, 1, value);
+    let next = Cursor::at(text, places, i + 1, cursor.node);
+    Walked {
+        value,
+        cursor: next,
+        met,
+    }
+}
+
+// The byte before a child's value in its parent's string: 0x00 where the child is a leaf, 0x01 where it is a parent (001, 10.8).
+fn content_mark(width: u64) -> u8
+    ensures { λ r. ⌜ r ≡ cond (eqb width 1) 0 1 ⌝ }
+{
+    if width == 1 { 0x00 } else { 0x01 }
+}
+
+fn both(a: bool, b: bool) -> bool
+    ensures { λ r. ⌜ r ≡ (a && b) ⌝ }
+{
+    if a { b } else { false }
+}
+
+// Whether the value of a parent is the one that is kept, if one is: only of a whole block, whose halves are equal, a value is kept.
+fn is_parent_met(size: u64, kept: &[u8], start: u64, half: u64, rest: u64, value: [u8; 32]) -> bool
+    requires { ⌜ Halves size start half rest × (size ≤ 2 ^ levelLimit) × (length (now kept) ≡ blockLength) ⌝ }
+    ensures { λ r. ⌜ r ≡ agrees (knownIn [] [] size (now (kept .entry))) (range start (half + rest)) value ⌝ }
+{
+    if rest == half {
+        return is_met(size, kept, start, half + rest, value);
+    }
+    true
+}
+
+// A parent, of its left child of half as many entries as a block and its right child of the rest, compared with its kept value, if there is one.
+fn joined(
+    size: u64,
+    kept: &[u8],
+    start: u64,
+    half: u64,
+    left: Walked,
+    rest: u64,
+    right: Walked,
+) -> Walked
+    requires { ⌜ Halves size start half rest × (size ≤ 2 ^ levelLimit) × (length (now kept) ≡ blockLength) ⌝ }
+    ensures { λ r. ⌜ r ≡ comparedBy (knownIn [] [] size (now (kept .entry))) (range start (half + rest)) (parentBy half left rest right) ⌝ }
+{
+    let l = left.value;
+    let r = right.value;
+    let value = digest_66(content_mark(half), l, content_mark(rest), r);
+    let met = is_parent_met(size, kept, start, half, rest, value);
+    let below = both(left.met, right.met);
+    let cursor = right.cursor;
+    Walked {
+        value,
+        cursor,
+        met: both(met, below),
+    }
+}
+
+// The walk over a whole block.
+fn subtree(
+    text: &[u8],
+    places: &[u32],
+    nodes: &[u8],
+    size: u64,
+    kept: &[u8],
+    start: u64,
+    width: u64,
+    cursor: Cursor,
+) -> Walked
+    requires { ⌜ Whole start width × Ready (positions (entriesAt (now text) (now places))) size start cursor × (length (now kept) ≡ blockLength) ⌝ }
+    ensures { λ r. ⌜ r ≡ walkedOn (knownIn (now (text .entry)) (now (places .entry)) size (now (kept .entry))) (nodesIn (now (nodes .entry))) (cursor .node) (range start width) ⌝ }
+{
+    match step_at(size, start, width, cursor.position) {
+        Step::Retained => {
+            let value = kept_value(size, kept, start, width);
+            Walked {
+                value,
+                cursor,
+                met: true,
+            }
+        }
+        Step::Given => next_node(nodes, cursor),
+        Step::Shown => shown_entry(text, places, size, kept, start, cursor),
+        Step::Parent => {
+            let half = width / 2;
+            let left = subtree(text, places, nodes, size, kept, start, half, cursor);
+            let middle = left.cursor;
+            let right = subtree(text, places, nodes, size, kept, start + half, half, middle);
+            joined(size, kept, start, half, left, half, right)
+        }
+    }
+}
+
+// The same walk for where it ends alone.
+fn subtree_end(
+    text: &[u8],
+    places: &[u32],
+    size: u64,
+    start: u64,
+    width: u64,
+    cursor: Cursor,
+) -> Cursor
+    requires { ⌜ Whole start width × Ready (positions (entriesAt (now text) (now places))) size start cursor ⌝ }
+    ensures { λ r. ⌜ r ≡ endOn (knownIn (now (text .entry)) (now (places .entry)) size []) (cursor .node) (range start width) ⌝ }
+{
+    let shown = cursor.shown;
+    let node = cursor.node;
+    match step_at(size, start, width, cursor.position) {
+        Step::Retained => cursor,
+        Step::Given => cursor.past_node(),
+        Step::Shown => Cursor::at(text, places, shown + 1, node),
+        Step::Parent => {
+            let half = width / 2;
+            let middle = subtree_end(text, places, size, start, half, cursor);
+            subtree_end(text, places, size, start + half, half, middle)
+        }
+    }
+}
+
+// What the entries from start on up to n are, which begin with a full subtree of so many as width: that alone, the next node,
+// or that and more, in two.
+pub enum Edge {
+    Block,
+    Node,
+    Cut,
+}
+
+// Which of these, where the next shown entry has a position.
+fn edge_at(size: u64, n: u64, start: u64, width: u64, position: u64) -> Edge
+    requires { ⌜ start + width ≤ n ⌝ }
+    ensures { λ r. ⌜ EdgeFacts size n start width position r ⌝ }
+{
+    if start + width == n {
+        return Edge::Block;
+    }
+    if position < n {
+        return Edge::Cut;
+    }
+    if size <= start { Edge::Node } else { Edge::Cut }
+}
+
+// Puts a value into a block of values.
+fn put_value(block: &mut [u8], i: usize, value: [u8; 32])
+    requires { ⌜ (length (now block) ≡ blockLength) × (i < levelLimit) ⌝ }
+    ensures { λ _. ⌜ (length value ≡ digestLength) × Filled i (now (block .entry)) (now (block .exit)) value ⌝ }
+{
+    let at = VALUE * i;
+    for j in 0..VALUE {
+        block[at + j] = value[j];
+    }
+}
+
+// The walk over the entries from start on up to n. The values of the full subtrees of n among them go into a block, behind so
+// many others.
+pub(crate) fn spine(
+    text: &[u8],
+    places: &[u32],
+    nodes: &[u8],
+    size: u64,
+    kept: &[u8],
+    n: u64,
+    start: u64,
+    cursor: Cursor,
+    block: &mut [u8],
+    count: usize,
+) -> Walked
+    requires { ⌜ Tail n start × Ready (positions (entriesAt (now text) (now places))) size start cursor × (size ≤ n) ⌝ }
+    requires { ⌜ (length (now kept) ≡ blockLength) × (length (now block) ≡ blockLength) × (count + ones (n - start) ≤ levelLimit) ⌝ }
+    ensures { λ r. ⌜ r ≡ walkedOn (knownIn (now (text .entry)) (now (places .entry)) size (now (kept .entry))) (nodesIn (now (nodes .entry))) (cursor .node) (range start (n - start)) ⌝ }
+    ensures { λ _. ⌜ Filled count (now (block .entry)) (now (block .exit)) (valuesFrom n (knownIn (now (text .entry)) (now (places .entry)) size (now (kept .entry))) (nodesIn (now (nodes .entry))) start (cursor .node)) ⌝ }
+{
+    let width = power(n - start);
+    match edge_at(size, n, start, width, cursor.position) {
+        Edge::Block => {
+            let whole = subtree(text, places, nodes, size, kept, start, width, cursor);
+            let value = whole.value;
+            put_value(block, count, value);
+            whole
+        }
+        Edge::Node => {
+            let given = next_node(nodes, cursor);
+            let value = given.value;
+            put_value(block, count, value);
+            given
+        }
+        Edge::Cut => {
+            let left = subtree(text, places, nodes, size, kept, start, width, cursor);
+            let value = left.value;
+            put_value(block, count, value);
+            let next = start + width;
+            let middle = left.cursor;
+            let right = spine(
+                text,
+                places,
+                nodes,
+                size,
+                kept,
+                n,
+                next,
+                middle,
+                block,
+                count + 1,
+            );
+            joined(size, kept, start, width, left, n - next, right)
+        }
+    }
+}
+
+// The same walk for where it ends alone.
+pub(crate) fn spine_end(
+    text: &[u8],
+    places: &[u32],
+    size: u64,
+    n: u64,
+    start: u64,
+    cursor: Cursor,
+) -> Cursor
+    requires { ⌜ Tail n start × Ready (positions (entriesAt (now text) (now places))) size start cursor × (size ≤ n) ⌝ }
+    ensures { λ r. ⌜ r ≡ endOn (knownIn (now (text .entry)) (now (places .entry)) size []) (cursor .node) (range start (n - start)) ⌝ }
+{
+    let width = power(n - start);
+    match edge_at(size, n, start, width, cursor.position) {
+        Edge::Block => subtree_end(text, places, size, start, width, cursor),
+        Edge::Node => cursor.past_node(),
+        Edge::Cut => {
+            let middle = subtree_end(text, places, size, start, width, cursor);
+            spine_end(text, places, size, n, start + width, middle)
+        }
+    }
+}
