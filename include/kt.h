@@ -37,6 +37,23 @@ extern "C" {
 uint64_t kt_sha256(const uint8_t *message, size_t message_length,
                    uint8_t *digest, size_t digest_length);
 
+/* The bytes of a version, and the most versions that a ladder has: 256 bytes are always enough for one. */
+#define KT_VERSION_LENGTH 4
+#define KT_LADDER_LENGTH 64
+
+/*
+ * The binary ladder of a version: the versions that a search for it looks up, in
+ * their order. The version 2^32 - 1 has none, since its ladder would have versions
+ * of more than 32 bits.
+ *
+ * With versions_length of KT_VERSION_LENGTH bytes or more for each version of the
+ * ladder: writes them to the first bytes of versions, each as KT_VERSION_LENGTH
+ * bytes, the highest byte first, leaves the bytes after them as they are, and
+ * answers how many versions they are, at most KT_LADDER_LENGTH. With fewer, and
+ * for 2^32 - 1: writes nothing and answers 0.
+ */
+uint64_t kt_ladder(uint32_t version, uint8_t *versions, size_t versions_length);
+
 #ifdef __cplusplus
 }
 #endif

@@ -1,6 +1,7 @@
 //! Compares the proved SHA-256 with the plain one, then measures both in one run.
 //! With the argument `compare` it only compares.
 
+use bench::Random;
 use second::sha256::sha256;
 use std::hint::black_box;
 use std::process::exit;
@@ -35,22 +36,6 @@ fn proved(message: &[u8]) -> [u8; 32] {
     let mut digest = [0; 32];
     proved_into(message, &mut digest);
     digest
-}
-
-/// A small generator (xorshift, 64 bits) with a fixed seed, so that every run has the same inputs.
-struct Random(u64);
-
-impl Random {
-    fn next(&mut self) -> u64 {
-        self.0 ^= self.0 << 13;
-        self.0 ^= self.0 >> 7;
-        self.0 ^= self.0 << 17;
-        self.0
-    }
-
-    fn bytes(&mut self, length: usize) -> Vec<u8> {
-        (0..length).map(|_| (self.next() >> 32) as u8).collect()
-    }
 }
 
 fn fail(what: &str, length: usize) -> ! {
@@ -165,7 +150,7 @@ fn main() {
             exit(2);
         }
     };
-    let mut random = Random(0x0123_4567_89ab_cdef);
+    let mut random = Random::new();
     compare_all(&mut random);
     if !only_compare {
         measure_all(&mut random);
