@@ -57,36 +57,39 @@ append-split l l′ r r′ h e =
 
 -- ---- lists of strings
 
--- every value of a list has as many bytes as a digest
-abbrev pub Sized : List Bytes → Type 0
-Sized ss = (s : Bytes) → List·Memᴰ s ss → length s ≡ digestLength
+-- P holds of each string of a list
+abbrev pub Each : (Bytes → Type 0) → List Bytes → Type 0
+Each P S = (x : Bytes) → List·Memᴰ x S → P x
 
--- every string of a list is a byte string
+-- every string of a list is as long as a digest; is a byte string
+abbrev pub Sized : List Bytes → Type 0
+Sized S = Each (λ (x : Bytes). length x ≡ digestLength) S
+
 abbrev pub ByteStrings : List Bytes → Type 0
-ByteStrings S = (x : Bytes) → List·Memᴰ x S → AreBytes x
+ByteStrings S = Each AreBytes S
 
 -- Zeros are bytes.
 pub bytes-zeros : (n : ℕ) → AreBytes (replicate n 0)
 bytes-zeros zero = tt
 bytes-zeros (suc n) = (omega arith, bytes-zeros n)
 
--- Of no strings all are byte strings.
-pub nil-bytes : ByteStrings []
-nil-bytes x m = absurd (List·Memᴰ·not-nil m)
+-- Whatever it is, it holds of each string where there are none.
+pub each-nil : (P : Bytes → Type 0) → Each P []
+each-nil P x m = absurd (List·Memᴰ·not-nil m)
 
--- A byte string before byte strings.
-pub cons-bytes : (s : Bytes) (S : List Bytes) → AreBytes s → ByteStrings S → ByteStrings (s ∷ S)
-cons-bytes s S h f x m = go (List·Memᴰ·cases-cons m)
+-- What holds of a first string and of each other holds of each.
+pub each-cons : (P : Bytes → Type 0) (s : Bytes) (S : List Bytes) → P s → Each P S → Each P (s ∷ S)
+each-cons P s S h f x m = go (List·Memᴰ·cases-cons m)
   where
-    go : (x ≡ s) ⊎ List·Memᴰ x S → AreBytes x
-    go (inl e) = subst AreBytes (sym e) h
+    go : (x ≡ s) ⊎ List·Memᴰ x S → P x
+    go (inl e) = subst P (sym e) h
     go (inr n) = f x n
 
--- Byte strings before byte strings.
-pub append-bytes : (S T : List Bytes) → ByteStrings S → ByteStrings T → ByteStrings (S ++ T)
-append-bytes S T f g x m = go (List·Memᴰ·append-cases S m)
+-- What holds of each string of two lists holds of each of both joined.
+pub each-append : (P : Bytes → Type 0) (S T : List Bytes) → Each P S → Each P T → Each P (S ++ T)
+each-append P S T f g x m = go (List·Memᴰ·append-cases S m)
   where
-    go : List·Memᴰ x S ⊎ List·Memᴰ x T → AreBytes x
+    go : List·Memᴰ x S ⊎ List·Memᴰ x T → P x
     go (inl n) = f x n
     go (inr n) = g x n
 

@@ -1,14 +1,13 @@
 -- The history of a log (paper 01, What the contracts owe): what two walks over one log show, and what the values that walks hand on hold fast.
-use mathlib.Core.Path.{_≡_, refl, sym, ap, _∙_, subst}
+use mathlib.Core.Path.{_≡_, sym, ap, _∙_, subst}
 use mathlib.Core.Logic.{_⊎_, inl, inr}
 use mathlib.Core.Bool.{true}
-use mathlib.Core.List.{List, [], _∷_, _++_, flatten, append-assoc, List·Memᴰ, List·Memᴰ·head, List·Memᴰ·tail, List·Memᴰ·cases-cons, List·Memᴰ·not-nil, Memᴰ·append-left, Memᴰ·append-right}
+use mathlib.Core.List.{List, [], _∷_, _++_, flatten, List·Memᴰ, List·Memᴰ·cases-cons, List·Memᴰ·not-nil, Memᴰ·append-left, Memᴰ·append-right}
 use Prim.Native.Nat.{ℕ, zero, suc, _-_, _*_, _/_, _%_, _^_, _≤_, _<_}
 use native.Mathlib.Nat.{pow-succ'}
 use native.Mathlib.Omega.{arith}
 use lib.Count.{ones}
 use lib.ListN.{length, replicate}
-use lib.Seq.{take-at, drop-at}
 use borrow.Author.Tests.{eq-eqb, ne-eqb}
 use Rattle.lists.specs.Choice.{choose}
 use Rattle.lists.specs.Lists.{Bytes, rising, runs}
@@ -24,6 +23,7 @@ use Rattle.tree.proofs.CollisionLaws.{Sized, _>>=_, append-split, ByteS
 use Rattle.tree.proofs.FullLaws.{full-length}
 use Rattle.tree.proofs.SubtreeLaws.{block, Subtree, whole}
 use Rattle.tree.proofs.HoldingLaws.{Inside, range-equal, full-as-block, entry-in-full, full-one, full-ends, full-grows}
+use Rattle.tree.proofs.RunLaws.{runs-joined}
 use Rattle.tree.proofs.PathLaws.{Path, path-one, path-from, path-within}
 use Rattle.tree.proofs.WalkCaseLaws.{Walks, walk-cases}
 use Rattle.tree.proofs.WalkValueLaws.{full-values-length}
@@ -198,15 +198,6 @@ pub full-values-count : (n : ℕ) (k : Known) (ps : List ℕ) (ns : List Bytes) 
 full-values-count n k ps ns w h =
     sym (matched-length (full-values-parts n k ps (walkStrings k (walkOf n (k .size) ps) ns) (w .last) h ns (w .nodes-sized) (w .met) (λ y m. m))) ∙ full-length n
 
--- Values joined to a string are its first runs of a digest's length.
-pub runs-joined : (vs : List Bytes) (rest : Bytes) → Sized vs → runs (length vs) digestLength (flatten vs ++ rest) ≡ vs
-unfolding runs flatten
-runs-joined [] rest h = refl
-runs-joined (v ∷ vs) rest h =
-    let l = h v (List·Memᴰ·head refl) in
-    let t = runs-joined vs rest (λ x m. h x (List·Memᴰ·tail m)) in
-    rw (append-assoc v (flatten vs) rest, take-at v (flatten vs ++ rest) digestLength l, drop-at v (flatten vs ++ rest) digestLength l, t) refl
-
 -- The values read from the block of a walk's values, as many as n has ones, are those values.
 pub block-values : (n : ℕ) (k : Known) (ns : List Bytes) → Follows n k (positions (k .entries)) ns → 0 < n
     → runs (ones n) digestLength (padded blockLength (flatten (fullValues n k (walkOver n k) ns))) ≡ fullValues n k (walkOver n k) ns
@@ -214,4 +205,4 @@ unfolding padded
 block-values n k ns w h =
     let vs = fullValues n k (walkOver n k) ns in
     ap (λ (i : ℕ). runs i digestLength (padded blockLength (flatten vs))) (sym (full-values-count n k (positions (k .entries)) ns w h))
-    ∙ runs-joined vs (replicate (blockLength - length (flatten vs)) 0) (full-values-length n k (walkOver n k) ns (w .values-sized) (w .nodes-sized))
+    ∙ runs-joined digestLength vs (replicate (blockLength - length (flatten vs)) 0) (full-values-length n k (walkOver n k) ns (w .values-sized) (w .nodes-sized))

@@ -128,35 +128,26 @@ pub climbing-end : {t : ℕ} {versions : List ℕ} {count low high : ℕ} → t 
 climbing-end {t} {versions} {count} {low} {high} h s l =
     (filling-next (ladder-fits t h) (filling-same (climb-over (s .fuel) t low high l) (s .filling)), omega (arith, s .low-end))
 
--- A middle that is not above t is stored, and becomes the lower end.
+-- A middle is stored, and the halving goes on between it and one of the ends.
+halving-next : {t : ℕ} {versions : List ℕ} {count low high : ℕ} → t < 2 ^ 32 - 1 → Halving t versions count low high → 1 < high - low → (m lo hi : ℕ)
+    → lo < hi → hi - lo < high - low → hi ≤ high → ((k : ℕ) → halve (suc k) t low high ≡ m ∷ halve k t lo hi) → Halving t (set versions count m) (count + 1) lo hi
+halving-next {t} {versions} {count} {low} {high} h s w m lo hi a b c e = go (s .fuel) (s .enough) (s .filling)
+  where
+    go : (f : ℕ) → high ≤ suc (low + f) → Filling ladderCapacity (ladder t) versions count (halve f t low high) → Halving t (set versions count m) (count + 1) lo hi
+    go zero u f = absurd (omega arith)
+    go (suc k) u f = record { fuel = k; enough = omega arith; order = a; small = omega (arith, s .small); filling = filling-next (ladder-fits t h) (filling-same (e k) f) }
+
+-- One that is not above t becomes the lower end.
 pub halving-low : {t : ℕ} {versions : List ℕ} {count low high : ℕ} → t < 2 ^ 32 - 1 → Halving t versions count low high → (m : ℕ)
     → m ≡ low + (high - low) / 2 → 1 < high - low → m ≤ t → Halving t (set versions count m) (count + 1) m high
-halving-low {t} {versions} {count} {low} {high} h s m e w l = go (s .fuel) (s .enough) (s .filling)
-  where
-    go : (f : ℕ) → high ≤ suc (low + f) → Filling ladderCapacity (ladder t) versions count (halve f t low high) → Halving t (set versions count m) (count + 1) m high
-    go zero b f = absurd (omega arith)
-    go (suc k) b f = record {
-      fuel = k;
-      enough = omega arith;
-      order = omega arith;
-      small = omega (arith, s .small);
-      filling = filling-next (ladder-fits t h) (filling-same (halve-low k t low high m (omega arith) (omega arith) l) f);
-    }
+halving-low {t} {versions} {count} {low} {high} h s m e w l =
+    halving-next h s w m m high (omega arith) (omega arith) (omega arith) (λ k. halve-low k t low high m (omega arith) (omega arith) l)
 
--- A middle above t is stored, and becomes the upper end.
+-- One above t becomes the upper end.
 pub halving-high : {t : ℕ} {versions : List ℕ} {count low high : ℕ} → t < 2 ^ 32 - 1 → Halving t versions count low high → (m : ℕ)
     → m ≡ low + (high - low) / 2 → 1 < high - low → t < m → Halving t (set versions count m) (count + 1) low m
-halving-high {t} {versions} {count} {low} {high} h s m e w l = go (s .fuel) (s .enough) (s .filling)
-  where
-    go : (f : ℕ) → high ≤ suc (low + f) → Filling ladderCapacity (ladder t) versions count (halve f t low high) → Halving t (set versions count m) (count + 1) low m
-    go zero b f = absurd (omega arith)
-    go (suc k) b f = record {
-      fuel = k;
-      enough = omega arith;
-      order = omega arith;
-      small = omega (arith, s .small);
-      filling = filling-next (ladder-fits t h) (filling-same (halve-high k t low high m (omega arith) (omega arith) l) f);
-    }
+halving-high {t} {versions} {count} {low} {high} h s m e w l =
+    halving-next h s w m low m (omega arith) (omega arith) (omega arith) (λ k. halve-high k t low high m (omega arith) (omega arith) l)
 
 -- There is room for a middle.
 pub halving-room : {t : ℕ} {versions : List ℕ} {count low high : ℕ} → t < 2 ^ 32 - 1 → Halving t versions count low high → 1 < high - low → count < ladderCapacity

@@ -9,7 +9,7 @@ pub mod ChildLaws
 pub mod FrontierLaws
 pub mod FrontierFillLaws
 pub mod AncestorLaws
-pub mod PlaceLaws
+pub mod PartingLaws
 pub mod NextLaws
 pub mod PathEndLaws
 pub mod AskedLaws
@@ -34,7 +34,7 @@ pub mod WalkLaws
 pub mod EndLaws
 pub mod TailLaws
 pub mod SpineLaws
-pub mod RisingLaws
+pub mod RisingBelowLaws
 pub mod HeadLaws
 pub mod PathLaws
 pub mod HoldingLaws

@@ -1,11 +1,11 @@
 -- Laws of log entries and values where they stand in a text (specs/LogText.antt).
 use mathlib.Core.Path.{_≡_, refl, sym, _∙_, ap, ap₂}
 use mathlib.Core.Logic.{_⊎_, inl, inr}
-use mathlib.Core.List.{List, [], _∷_, _++_, map, flatMap, flatten, append-assoc, map-id, List·Memᴰ, List·Memᴰ·head, List·Memᴰ·tail, List·Memᴰ·cases-cons, List·Memᴰ·not-nil}
+use mathlib.Core.List.{List, [], _∷_, _++_, map, flatMap, flatten, append-assoc, append-nil, List·Memᴰ, List·Memᴰ·head, List·Memᴰ·tail, List·Memᴰ·cases-cons, List·Memᴰ·not-nil}
 use mathlib.Core.Option.{Option, none, some, Option·getD}
 use Prim.Native.Nat.{ℕ, zero, suc, _+_, _-_, _*_, _/_, _%_, _^_, _≤_, _<_}
 use native.Mathlib.Omega.{arith}
-use lib.ListN.{length, take, drop, getD, replicate, length-append, length-take, length-drop, length-map}
+use lib.ListN.{length, take, drop, getD, length-append, length-take, length-drop, length-map}
 use lib.Seq.{length-take-le, take-nil, drop-nil, take-at, take-take, drop-drop}
 use borrow.Author.Tests.{eq-eqb}
 use Rattle.lists.specs.Lists.{Bytes, runs}
@@ -26,7 +26,7 @@ use Rattle.lines.proofs.ReadingLaws.{number-empty, digest-was, digest-long}
 use Rattle.tree.specs.LogTree.{zeros}
 use Rattle.tree.specs.LogText.{numberIn, valueDigits, valueIn, valuesIn, entryIn, nodeWord, nodeLine, nodesIn}
 use Rattle.tree.proofs.CollisionLaws.{bytes-zeros}
-use Rattle.tree.proofs.RunLaws.{length-runs, mapped-run, mapped-none, length-texts, runs-texts, drop-take}
+use Rattle.tree.proofs.RunLaws.{length-runs, mapped-run, mapped-none, length-texts, runs-texts, length-joined, runs-joined, drop-take}
 
 -- ---- numbers
 
@@ -117,12 +117,6 @@ node-some s i h =
 pub node-none : (s : Bytes) (i : ℕ) → length s / nodeLine ≤ i → getD (nodesIn s) i zeros ≡ zeros
 unfolding nodesIn
 node-none s i h = mapped-none (λ (l : Bytes). valueIn (take valueDigits (drop nodeWord l))) (length s / nodeLine) nodeLine s i zeros h
-
--- an element of a list of values, or zeros beyond it, is a value
-pub value-among : (vs : List Bytes) → ((v : Bytes) → List·Memᴰ v vs → IsValue v) → (i : ℕ) → IsValue (getD vs i zeros)
-value-among [] h i = zeros-value
-value-among (v ∷ vs) h zero = h v (List·Memᴰ·head refl)
-value-among (v ∷ vs) h (suc i) = value-among vs (λ u m. h u (List·Memᴰ·tail m)) i
 
 -- what a function to values makes of a list are values
 mapped-values : (f : Bytes → Bytes) → ((s : Bytes) → IsValue (f s)) → (xs : List Bytes) (v : Bytes) → List·Memᴰ v (map f xs) → IsValue v
@@ -229,7 +223,7 @@ nodes-written vs h =
     let s = flatMap write vs in
     let long : (v : Bytes) → List·Memᴰ v vs → length (write v) ≡ nodeLine = λ v m. length-node v (h v m) in
     let n : length s / nodeLine ≡ length vs = omega (arith, length-texts nodeLine write vs long) in
-    ap (map read) (ap (λ (k : ℕ). runs k nodeLine s) n ∙ runs-texts nodeLine write vs long)
+    ap (map read) (ap (λ (k : ℕ). runs k nodeLine s) n ∙ ap (runs (length vs) nodeLine) (sym (append-nil s)) ∙ runs-texts nodeLine write vs [] long)
     ∙ map-back write read vs (λ v m. value-node v (h v m))
 
 -- the digits of the first bytes are the first digits
@@ -283,12 +277,6 @@ siblings-written s b = go s b
         let n : length (hex (x ∷ s)) / valueDigits ≡ length (x ∷ s) / digestLength = omega (arith, length-hex (x ∷ s)) in
         ap (λ (k : ℕ). map valueIn (runs k valueDigits (hex (x ∷ s)))) n ∙ values-runs (length (x ∷ s) / digestLength) (x ∷ s) b (omega arith)
 
--- lists joined are the texts of a function that leaves them as they are
-joined-flat : (vs : List Bytes) → flatten vs ≡ flatMap (λ (v : Bytes). v) vs
-unfolding flatten flatMap
-joined-flat [] = refl
-joined-flat (v ∷ vs) = ap (λ (s : Bytes). v ++ s) (joined-flat vs)
-
 -- lists of bytes join to bytes
 bytes-flatten : (vs : List Bytes) → ((v : Bytes) → List·Memᴰ v vs → AreBytes v) → AreBytes (flatten vs)
 unfolding flatten
@@ -298,10 +286,8 @@ bytes-flatten (v ∷ vs) h = bytes-append v (flatten vs) (h v (List·Memᴰ·hea
 -- values joined and written are the values
 pub values-written : (vs : List Bytes) → ((v : Bytes) → List·Memᴰ v vs → IsValue v) → valuesIn (hexField (flatten vs)) ≡ vs
 values-written vs h =
-    let same : Bytes → Bytes = λ v. v in
-    let long : (v : Bytes) → List·Memᴰ v vs → length (same v) ≡ digestLength = λ v m. h v m .0 in
-    let f = joined-flat vs in
-    let n : length (flatMap same vs) / digestLength ≡ length vs = omega (arith, length-texts digestLength same vs long) in
-    siblings-written (flatten vs) (bytes-flatten vs (λ v m. h v m .1))
-    ∙ ap (λ (s : Bytes). runs (length s / digestLength) digestLength s) f
-    ∙ ap (λ (k : ℕ). runs k digestLength (flatMap same vs)) n ∙ runs-texts digestLength same vs long ∙ map-id vs
+    let s = flatten vs in
+    let long : (v : Bytes) → List·Memᴰ v vs → length v ≡ digestLength = λ v m. h v m .0 in
+    let n : length s / digestLength ≡ length vs = omega (arith, length-joined digestLength vs long) in
+    siblings-written s (bytes-flatten vs (λ v m. h v m .1))
+    ∙ ap₂ (λ (k : ℕ) (t : Bytes). runs k digestLength t) n (sym (append-nil s)) ∙ runs-joined digestLength vs [] long

@@ -15,7 +15,7 @@ use Rattle.hash.proofs.MessageLaws.{length-digest, bytes-digest}
 use Rattle.tree.specs.LogTree.{zeros}
 use Rattle.tree.specs.Collisions.{Broken}
 use Rattle.tree.specs.PrefixTree.{prefixLeafString, prefixParentString, bits, Terminal, ownLeaf, emptyPlace, foreignLeaf, terminalStrings, terminalValue, parentOver, valueAbove, stringsAbove, lookupRoot, lookupStrings, terminalFits}
-use Rattle.tree.proofs.CollisionLaws.{_>>=_, settled, Sized, append-cancel, append-split, ByteStrings, bytes-zeros, nil-bytes, cons-bytes, append-bytes, Within, colliding, zero-valued, same-string}
+use Rattle.tree.proofs.CollisionLaws.{_>>=_, settled, Sized, append-cancel, append-split, ByteStrings, bytes-zeros, each-nil, each-cons, each-append, Within, colliding, zero-valued, same-string}
 
 -- What is taken from a lookup of an output: siblings along its bits lead from what stands at its place up to the root, by strings of a list.
 pub record LeadsTo (S : List Bytes) (o : Bytes) (t : Terminal) (root : Bytes) : Type 0 where
@@ -235,22 +235,22 @@ bytes-above (b ∷ bs) (s ∷ ss) v h = bytes-digest (parentOver b (valueAbove b
 -- The string at a place is a byte string.
 bytes-place : (o : Bytes) (t : Terminal) → AreBytes o → TerminalBytes t → ByteStrings (terminalStrings o t)
 unfolding terminalStrings
-bytes-place o (ownLeaf c) h k = cons-bytes (prefixLeafString o c) [] (bytes-leaf o c h k) nil-bytes
-bytes-place o emptyPlace h k = nil-bytes
-bytes-place o (foreignLeaf o′ c) h k = cons-bytes (prefixLeafString o′ c) [] (bytes-leaf o′ c (k .0) (k .1)) nil-bytes
+bytes-place o (ownLeaf c) h k = each-cons AreBytes (prefixLeafString o c) [] (bytes-leaf o c h k) (each-nil AreBytes)
+bytes-place o emptyPlace h k = each-nil AreBytes
+bytes-place o (foreignLeaf o′ c) h k = each-cons AreBytes (prefixLeafString o′ c) [] (bytes-leaf o′ c (k .0) (k .1)) (each-nil AreBytes)
 
 -- The strings on the way up are byte strings.
 bytes-way : (bs : List ℕ) (ss : List Bytes) (v : Bytes) → AreBytes v → ByteStrings ss → ByteStrings (stringsAbove bs ss v)
 unfolding stringsAbove
-bytes-way [] ss v h k = nil-bytes
-bytes-way (b ∷ bs) [] v h k = nil-bytes
+bytes-way [] ss v h k = each-nil AreBytes
+bytes-way (b ∷ bs) [] v h k = each-nil AreBytes
 bytes-way (b ∷ bs) (s ∷ ss) v h k =
-    cons-bytes (parentOver b (valueAbove bs ss v) s) (stringsAbove bs ss v) (bytes-parent b (valueAbove bs ss v) s (bytes-above bs ss v h) (k s (List·Memᴰ·head refl)))
+    each-cons AreBytes (parentOver b (valueAbove bs ss v) s) (stringsAbove bs ss v) (bytes-parent b (valueAbove bs ss v) s (bytes-above bs ss v h) (k s (List·Memᴰ·head refl)))
     (bytes-way bs ss v h (λ y n. k y (List·Memᴰ·tail n)))
 
 -- The strings of a lookup are byte strings if the output, the siblings and the values at the place are.
 pub bytes-lookup : (o : Bytes) (t : Terminal) (ss : List Bytes) → AreBytes o → TerminalBytes t → ByteStrings ss → ByteStrings (lookupStrings o t ss)
 unfolding lookupStrings
 bytes-lookup o t ss h k f =
-    append-bytes (terminalStrings o t) (stringsAbove (bits o) ss (terminalValue o t)) (bytes-place o t h k)
+    each-append AreBytes (terminalStrings o t) (stringsAbove (bits o) ss (terminalValue o t)) (bytes-place o t h k)
     (bytes-way (bits o) ss (terminalValue o t) (bytes-terminal o t) f)

@@ -13,7 +13,7 @@ use Rattle.tree.proofs.PowerLaws.{below-power}
 use Rattle.tree.proofs.DigitLaws.{halved, cut, cut-set, cut-clear, cut-bounds, by-digit, by-order}
 use Rattle.tree.proofs.FrontierLaws.{frontier-has, frontier-only, frontier-rising}
 use Rattle.tree.proofs.AncestorLaws.{ancestor, blockEnd, end-above, clear-digit, set-digit, end-rises, above-clear, right-ancestors-has, right-ancestors-only, right-ancestors-rising, right-ancestors-none}
-use Rattle.tree.proofs.PlaceLaws.{Parting}
+use Rattle.tree.proofs.PartingLaws.{Parting}
 use Rattle.tree.proofs.NextLaws.{next-nil, next-is, next-from}
 
 -- ---- ends of blocks

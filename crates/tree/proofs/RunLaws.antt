@@ -1,6 +1,6 @@
 -- Laws of runs of elements (lists, specs/Lists.antt), and of a run copied out of a string.
-use mathlib.Core.Path.{_≡_, refl, sym, _∙_, ap, ap₂}
-use mathlib.Core.List.{List, [], _∷_, map, flatMap, List·Memᴰ, List·Memᴰ·head, List·Memᴰ·tail}
+use mathlib.Core.Path.{_≡_, refl, sym, _∙_, ap}
+use mathlib.Core.List.{List, [], _∷_, _++_, map, flatMap, flatten, append-assoc, map-id, List·Memᴰ, List·Memᴰ·head, List·Memᴰ·tail}
 use Prim.Native.Nat.{ℕ, zero, suc, _+_, _*_, _≤_, _<_}
 use native.Mathlib.Numerals.{add-one}
 use native.Mathlib.Omega.{arith}
@@ -56,15 +56,29 @@ module _ {A : Type 0} where
       let j = h x (List·Memᴰ·head refl) in
       omega (arith, length-append (text x) (flatMap text xs))
 
-  -- and they are the runs of what they join to
-  pub runs-texts : {B : Type 0} (k : ℕ) (text : B → List A) (xs : List B) → ((b : B) → List·Memᴰ b xs → length (text b) ≡ k)
-      → runs (length xs) k (flatMap text xs) ≡ map text xs
+  -- and they are the first runs of what they join to
+  pub runs-texts : {B : Type 0} (k : ℕ) (text : B → List A) (xs : List B) (rest : List A) → ((b : B) → List·Memᴰ b xs → length (text b) ≡ k)
+      → runs (length xs) k (flatMap text xs ++ rest) ≡ map text xs
   unfolding runs flatMap
-  runs-texts k text [] h = refl
-  runs-texts k text (x ∷ xs) h =
-      let j = h x (List·Memᴰ·head refl) in
-      let i = runs-texts k text xs (λ b m. h b (List·Memᴰ·tail m)) in
-      ap₂ _∷_ (take-at (text x) (flatMap text xs) k j) (ap (runs (length xs) k) (drop-at (text x) (flatMap text xs) k j) ∙ i)
+  runs-texts k text [] rest h = refl
+  runs-texts k text (x ∷ xs) rest h =
+      let l = h x (List·Memᴰ·head refl) in
+      let s = flatMap text xs ++ rest in
+      let i = runs-texts k text xs rest (λ b m. h b (List·Memᴰ·tail m)) in
+      rw (append-assoc (text x) (flatMap text xs) rest, take-at (text x) s k l, drop-at (text x) s k l, i) refl
+
+  -- to join lists is to join what is made of them, themselves
+  joined-flat : (vs : List (List A)) → flatten vs ≡ flatMap (λ (v : List A). v) vs
+  unfolding flatten flatMap
+  joined-flat [] = refl
+  joined-flat (v ∷ vs) = ap (λ (s : List A). v ++ s) (joined-flat vs)
+
+  -- so it is with lists of k elements each
+  pub length-joined : (k : ℕ) (vs : List (List A)) → ((v : List A) → List·Memᴰ v vs → length v ≡ k) → length (flatten vs) ≡ k * length vs
+  length-joined k vs h = ap length (joined-flat vs) ∙ length-texts k (λ (v : List A). v) vs h
+
+  pub runs-joined : (k : ℕ) (vs : List (List A)) (rest : List A) → ((v : List A) → List·Memᴰ v vs → length v ≡ k) → runs (length vs) k (flatten vs ++ rest) ≡ vs
+  runs-joined k vs rest h = ap (λ (s : List A). runs (length vs) k (s ++ rest)) (joined-flat vs) ∙ runs-texts k (λ (v : List A). v) vs rest h ∙ map-id vs
 
   -- the first elements of what stands a little into a string are those of its front
   pub drop-take : (m n : ℕ) (s : List A) → drop m (take (m + n) s) ≡ take n (drop m s)

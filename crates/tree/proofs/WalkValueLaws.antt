@@ -1,8 +1,7 @@
 -- The values and strings of a walk of the log tree (specs/LogTree.antt): each value is a kept one, a given node, zeros or a digest; each string is one of bytes.
-use mathlib.Core.Path.{_≡_, refl, sym, ap, _∙_, subst}
-use mathlib.Core.Logic.{_⊎_, inl, inr}
+use mathlib.Core.Path.{_≡_, refl, ap, _∙_}
 use mathlib.Core.Bool.{Bool, true, false, cond}
-use mathlib.Core.List.{List, [], _∷_, _++_, List·Memᴰ, List·Memᴰ·head, List·Memᴰ·tail, List·Memᴰ·append-cases, List·Memᴰ·eq-of-singleton}
+use mathlib.Core.List.{List, [], _∷_, _++_, List·Memᴰ, List·Memᴰ·head, List·Memᴰ·tail}
 use Prim.Native.Nat.{ℕ, zero, suc, _<_}
 use native.Mathlib.Omega.{arith}
 use lib.Dec.{eqb}
@@ -15,14 +14,10 @@ use Rattle.hash.specs.Sha256.{digestLength, sha256}
 use Rattle.hash.proofs.BytesLaws.{bytes-append, bytes-bigEndian}
 use Rattle.hash.proofs.MessageLaws.{length-digest, bytes-digest}
 use Rattle.tree.specs.LogTree.{LogEntry, logLeafString, hashContent, logParentString, Range, sameRange, fullSubtrees, isFull, Walk, retained, given, shown, parent, nodeCount, widthOf, Known, zeros, valueAmong, keptValue, stringAt, value, fullValues, walkStrings}
-use Rattle.tree.proofs.CollisionLaws.{ByteStrings, Sized, bytes-zeros, nil-bytes, cons-bytes, append-bytes}
+use Rattle.tree.proofs.CollisionLaws.{ByteStrings, Sized, bytes-zeros, each-nil, each-cons, each-append, Each}
 use Rattle.tree.proofs.WalkCaseLaws.{Over}
 
 -- ---- what holds of each value of a list
-
--- P holds of each value of a list
-abbrev pub Each : (Bytes → Type 0) → List Bytes → Type 0
-Each P vs = (v : Bytes) → List·Memᴰ v vs → P v
 
 -- What holds of each holds of each after the first ones.
 each-drop : (P : Bytes → Type 0) (i : ℕ) (vs : List Bytes) → Each P vs → Each P (drop i vs)
@@ -37,15 +32,7 @@ each-first P (v ∷ vs) z h = h v (List·Memᴰ·head refl)
 
 -- What holds of a value holds of each value of the list of it alone.
 each-one : (P : Bytes → Type 0) (v : Bytes) → P v → Each P (v ∷ [])
-each-one P v h x m = subst P (sym (List·Memᴰ·eq-of-singleton m)) h
-
--- What holds of each value of two lists holds of each value of both joined.
-each-append : (P : Bytes → Type 0) (us vs : List Bytes) → Each P us → Each P vs → Each P (us ++ vs)
-each-append P us vs h k x m = go (List·Memᴰ·append-cases us m)
-  where
-    go : List·Memᴰ x us ⊎ List·Memᴰ x vs → P x
-    go (inl i) = h x i
-    go (inr i) = k x i
+each-one P v h = each-cons P v [] h (each-nil P)
 
 -- ---- the values of full subtrees
 
@@ -156,14 +143,14 @@ bytes-content n v h = (mark (eqb n 1), h)
 pub bytes-walk : (k : Known) (w : Walk) (ns : List Bytes) → ByteEntries (k .entries) → ByteStrings (k .values) → ByteStrings ns
     → ByteStrings (walkStrings k w ns)
 unfolding walkStrings logParentString
-bytes-walk k (retained r) ns e h i = nil-bytes
-bytes-walk k (given r) ns e h i = nil-bytes
-bytes-walk k (shown p) ns e h i = cons-bytes (stringAt (k .entries) p) [] (bytes-leaf (k .entries) p e) nil-bytes
+bytes-walk k (retained r) ns e h i = each-nil AreBytes
+bytes-walk k (given r) ns e h i = each-nil AreBytes
+bytes-walk k (shown p) ns e h i = each-cons AreBytes (stringAt (k .entries) p) [] (bytes-leaf (k .entries) p e) (each-nil AreBytes)
 bytes-walk k (parent r x y) ns e h i =
-    cons-bytes (logParentString (widthOf x) (value k x ns) (widthOf y) (value k y ms)) (walkStrings k x ns ++ walkStrings k y ms)
+    each-cons AreBytes (logParentString (widthOf x) (value k x ns) (widthOf y) (value k y ms)) (walkStrings k x ns ++ walkStrings k y ms)
     (bytes-append (hashContent (widthOf x) (value k x ns)) (hashContent (widthOf y) (value k y ms))
     (bytes-content (widthOf x) (value k x ns) (bytes-value k x ns h i)) (bytes-content (widthOf y) (value k y ms) (bytes-value k y ms h j)))
-    (append-bytes (walkStrings k x ns) (walkStrings k y ms) (bytes-walk k x ns e h i) (bytes-walk k y ms e h j))
+    (each-append AreBytes (walkStrings k x ns) (walkStrings k y ms) (bytes-walk k x ns e h i) (bytes-walk k y ms e h j))
   where
     ms : List Bytes
     ms = drop (nodeCount x) ns

@@ -13,7 +13,7 @@ use lines::number::Number;
 use lines::number::read_number;
 
 // The digits of a value; the word of a node line and its tab; a node line with its newline.
-const VALUE_DIGITS: usize = 64;
+pub(crate) const VALUE_DIGITS: usize = 64;
 
 const NODE_WORD: usize = 5;
 

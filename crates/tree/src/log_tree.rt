@@ -197,6 +197,7 @@ fn content_mark(width: u64) -> u8
     if width == 1 { 0x00 } else { 0x01 }
 }
 
+// Whether both hold.
 fn both(a: bool, b: bool) -> bool
     ensures { λ r. ⌜ r ≡ (a && b) ⌝ }
 {

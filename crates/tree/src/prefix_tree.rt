@@ -6,6 +6,7 @@ ghost use Rattle.hash.specs.Sha256.{sha256};
 ghost use Rattle.tree.specs.LogText.{valuesIn};
 ghost use Rattle.tree.specs.PrefixTree.{bits, parentOver, terminalValue, lookupRoot, terminalFits};
 ghost use Rattle.tree.specs.Lookups.{outputBits, terminalOf};
+use crate::log_text::VALUE_DIGITS;
 use crate::log_text::sibling_at;
 use hash::strings::digest_65;
 
@@ -28,10 +29,8 @@ const LEAF: u8 = 0x01;
 
 const PARENT: u8 = 0x02;
 
-// An output's bits, and a value's hex digits.
+// The bits of an output.
 const OUTPUT_BITS: usize = 256;
-
-const VALUE_DIGITS: usize = 64;
 
 // A bit of an output, each byte's high bit first.
 fn bit_at(output: [u8; 32], i: usize) -> u8

@@ -8,7 +8,7 @@ use borrow.Author.Needs.{needs}
 use Rattle.tree.specs.LogText.{entriesAt}
 use Rattle.tree.specs.LogHead.{positions}
 use Rattle.tree.proofs.CursorLaws.{position-at, length-positions}
-use Rattle.tree.proofs.RisingLaws.{between, between-low, between-high, between-next, between-end}
+use Rattle.tree.proofs.RisingBelowLaws.{between, between-low, between-high, between-next, between-end}
 use Rattle.tree.proofs.log_head.rising_below.Statement.{statement}
 use Rattle.tree.proofs.log_head.rising_below.Tie as tie
 

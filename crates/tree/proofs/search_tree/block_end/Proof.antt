@@ -1,7 +1,7 @@
 -- `tree::search_tree::block_end` meets its contract: the number is joined with k ones.
 use native.Mathlib.Omega.{arith}
 use lib.Pow.{pow-pos}
-use Rattle.tree.proofs.PlaceLaws.{place-value, or-ones}
+use Rattle.tree.proofs.PartingLaws.{place-value, or-ones}
 use Rattle.tree.proofs.search_tree.block_end.Statement.{statement}
 use Rattle.tree.proofs.search_tree.block_end.Tie as tie
 

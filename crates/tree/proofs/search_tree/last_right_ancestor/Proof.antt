@@ -1,6 +1,6 @@
 -- `tree::search_tree::last_right_ancestor` meets its contract: one law for an entry that is not in the log, one for where it parts from the log's size.
 use mathlib.Core.Path.{sym, _∙_}
-use Rattle.tree.proofs.PlaceLaws.{parts}
+use Rattle.tree.proofs.PartingLaws.{parts}
 use Rattle.tree.proofs.PathEndLaws.{ancestor-last, ancestor-last-empty}
 use borrow.Author.Needs.{needs}
 use Rattle.tree.proofs.search_tree.last_right_ancestor.Statement.{statement}

@@ -2,7 +2,7 @@
 use mathlib.Core.Path.{sym, _∙_}
 use Rattle.tree.specs.SearchTree.{frontier}
 use Rattle.tree.proofs.FrontierLaws.{frontier-rising, frontier-below}
-use Rattle.tree.proofs.PlaceLaws.{parts}
+use Rattle.tree.proofs.PartingLaws.{parts}
 use Rattle.tree.proofs.NextLaws.{next-none}
 use Rattle.tree.proofs.PathEndLaws.{frontier-next}
 use borrow.Author.Needs.{needs}

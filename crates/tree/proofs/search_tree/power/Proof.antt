@@ -1,6 +1,6 @@
 -- `tree::search_tree::power` meets its contract: the shift is by the place of the highest digit.
 use native.Mathlib.Omega.{arith}
-use Rattle.tree.proofs.PlaceLaws.{leading-within, power-shift}
+use Rattle.tree.proofs.PartingLaws.{leading-within, power-shift}
 use borrow.Author.Needs.{needs}
 use Rattle.tree.proofs.search_tree.power.Statement.{statement}
 use Rattle.tree.proofs.search_tree.power.Tie as tie

@@ -1,7 +1,7 @@
 -- `tree::search_tree::right_ancestor_from` meets its contract: one law for an end within the log, one for an end beyond it.
 use mathlib.Core.Path.{sym, _∙_}
 use native.Mathlib.Omega.{arith}
-use Rattle.tree.proofs.PlaceLaws.{parts}
+use Rattle.tree.proofs.PartingLaws.{parts}
 use Rattle.tree.proofs.PathEndLaws.{ancestor-next, ancestor-next-none}
 use borrow.Author.Needs.{needs}
 use Rattle.tree.proofs.search_tree.right_ancestor_from.Statement.{statement}
