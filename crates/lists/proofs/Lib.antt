@@ -1,3 +1,4 @@
 pub mod Computing
 pub mod ListLaws
 pub mod RisingLaws
+pub mod SameLaws

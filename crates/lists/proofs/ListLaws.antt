@@ -4,13 +4,21 @@ use mathlib.Core.Logic.{_⊎_, inl, inr}
 use mathlib.Core.Bool.{Bool, true, false, _&&_, _||_, false≢true}
 use mathlib.Core.List.{List, [], _∷_, _++_, map, List·Memᴰ, List·Memᴰ·head, List·Memᴰ·tail, List·Memᴰ·cases-cons, List·Memᴰ·not-nil}
 use mathlib.Core.Option.{Option, none, some, bind, Option·map, Option·some-injective, Option·none-ne-some}
-use Prim.Native.Nat.{ℕ, _<_}
+use Prim.Native.Nat.{ℕ, zero, suc, _<_}
+use native.Mathlib.Omega.{arith}
 use lib.Dec.{eqb, ltb}
+use lib.ListN.{length, getD}
 use borrow.Author.Tests.{eq-eqb, eqb-true, lt-ltb}
-use Rattle.lists.specs.Choice.{choose, provided, _>>_, orElse}
-use Rattle.lists.specs.Lists.{all, every, any, lastOr, same, rising}
+use Rattle.lists.specs.Choice.{choose, provided, _>>_, given, orElse}
+use Rattle.lists.specs.Lists.{all, every, any, first, lastOr, allButLast, same, rising}
 
 -- ---- two tests
+
+-- Tests are equal where each implies the other.
+pub same-test : (s t : Bool) → (s ≡ true → t ≡ true) → (t ≡ true → s ≡ true) → s ≡ t
+same-test true t f g = sym (f refl)
+same-test false true f g = g refl
+same-test false false f g = refl
 
 -- if both tests together hold, each does
 pub and-holds : (s t : Bool) → (s && t) ≡ true → (s ≡ true) × (t ≡ true)
@@ -25,11 +33,6 @@ holds-and s t p q = rw (p, q) refl
 pub or-holds : (s t : Bool) → (s || t) ≡ true → (s ≡ true) ⊎ (t ≡ true)
 or-holds true t e = inl refl
 or-holds false t e = inr e
-
--- if none of two tests holds, neither does
-pub or-fails : (s t : Bool) → (s || t) ≡ false → (s ≡ false) × (t ≡ false)
-or-fails true t e = absurd (false≢true (sym e))
-or-fails false t e = (refl, e)
 
 -- ---- choices
 
@@ -62,6 +65,12 @@ unfolding provided
 provided-some true a b e = (refl, Option·some-injective a b e)
 provided-some false a b e = absurd (Option·none-ne-some b e)
 
+-- where a value under a test is none, the test fails
+pub provided-none : {A : Type 0} (t : Bool) (a : A) → provided t a ≡ none → t ≡ false
+unfolding provided
+provided-none true a e = absurd (Option·none-ne-some a (sym e))
+provided-none false a e = refl
+
 -- a test that holds is passed over
 pub test-true : {A : Type 0} (t : Bool) (o : Option A) → t ≡ true → (t >> o) ≡ o
 unfolding _>>_
@@ -84,16 +93,37 @@ unfolding bind
 bind-some none f b e = absurd (Option·none-ne-some b e)
 bind-some (some a) f b e = (a, refl, e)
 
+-- what follows from both of two steps that give a value; the value between them stays a variable, so that long chains stay short
+pub bind-by : {A B R : Type 0} (o : Option A) (f : A → Option B) (b : B) → bind o f ≡ some b → ((a : A) → o ≡ some a → f a ≡ some b → R) → R
+bind-by o f b e k = let (a, p, q) = bind-some o f b e in k a p q
+
+-- a step after none gives none
+pub bind-none : {A B : Type 0} (o : Option A) (f : A → Option B) → o ≡ none → bind o f ≡ none
+unfolding bind
+bind-none o f e = rw e refl
+
+-- the steps after a value under a test
+pub provided-then : {A B : Type 0} (t : Bool) (a : A) (f : A → Option B) → bind (provided t a) f ≡ (t >> f a)
+unfolding bind provided _>>_
+provided-then true a f = refl
+provided-then false a f = refl
+
+-- and the same where it is written as a step
+pub test-then : {A B : Type 0} (t : Bool) (a : A) (f : A → Option B) → bind (t >> some a) f ≡ (t >> f a)
+unfolding bind _>>_
+test-then true a f = refl
+test-then false a f = refl
+
+-- where there is nothing after a test, there is nothing
+pub test-none : {A : Type 0} (t : Bool) → _≡_ {A = Option A} (t >> none) none
+unfolding _>>_
+test-none true = refl
+test-none false = refl
+
 -- where a mapped step gives a value, the step gave one of which it is made
 pub map-some : {A B : Type 0} (f : A → B) (o : Option A) (b : B) → Option·map f o ≡ some b → (a : A) × (o ≡ some a) × (f a ≡ b)
 map-some f none b e = absurd (Option·none-ne-some b e)
 map-some f (some a) b e = (a, refl, Option·some-injective (f a) b e)
-
--- what the first or the second gives was given by the first, or by the second while the first gave none
-pub orElse-some : {A : Type 0} (o p : Option A) (a : A) → orElse o p ≡ some a → (o ≡ some a) ⊎ ((o ≡ none) × (p ≡ some a))
-unfolding orElse
-orElse-some none p a e = inr (refl, e)
-orElse-some (some b) p a e = inl e
 
 -- ---- tests on lists
 
@@ -164,14 +194,6 @@ at-any f (y ∷ ys) x i e = go (f y) refl (λ j. at-any f ys x j e) (List·Mem�
     go true p q i = refl
     go false p q (inl z) = absurd (false≢true (sym p ∙ ap f (sym z) ∙ e))
     go false p q (inr j) = q j
-
--- a test that fails of any element fails of each
-pub any-false : {A : Type 0} (f : A → Bool) (xs : List A) (x : A) → any f xs ≡ false → List·Memᴰ x xs → f x ≡ false
-any-false f xs x e i = go (f x) refl
-  where
-    go : (t : Bool) → f x ≡ t → t ≡ false
-    go true p = absurd (false≢true (sym e ∙ at-any f xs x i p))
-    go false p = refl
 
 -- a test that fails of each element fails of any
 pub any-none : {A : Type 0} (f : A → Bool) (xs : List A) → ((x : A) → List·Memᴰ x xs → f x ≡ false) → any f xs ≡ false
@@ -252,8 +274,88 @@ rising-snoc (a ∷ b ∷ l) x h r = go (ltb a b) r (rising-snoc (b ∷ l) x (λ 
     go true r ih = ih r
     go false r ih = r
 
--- The last element of a list with one put at its end is that one.
-pub last-snoc : (d x : ℕ) (l : List ℕ) → lastOr d (l ++ x ∷ []) ≡ x
+-- ---- the last element
+
+-- the last element of a list with one put at its end is that one
+pub last-snoc : {A : Type 0} (d x : A) (l : List A) → lastOr d (l ++ x ∷ []) ≡ x
 unfolding lastOr
 last-snoc d x [] = refl
 last-snoc d x (y ∷ l) = last-snoc y x l
+
+-- all but the last are those before it
+pub but-last-snoc : {A : Type 0} (x : A) (l : List A) → allButLast (l ++ x ∷ []) ≡ l
+unfolding allButLast
+but-last-snoc x [] = refl
+but-last-snoc x (y ∷ []) = refl
+but-last-snoc x (y ∷ z ∷ l) = ap (λ (t : List _). y ∷ t) (but-last-snoc x (z ∷ l))
+
+-- a list that is not empty is all but its last element, and that
+pub snoc-last : {A : Type 0} (d x : A) (l : List A) → x ∷ l ≡ allButLast (x ∷ l) ++ lastOr d (x ∷ l) ∷ []
+unfolding allButLast lastOr
+snoc-last d x [] = refl
+snoc-last d x (y ∷ l) = ap (λ (t : List _). x ∷ t) (snoc-last x y l)
+
+-- ---- whether there is a value
+
+-- where there is one, it is some value
+pub given-some : {A : Type 0} (o : Option A) → given o ≡ true → (a : A) × (o ≡ some a)
+unfolding given
+given-some none e = absurd (false≢true e)
+given-some (some a) e = (a, refl)
+
+-- where there is none, it is none
+pub given-none : {A : Type 0} (o : Option A) → given o ≡ false → o ≡ none
+unfolding given
+given-none none e = refl
+given-none (some a) e = absurd (false≢true (sym e))
+
+-- none is not given
+pub none-given : {A : Type 0} (o : Option A) → o ≡ none → given o ≡ false
+unfolding given
+none-given o e = rw e refl
+
+-- the first or the second is given if one of them is
+pub given-orElse : {A : Type 0} (o p : Option A) → given (orElse o p) ≡ (given o || given p)
+unfolding given orElse
+given-orElse none p = refl
+given-orElse (some a) p = refl
+
+-- a value under a test is given where the test holds
+pub given-provided : {A : Type 0} (t : Bool) (a : A) → given (provided t a) ≡ t
+unfolding given provided
+given-provided true a = refl
+given-provided false a = refl
+
+-- what is made of a value is given where the value is
+pub given-bind : {A B : Type 0} (o : Option A) (f : A → Option B) → ((a : A) → given (f a) ≡ true) → given (bind o f) ≡ given o
+unfolding given bind
+given-bind none f h = refl
+given-bind (some a) f h = h a
+
+-- the first of which a test holds is given where the test holds of any
+pub given-first : {A : Type 0} (f : A → Bool) (xs : List A) → given (first f xs) ≡ any f xs
+unfolding first any given choose
+given-first f [] = refl
+given-first f (x ∷ xs) = go (f x) (given-first f xs)
+  where
+    go : (t : Bool) → given (first f xs) ≡ any f xs → given (choose t (λ _. some x) (λ _. first f xs)) ≡ (t || any f xs)
+    go true e = refl
+    go false e = e
+
+-- ---- elements by their numbers
+
+-- what stands at a number is a member
+pub at-member : {A : Type 0} (xs : List A) (i : ℕ) (d : A) → i < length xs → List·Memᴰ (getD xs i d) xs
+at-member [] i d h = absurd (omega arith)
+at-member (x ∷ xs) zero d h = List·Memᴰ·head refl
+at-member (x ∷ xs) (suc i) d h = List·Memᴰ·tail (at-member xs i d (omega arith))
+
+-- a member stands at a number
+pub member-at : {A : Type 0} (xs : List A) (x d : A) → List·Memᴰ x xs → (i : ℕ) × (i < length xs) × (getD xs i d ≡ x)
+member-at xs x d (List·Memᴰ·head e) = (0, omega arith, sym e)
+member-at xs x d (List·Memᴰ·tail {xs = ys} m) = let (i, h, e) = member-at ys x d m in (suc i, omega arith, e)
+
+-- where the number of elements is 0, there is none
+pub none-left : {A : Type 0} (xs : List A) → eqb (length xs) 0 ≡ true → xs ≡ []
+none-left [] e = refl
+none-left (x ∷ xs) e = let z = eqb-true (length (x ∷ xs)) 0 e in absurd (omega arith)

@@ -1,16 +1,17 @@
 -- Laws of rising lists: their members, their last, and numbers put into them (specs/Lists.antt).
 use mathlib.Core.Path.{_≡_, refl, sym}
 use mathlib.Core.Logic.{_⊎_, inl, inr, ⊎-elim}
-use mathlib.Core.Bool.{true}
+use mathlib.Core.Bool.{true, _&&_}
 use mathlib.Core.List.{List, [], _∷_, List·Memᴰ, List·Memᴰ·head, List·Memᴰ·tail, List·Memᴰ·cases-cons, List·Memᴰ·not-nil, List·Memᴰ·eq-of-singleton}
-use Prim.Native.Nat.{ℕ, _≤_, _<_}
+use Prim.Native.Nat.{ℕ, zero, suc, _≤_, _<_}
 use native.Mathlib.Decide.{decLt}
 use native.Mathlib.Omega.{arith}
 use lib.Dec.{ltb}
+use lib.ListN.{length, getD}
 use borrow.Author.Tests.{lt-ltb, le-ltb, ltb-true, eq-eqb, ne-eqb}
 use Rattle.lists.specs.Choice.{choose}
 use Rattle.lists.specs.Lists.{lastOr, rising, insert, insertAll}
-use Rattle.lists.proofs.ListLaws.{and-holds, rising-cons}
+use Rattle.lists.proofs.ListLaws.{and-holds, rising-cons, at-member}
 
 -- ---- members
 
@@ -153,3 +154,24 @@ insertAll-only (x ∷ xs) ys a m =
 pub insertAll-rising : (xs ys : List ℕ) → rising ys ≡ true → rising (insertAll xs ys) ≡ true
 insertAll-rising [] ys r = rw (insertAll-nil ys) r
 insertAll-rising (x ∷ xs) ys r = rw (insertAll-cons x xs ys) (insert-rising x (insertAll xs ys) (insertAll-rising xs ys r))
+
+-- ---- elements by their numbers
+
+-- of two elements of a rising list the later is above
+pub rising-at : (l : List ℕ) (i j : ℕ) → rising l ≡ true → i < j → j < length l → getD l i 0 < getD l j 0
+rising-at [] i j r h k = absurd (omega arith)
+rising-at (x ∷ l) i zero r h k = absurd (omega arith)
+rising-at (x ∷ l) zero (suc j) r h k = rising-first x l r (getD l j 0) (at-member l j 0 (omega arith))
+rising-at (x ∷ l) (suc i) (suc j) r h k = rising-at l i j (rising-tail x l r) (omega arith) (omega arith)
+
+-- two and more rise where the first is below the second and the others rise
+pub rising-two : (x y : ℕ) (l : List ℕ) → rising (x ∷ y ∷ l) ≡ (ltb x y && rising (y ∷ l))
+unfolding rising
+rising-two x y l = refl
+
+-- a list of one element rises, and an empty one
+pub short-rises : (l : List ℕ) → length l ≤ 1 → rising l ≡ true
+unfolding rising
+short-rises [] h = refl
+short-rises (x ∷ []) h = refl
+short-rises (x ∷ y ∷ l) h = absurd (omega arith)

@@ -18,6 +18,11 @@ unfoldable pub _>>_ : {A : Type 0} → Bool → Option A → Option A
 true >> a = a
 false >> a = none
 
+-- whether there is a value
+unfoldable pub given : {A : Type 0} → Option A → Bool
+given none = false
+given (some a) = true
+
 -- the first, or the second where the first is none
 unfoldable pub orElse : {A : Type 0} → Option A → Option A → Option A
 orElse none b = b

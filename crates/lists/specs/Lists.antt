@@ -1,10 +1,10 @@
 -- Tests on lists, and rising lists.
 use mathlib.Core.Bool.{Bool, true, false, _&&_, _||_}
-use mathlib.Core.List.{List, [], _∷_}
+use mathlib.Core.List.{List, [], _∷_, _++_}
 use mathlib.Core.Option.{Option, none, some}
-use Prim.Native.Nat.{ℕ, zero, suc, max}
+use Prim.Native.Nat.{ℕ, zero, suc, _+_, max}
 use lib.Dec.{eqb, leb, ltb}
-use lib.ListN.{take, drop}
+use lib.ListN.{length, take, drop}
 use Rattle.lists.specs.Choice.{choose}
 
 -- a string of bytes
@@ -41,10 +41,20 @@ unfoldable pub lastOr : {A : Type 0} → A → List A → A
 lastOr d [] = d
 lastOr d (x ∷ xs) = lastOr x xs
 
+-- all but the last element
+unfoldable pub allButLast : {A : Type 0} → List A → List A
+allButLast [] = []
+allButLast (x ∷ []) = []
+allButLast (x ∷ y ∷ ys) = x ∷ allButLast (y ∷ ys)
+
 -- the first n runs of k elements
 unfoldable pub runs : {A : Type 0} → ℕ → ℕ → List A → List (List A)
 runs zero k s = []
 runs (suc n) k s = take k s ∷ runs n k (drop k s)
+
+-- a list put into another from a place on, where it fits; all other elements stay
+unfoldable pub written : {A : Type 0} → List A → ℕ → List A → List A
+written s at t = take at s ++ t ++ drop (at + length t) s
 
 -- ---- numbers
 

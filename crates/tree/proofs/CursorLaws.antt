@@ -11,6 +11,7 @@ use borrow.Author.Tests.{lt-ltb, le-ltb, le-leb, lt-leb, ltb-true, eq-eqb, ne-eq
 use Rattle.lists.specs.Choice.{choose}
 use Rattle.lists.specs.Lists.{Bytes, any, rising}
 use Rattle.lists.proofs.ListLaws.{and-holds}
+use Rattle.lists.proofs.RisingLaws.{rising-tail}
 use Rattle.tree.specs.LogTree.{LogEntry, logLeafString, Range, isShown, stringAt}
 use Rattle.tree.specs.LogText.{entryIn, entriesAt}
 use Rattle.tree.specs.LogHead.{positions}
@@ -41,11 +42,6 @@ shown-cons p ps r = refl
 rising-cons : (p q : ℕ) (ps : List ℕ) → rising (p ∷ q ∷ ps) ≡ true → (p < q) × (rising (q ∷ ps) ≡ true)
 unfolding rising
 rising-cons p q ps h = let (a, b) = and-holds (ltb p q) (rising (q ∷ ps)) h in (ltb-true p q a, b)
-
-rising-tail : (p : ℕ) (ps : List ℕ) → rising (p ∷ ps) ≡ true → rising ps ≡ true
-unfolding rising
-rising-tail p [] h = refl
-rising-tail p (q ∷ ps) h = rising-cons p q ps h .1
 
 -- ---- what is shown
 

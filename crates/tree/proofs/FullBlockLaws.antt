@@ -16,7 +16,7 @@ use lib.Seq.{getD-drop}
 use borrow.Author.Tests.{eq-eqb, eqb-true, lt-ltb, ltb-true, le-leb, leb-true}
 use Rattle.lists.specs.Choice.{choose}
 use Rattle.lists.specs.Lists.{Bytes}
-use Rattle.lists.proofs.ListLaws.{and-holds, holds-and, or-holds, any-at, at-any}
+use Rattle.lists.proofs.ListLaws.{same-test, and-holds, holds-and, or-holds, any-at, at-any}
 use Rattle.tree.specs.SearchTree.{power}
 use Rattle.tree.specs.LogTree.{Range, sameRange, holds, fullFrom, fullSubtrees, isFull, holdsFull, zeros, valueAmong}
 use Rattle.tree.proofs.PowerLaws.{below-power, exponent-below, power-at}
@@ -26,12 +26,6 @@ use Rattle.tree.specs.LogWalk.{range}
 use Rattle.tree.proofs.SubtreeLaws.{block, exponent-most, start-lower}
 
 -- ---- full subtrees
-
--- Tests are equal where each implies the other.
-same-test : (s t : Bool) → (s ≡ true → t ≡ true) → (t ≡ true → s ≡ true) → s ≡ t
-same-test true t f g = sym (f refl)
-same-test false true f g = g refl
-same-test false false f g = refl
 
 -- A test of which what it says is absurd fails.
 differ : (s : Bool) → (s ≡ true → ⊥) → s ≡ false

@@ -26,7 +26,6 @@ pub mod TerminalLaws
 pub mod LookupLaws
 pub mod RunLaws
 pub mod LogTextLaws
-pub mod SameLaws
 pub mod CursorLaws
 pub mod DecisionLaws
 pub mod WalkedLaws

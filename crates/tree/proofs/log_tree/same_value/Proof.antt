@@ -5,7 +5,7 @@ use native.Mathlib.Omega.{arith}
 use lib.ListN.{drop}
 use borrow.Author.Needs.{needs}
 use Rattle.lists.specs.Lists.{same}
-use Rattle.tree.proofs.SameLaws.{same-step, same-differs, same-end}
+use Rattle.lists.proofs.SameLaws.{same-step, same-differs, same-end}
 use Rattle.tree.proofs.log_tree.same_value.Statement.{statement}
 use Rattle.tree.proofs.log_tree.same_value.Tie as tie
 

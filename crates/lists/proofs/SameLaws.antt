@@ -1,5 +1,5 @@
--- Two lists of numbers compared element by element (lists, specs/Lists.antt).
-use mathlib.Core.Path.{_≡_, refl, sym, ap₂, _∙_}
+-- Two lists of numbers compared element by element (specs/Lists.antt).
+use mathlib.Core.Path.{_≡_, refl, sym, ap, ap₂, _∙_}
 use mathlib.Core.Bool.{true, false}
 use mathlib.Core.List.{List, _∷_}
 use Prim.Native.Nat.{ℕ, suc, _+_, _≤_, _<_}
@@ -7,7 +7,8 @@ use native.Mathlib.Numerals.{add-one}
 use lib.ListN.{length, getD, drop, drop-of-length-le}
 use lib.Seq.{drop-cons}
 use borrow.Author.Tests.{eq-eqb, ne-eqb}
 use Rattle.lists.specs.Lists.{same}
+use Rattle.lists.proofs.ListLaws.{differ-same}
 
 same-cons : (x y : ℕ) (a b : List ℕ) → x ≡ y → same (x ∷ a) (y ∷ b) ≡ same a b
 unfolding same
@@ -30,3 +31,7 @@ module _ (a b : List ℕ) (i : ℕ) where
   pub same-end : length a ≤ i → length b ≤ i → same (drop i a) (drop i b) ≡ same a b → true ≡ same a b
   unfolding same
   same-end p q h = ap₂ same (sym (drop-of-length-le a p)) (sym (drop-of-length-le b q)) ∙ h
+
+-- lists of which one is longer differ
+pub same-longer : (a b : List ℕ) → (length a ≡ length b → ⊥) → false ≡ same a b
+same-longer a b h = sym (differ-same a b (λ e. h (ap length e)))
