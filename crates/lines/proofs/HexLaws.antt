@@ -22,12 +22,12 @@ use Rattle.lines.proofs.NumberLaws.{digit-bounds, is-digit, above-digit
 -- ---- digits
 
 -- a digit below 10 is written from 48 on
-hex-digit-low : (d : ℕ) → d < 10 → hexDigit d ≡ 48 + d
+pub hex-digit-low : (d : ℕ) → d < 10 → hexDigit d ≡ 48 + d
 unfolding hexDigit
 hex-digit-low d h = rw (lt-ltb d 10 h) refl
 
 -- a digit from 10 on is written from 97 on
-hex-digit-high : (d : ℕ) → 10 ≤ d → hexDigit d ≡ 87 + d
+pub hex-digit-high : (d : ℕ) → 10 ≤ d → hexDigit d ≡ 87 + d
 unfolding hexDigit
 hex-digit-high d h = rw (le-ltb d 10 h) refl
 
@@ -128,6 +128,21 @@ hex-digits (b ∷ s) (h, r) =
     cons-all isHexDigit (hexDigit (b / 16)) (hexDigit (b % 16) ∷ hex s) (digit-value (b / 16) (omega arith) .0)
     (cons-all isHexDigit (hexDigit (b % 16)) (hex s) (digit-value (b % 16) (omega arith) .0) (hex-digits s r))
 
+-- hex is not empty, of even length, and has digits alone
+pub hex-parts : (s : Bytes) → isHex s ≡ true → (0 < length s) × (length s % 2 ≡ 0) × (all isHexDigit s ≡ true)
+unfolding isHex
+hex-parts s e =
+    let (p, a) = and-holds (ltb 0 (length s) && eqb (length s % 2) 0) (all isHexDigit s) e in
+    let (l, m) = and-holds (ltb 0 (length s)) (eqb (length s % 2) 0) p in
+    (ltb-true 0 (length s) l, eqb-true (length s % 2) 0 m, a)
+
+-- and what is so is hex
+pub parts-hex : (s : Bytes) → 0 < length s → length s % 2 ≡ 0 → all isHexDigit s ≡ true → isHex s ≡ true
+unfolding isHex
+parts-hex s p m a =
+    let q = holds-and (ltb 0 (length s)) (eqb (length s % 2) 0) (lt-ltb 0 (length s) p) (eq-eqb (length s % 2) 0 m) in
+    holds-and (ltb 0 (length s) && eqb (length s % 2) 0) (all isHexDigit s) q a
+
 -- two digits for each byte
 pub length-hex : (s : Bytes) → length (hex s) ≡ 2 * length s
 unfolding hex
@@ -136,12 +151,7 @@ length-hex (b ∷ s) = omega (arith, length-hex s)
 
 -- bytes once written, at least one, are hex
 pub is-hex : (s : Bytes) → AreBytes s → 0 < length s → isHex (hex s) ≡ true
-unfolding isHex
-is-hex s h p =
-    let e = length-hex s in
-    holds-and (ltb 0 (length (hex s)) && eqb (length (hex s) % 2) 0) (all isHexDigit (hex s))
-    (holds-and (ltb 0 (length (hex s))) (eqb (length (hex s) % 2) 0) (lt-ltb 0 (length (hex s)) (omega arith)) (eq-eqb (length (hex s) % 2) 0 (omega arith)))
-    (hex-digits s h)
+is-hex s h p = let e = length-hex s in parts-hex (hex s) (omega arith) (omega arith) (hex-digits s h)
 
 -- hex is not the dash
 hex-no-dash : (s : Bytes) → same (hex s) dash ≡ false
@@ -173,12 +183,11 @@ hex-unhex (a ∷ b ∷ f) e h =
 
 -- a field that is hex is what is written for the bytes that it spells
 pub hex-was : (f : Bytes) → isHex f ≡ true → (f ≡ hexField (unhex f)) × AreBytes (unhex f)
-unfolding isHex hexField unhex
+unfolding hexField unhex
 hex-was f e =
-    let (p, a) = and-holds (ltb 0 (length f) && eqb (length f % 2) 0) (all isHexDigit f) e in
-    let (l, m) = and-holds (ltb 0 (length f)) (eqb (length f % 2) 0) p in
-    let (y, z) = hex-unhex f a (eqb-true (length f % 2) 0 m) in
-    (go f (ltb-true 0 (length f) l) (eqb-true (length f % 2) 0 m) y, z)
+    let (p, m, a) = hex-parts f e in
+    let (y, z) = hex-unhex f a m in
+    (go f p m y, z)
   where
     go : (f : Bytes) → 0 < length f → length f % 2 ≡ 0 → hex (unhex f) ≡ f → f ≡ hexField (unhex f)
     go [] p q y = absurd (omega arith)
@@ -207,12 +216,6 @@ pub hexField-some : (s : Bytes) → 0 < length s → hexField s ≡ hex s
 unfolding hexField
 hexField-some [] p = absurd (omega arith)
 hexField-some (b ∷ s) p = refl
-
--- a byte string is not written as the empty one
-pub hexField-full : (s : Bytes) → 0 < length (hexField s)
-unfolding hexField dash ascii hex
-hexField-full [] = omega arith
-hexField-full (b ∷ s) = omega arith
 
 -- a byte string as written has no tab and no newline
 pub hexField-plain : (s : Bytes) → AreBytes s → all isPlain (hexField s) ≡ true

@@ -3,4 +3,10 @@ pub mod NumberLaws
 pub mod HexLaws
 pub mod LineLaws
 pub mod PlaceLaws
+pub mod PartLaws
+pub mod SectionLaws
+pub mod SpellingLaws
+pub mod FieldLaws
+pub mod FormLaws
 pub mod ReadingLaws
+pub mod WritingLaws

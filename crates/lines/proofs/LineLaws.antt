@@ -3,20 +3,20 @@ use mathlib.Core.Path.{_≡_, refl, sym, _∙_, ap, ap₂}
 use mathlib.Core.Logic.{_⊎_, inl, inr}
 use mathlib.Core.Bool.{Bool, true, false, _&&_, cond}
 use mathlib.Core.List.{List, [], _∷_, _++_, map, flatMap, append-assoc, List·Memᴰ, List·Memᴰ·head, List·Memᴰ·tail, List·Memᴰ·cases-cons, List·Memᴰ·not-nil}
-use mathlib.Core.Option.{Option, none, some, bind, Option·elim, Option·map, Option·some-injective, Option·none-ne-some}
+use mathlib.Core.Option.{Option, none, some, bind, Option·elim, Option·some-injective, Option·none-ne-some}
 use Prim.Native.Nat.{ℕ, suc, _*_, _≤_, _<_}
 use native.Mathlib.Omega.{arith}
 use lib.Dec.{eqb, ltb}
 use lib.ListN.{length, length-append}
 use borrow.Author.Tests.{eq-eqb, ne-eqb, eqb-true, eqb-false, ltb-true}
-use Rattle.lists.specs.Choice.{_>>_}
+use Rattle.lists.specs.Choice.{provided, _>>_}
 use Rattle.lists.specs.Lists.{Bytes, all, same}
-use Rattle.lists.proofs.ListLaws.{and-holds, holds-and, test-true, test-some, bind-at, bind-some, map-some}
+use Rattle.lists.proofs.ListLaws.{and-holds, holds-and, provided-some, test-true, test-some, bind-at, bind-some, last-snoc, but-last-snoc, snoc-last}
 use Rattle.lists.proofs.ListLaws.{all-cons, all-append, same-refl, same-true, Lacks, lacks-append, all-lacks}
 use Rattle.hash.specs.Bytes.{AreBytes}
 use Rattle.lines.specs.Hex.{readHex}
 use Rattle.lines.specs.Field.{Field, number, bytes, Value, Values, readField, readFields, writeField, writeFields}
-use Rattle.lines.specs.Line.{tab, newline, Form, Read, ontoFirst, partsAt, ended, readLines, readAfter, readLine, andThen, leading, joined, line, writeLine}
+use Rattle.lines.specs.Line.{tab, newline, Form, Read, ontoFirst, partsAt, endedLines, openRest, readLines, readAfter, readLine, andThen, leading, joined, line, writeLine}
 use Rattle.lines.proofs.NumberLaws.{isPlain, read-decimal, decimal-read, decimal-plain}
 use Rattle.lines.proofs.HexLaws.{read-hex, hex-read, hexField-plain}
 
@@ -298,32 +298,21 @@ text-short k text (x ∷ xs) h =
     let j = h x (List·Memᴰ·head refl) in
     omega (arith, length-append (text x) (newline ∷ linesText (map text xs)))
 
--- a part that is not the last is a line
-ended-more : (p : Bytes) (ps : List Bytes) (q : Bytes) (qs : List Bytes) → ps ≡ q ∷ qs → ended (p ∷ ps) ≡ Option·map (λ (ls : List Bytes). p ∷ ls) (ended ps)
-unfolding ended
-ended-more p ps q qs e = rw e refl
+-- the parts of the text of lines are the lines, and an empty part after the last newline
+parts-lines : (ls : List Bytes) → AllLack newline ls → partsAt newline (linesText ls) ≡ ls ++ [] ∷ []
+unfolding partsAt
+parts-lines [] h = refl
+parts-lines (l ∷ ls) (h, i) = parts-more newline l (linesText ls) h ∙ ap (λ (ps : List Bytes). l ∷ ps) (parts-lines ls i)
 
 -- lines without inner newlines, each ended by one, read as themselves
 pub lines-joined : (ls : List Bytes) → AllLack newline ls → readLines (linesText ls) ≡ some ls
-unfolding readLines partsAt ended same
-lines-joined [] h = refl
-lines-joined (l ∷ ls) (h, i) =
-    let (q, qs, e) = parts-some newline (linesText ls) in
-    ap ended (parts-more newline l (linesText ls) h) ∙ ended-more l (partsAt newline (linesText ls)) q qs e
-    ∙ ap (Option·map (λ (ms : List Bytes). l ∷ ms)) (lines-joined ls i)
+unfolding readLines endedLines openRest provided same
+lines-joined ls h = rw (parts-lines ls h, last-snoc [] [] ls, but-last-snoc [] ls) refl
 
--- parts of which nothing stands after the last newline are lines and an empty part
-ended-was : (ps ls : List Bytes) → ended ps ≡ some ls → ps ≡ ls ++ [] ∷ []
-unfolding ended
-ended-was [] ls e = absurd (Option·none-ne-some ls e)
-ended-was (p ∷ []) ls e = go (same p []) refl e
-  where
-    go : (t : Bool) → same p [] ≡ t → cond t (some []) none ≡ some ls → p ∷ [] ≡ ls ++ [] ∷ []
-    go true q e = rw (← Option·some-injective [] ls e) (ap (λ (r : Bytes). r ∷ []) (same-true p [] q))
-    go false q e = absurd (Option·none-ne-some ls e)
-ended-was (p ∷ q ∷ ps) ls e =
-    let (ms, r, i) = map-some (λ (ms : List Bytes). p ∷ ms) (ended (q ∷ ps)) ls e in
-    rw (← i) (ap (λ (z : List Bytes). p ∷ z) (ended-was (q ∷ ps) ms r))
+-- a text is its ended lines and what stands after them
+pub parts-ended : (s : Bytes) → partsAt newline s ≡ endedLines s ++ openRest s ∷ []
+unfolding endedLines openRest
+parts-ended s = let (p, ps, e) = parts-some newline s in rw e (snoc-last [] p ps)
 
 -- lines and an empty part, joined by newlines, are the text of the lines
 joined-text : (ls : List Bytes) → joined newline (ls ++ [] ∷ []) ≡ linesText ls
@@ -341,7 +330,8 @@ all-lack-first k (p ∷ ps) qs h = (h .0, all-lack-first k ps qs (h .1))
 pub joined-lines : (s : Bytes) (ls : List Bytes) → readLines s ≡ some ls → (s ≡ linesText ls) × AllLack newline ls
 unfolding readLines
 joined-lines s ls e =
-    let q : partsAt newline s ≡ ls ++ [] ∷ [] = ended-was (partsAt newline s) ls e in
+    let (r, l) = provided-some (same (openRest s) []) (endedLines s) ls e in
+    let q : partsAt newline s ≡ ls ++ [] ∷ [] = parts-ended s ∙ ap₂ (λ (ms : List Bytes) (t : Bytes). ms ++ t ∷ []) l (same-true (openRest s) [] r) in
     (sym (joined-parts newline s) ∙ ap (joined newline) q ∙ joined-text ls, all-lack-first newline ls ([] ∷ []) (rw q at (parts-lack newline s)))
 
 -- ---- leading lines

@@ -26,22 +26,22 @@ at-end s i h = drop-of-length-le s {i = i} h
 -- ---- one step
 
 -- nothing stands before the byte k
-before-stop : (k b : ℕ) (s : Bytes) → b ≡ k → before k (b ∷ s) ≡ []
+pub before-stop : (k b : ℕ) (s : Bytes) → b ≡ k → before k (b ∷ s) ≡ []
 unfolding before
 before-stop k b s e = rw (eq-eqb b k e) refl
 
 -- any other byte stands before it
-before-byte : (k b : ℕ) (s : Bytes) → (b ≡ k → ⊥) → before k (b ∷ s) ≡ b ∷ before k s
+pub before-byte : (k b : ℕ) (s : Bytes) → (b ≡ k → ⊥) → before k (b ∷ s) ≡ b ∷ before k s
 unfolding before
 before-byte k b s n = rw (ne-eqb b k n) refl
 
 -- what follows the byte k stands after it
-after-stop : (k b : ℕ) (s : Bytes) → b ≡ k → after k (b ∷ s) ≡ s
+pub after-stop : (k b : ℕ) (s : Bytes) → b ≡ k → after k (b ∷ s) ≡ s
 unfolding after
 after-stop k b s e = rw (eq-eqb b k e) refl
 
 -- any other byte is passed over
-after-byte : (k b : ℕ) (s : Bytes) → (b ≡ k → ⊥) → after k (b ∷ s) ≡ after k s
+pub after-byte : (k b : ℕ) (s : Bytes) → (b ≡ k → ⊥) → after k (b ∷ s) ≡ after k s
 unfolding after
 after-byte k b s n = rw (ne-eqb b k n) refl
 

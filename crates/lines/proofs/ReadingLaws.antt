@@ -3,16 +3,16 @@ use mathlib.Core.Path.{_≡_, refl, sym, _∙_, ap}
 use mathlib.Core.Bool.{Bool, true, false, _&&_, false≢true}
 use mathlib.Core.List.{List, [], _∷_, _++_, append-nil}
 use mathlib.Core.Option.{Option, none, some}
-use Prim.Native.Nat.{ℕ, _+_, _-_, _*_, _%_, _≤_, _<_}
+use Prim.Native.Nat.{ℕ, _+_, _-_, _*_, _≤_, _<_}
 use native.Mathlib.Numerals.{add-one}
 use native.Mathlib.Omega.{arith}
-use lib.Dec.{eqb, leb, ltb}
+use lib.Dec.{eqb, leb}
 use lib.ListN.{length, take, drop, getD, set}
 use lib.Seq.{take-suc-set, append-snoc, take-all}
-use borrow.Author.Tests.{eq-eqb, ne-eqb, lt-ltb, le-leb, lt-leb, eqb-true}
+use borrow.Author.Tests.{eq-eqb, ne-eqb, le-leb, lt-leb, eqb-true}
 use Rattle.lists.specs.Choice.{provided, _>>_}
 use Rattle.lists.specs.Lists.{Bytes, all, same}
-use Rattle.lists.proofs.ListLaws.{holds-and, provided-true, bind-at, test-true, differ-same}
+use Rattle.lists.proofs.ListLaws.{provided-true, bind-at, test-true, differ-same}
 use Rattle.hash.specs.Bytes.{AreBytes}
 use Rattle.hash.specs.Sha256.{digestLength}
 use Rattle.lines.specs.Number.{ascii, isDigit, isDecimal, digitsAfter, readNumber}
@@ -20,7 +20,7 @@ use Rattle.lines.specs.Hex.{dash, isHexDigit, digitValue, unhex, isHex, 
 use Rattle.lines.specs.Field.{exactly, readField, writeField}
 use Rattle.lines.specs.Readings.{asDigest, digestIn}
 use Rattle.lines.proofs.NumberLaws.{is-digit}
-use Rattle.lines.proofs.HexLaws.{hex-unhex, hex-digits, length-hex, hexField-some}
+use Rattle.lines.proofs.HexLaws.{parts-hex, hex-unhex, hex-digits, length-hex, hexField-some}
 use Rattle.lines.proofs.LineLaws.{field-read}
 use Rattle.lines.proofs.PlaceLaws.{at-cons, at-end}
 
@@ -130,37 +130,25 @@ digest-other s n = no-digest s (λ v e. false≢true (sym n ∙ digest-was s v e
 
 -- 64 digits spell the bytes of their pairs
 pub digest-some : (s : Bytes) → length s ≡ 64 → all isHexDigit s ≡ true → digestIn s ≡ asDigest (some (unhex s))
-unfolding digestIn readField readHex isHex dash ascii
+unfolding digestIn readField readHex dash ascii
 digest-some s l a =
     let (h, b) = hex-unhex s a (omega arith) in
     let n : length (unhex s) ≡ digestLength = omega (arith, length-hex (unhex s), ap length h) in
-    let p = holds-and (ltb 0 (length s)) (eqb (length s % 2) 0) (lt-ltb 0 (length s) (omega arith)) (eq-eqb (length s % 2) 0 (omega arith)) in
-    let i : isHex s ≡ true = holds-and (ltb 0 (length s) && eqb (length s % 2) 0) (all isHexDigit s) p a in
+    let i = parts-hex s (omega arith) (omega arith) a in
     let d : same s dash ≡ false = differ-same s dash (λ q. let e : length s ≡ 1 = ap length q in omega arith) in
     let r : readHex s ≡ some (unhex s) = rw d (provided-true (isHex s) (unhex s) i) in
     ap asDigest (bind-at (readHex s) (λ (b : Bytes). eqb (length b) digestLength >> some b) (unhex s) r ∙ test-true _ _ (eq-eqb (length (unhex s)) digestLength n))
 
 module _ (s : Bytes) (i : ℕ) where
-  -- two digits are passed over
-  pub digit-pair : i + 1 < length s → isHexDigit (getD s i 0) ≡ true → isHexDigit (getD s (i + 1) 0) ≡ true
-      → all isHexDigit (drop i s) ≡ all isHexDigit (drop (i + 2) s)
+  -- a digit is passed over
+  pub digit-one : i < length s → isHexDigit (getD s i 0) ≡ true → all isHexDigit (drop i s) ≡ all isHexDigit (drop (i + 1) s)
   unfolding all
-  digit-pair h d e =
-      let l : i < length s = omega arith in
-      let p : i + 1 + 1 ≡ i + 2 = omega arith in
-      rw (at-cons s i l, at-cons s (i + 1) h, p, d, e) refl
+  digit-one h e = rw (at-cons s i h, e) refl
 
   -- a byte that is no digit is found
   pub digit-other : i < length s → isHexDigit (getD s i 0) ≡ false → all isHexDigit (drop i s) ≡ false
   unfolding all
   digit-other h e = rw (at-cons s i h, e) refl
-
-  -- and so is one after a digit
-  pub digit-other-second : i + 1 < length s → isHexDigit (getD s i 0) ≡ true → isHexDigit (getD s (i + 1) 0) ≡ false → all isHexDigit (drop i s) ≡ false
-  unfolding all
-  digit-other-second h d e =
-      let l : i < length s = omega arith in
-      rw (at-cons s i l, at-cons s (i + 1) h, d, e) refl
 
   -- a pair of digits spells a byte
   pub unhex-pair : i + 1 < length s → unhex (drop i s) ≡ (digitValue (getD s i 0) * 16 + digitValue (getD s (i + 1) 0)) ∷ unhex (drop (i + 2) s)
@@ -179,6 +167,18 @@ module _ (s : Bytes) (i : ℕ) where
   pub digits-none : length s ≤ i → all isHexDigit (drop i s) ≡ true
   unfolding all
   digits-none h = rw (at-end s i h) refl
+
+module _ (s : Bytes) (i : ℕ) where
+  -- two digits are passed over
+  pub digit-pair : i + 1 < length s → isHexDigit (getD s i 0) ≡ true → isHexDigit (getD s (i + 1) 0) ≡ true
+      → all isHexDigit (drop i s) ≡ all isHexDigit (drop (i + 2) s)
+  digit-pair h d e =
+      let p : i + 1 + 1 ≡ i + 2 = omega arith in
+      digit-one s i (omega arith) d ∙ digit-one s (i + 1) h e ∙ ap (λ (k : ℕ). all isHexDigit (drop k s)) p
+
+  -- a byte that is no digit is found after a digit too
+  pub digit-other-second : i + 1 < length s → isHexDigit (getD s i 0) ≡ true → isHexDigit (getD s (i + 1) 0) ≡ false → all isHexDigit (drop i s) ≡ false
+  digit-other-second h d e = digit-one s i (omega arith) d ∙ digit-other s (i + 1) h e
 
 -- one element more of a list that is filled from the front: what is filled and what is left stay the whole
 pub fill-step : (r ys vs : List ℕ) (k v : ℕ) → k < length r → take k r ++ v ∷ ys ≡ vs → take (k + 1) (set r k v) ++ ys ≡ vs

@@ -1,7 +1,7 @@
 -- Byte strings in lower-case hex; the empty one is `-` (paper 01, Response lines).
 use mathlib.Core.Bool.{Bool, _&&_, _||_, cond}
 use mathlib.Core.List.{[], _∷_}
-use mathlib.Core.Option.{Option, some}
+use mathlib.Core.Option.{Option, some, Option·map}
 use Prim.Native.Nat.{ℕ, _+_, _-_, _*_, _/_, _%_}
 use lib.Dec.{eqb, leb, ltb}
 use lib.ListN.{length}
@@ -32,6 +32,10 @@ isHex s = ltb 0 (length s) && eqb (length s % 2) 0 && all isHexDigit s
 
 unfoldable pub readHex : Bytes → Option Bytes
 readHex s = cond (same s dash) (some []) (provided (isHex s) (unhex s))
+
+-- the length of the byte string that a field spells
+unfoldable pub spelledLength : Bytes → Option ℕ
+spelledLength s = Option·map (λ (b : Bytes). length b) (readHex s)
 
 -- ---- writing
 

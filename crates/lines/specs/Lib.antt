@@ -2,4 +2,6 @@ pub mod Number
 pub mod Hex
 pub mod Field
 pub mod Line
+pub mod Cursor
+pub mod Writing
 pub mod Readings

@@ -1,11 +1,11 @@
 -- Texts of lines: fields parted by one tab, each line ended by the byte 0x0A (paper 01, Response lines).
 use mathlib.Core.Bool.{cond}
 use mathlib.Core.List.{List, [], _∷_, _++_}
-use mathlib.Core.Option.{Option, none, some, Option·elim, Option·map, bind as _>>=_}
+use mathlib.Core.Option.{Option, none, Option·elim, bind as _>>=_}
 use Prim.Native.Nat.{ℕ}
 use lib.Dec.{eqb}
-use Rattle.lists.specs.Choice.{_>>_}
-use Rattle.lists.specs.Lists.{Bytes, same}
+use Rattle.lists.specs.Choice.{provided, _>>_}
+use Rattle.lists.specs.Lists.{Bytes, allButLast, lastOr, same}
 use Rattle.lines.specs.Field.{Field, Values, readFields, writeFields}
 
 abbrev pub tab : ℕ
@@ -42,15 +42,16 @@ unfoldable pub after : ℕ → Bytes → Bytes
 after k [] = []
 after k (b ∷ s) = cond (eqb b k) s (after k s)
 
--- the lines, if nothing stands after the last newline
-unfoldable pub ended : List Bytes → Option (List Bytes)
-ended [] = none
-ended (p ∷ []) = cond (same p []) (some []) none
-ended (p ∷ q ∷ ps) = Option·map (λ (ls : List Bytes). p ∷ ls) (ended (q ∷ ps))
+-- the lines that a newline ends, each without it, and what stands after the last newline
+unfoldable pub endedLines : Bytes → List Bytes
+endedLines s = allButLast (partsAt newline s)
 
--- the lines of a text, each without its newline
+unfoldable pub openRest : Bytes → Bytes
+openRest s = lastOr [] (partsAt newline s)
+
+-- the lines of a text, if nothing stands after the last newline
 unfoldable pub readLines : Bytes → Option (List Bytes)
-readLines s = ended (partsAt newline s)
+readLines s = provided (same (openRest s) []) (endedLines s)
 
 -- the words, then the fields
 unfoldable pub readAfter : List Bytes → (fs : List Field) → List Bytes → Option (Values fs)

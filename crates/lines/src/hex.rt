@@ -1,15 +1,45 @@
-// Values in lower-case hex (paper 01, Response lines).
+// Byte strings in lower-case hex (paper 01, Response lines).
 ghost use mathlib.Core.Path.{_≡_};
 ghost use mathlib.Core.Bool.{true};
 ghost use mathlib.Core.Option.{none};
 ghost use Prim.Native.Nat.{_<_};
-ghost use Rattle.lines.specs.Hex.{isHexDigit, digitValue};
-ghost use Rattle.lines.specs.Readings.{asDigest, digestIn};
+ghost use Rattle.lines.specs.Hex.{isHexDigit, digitValue, spelledLength};
+ghost use Rattle.lines.specs.Readings.{spellingOf, asDigest, digestIn};
+use crate::part::equal;
 
 // A value of 32 bytes that was read, or none and zeros.
 pub struct Digest {
     pub found: bool,
     pub value: [u8; 32],
+}
+
+// The length of the byte string that a field spells, or it spells none.
+pub enum Spelling {
+    Length(usize),
+    NotHex,
+}
+
+// The length of the byte string that a field spells: hex digits in pairs, or `-` for the empty string.
+pub fn spelled_length(s: &[u8]) -> Spelling
+    ensures { λ r. ⌜ spellingOf r ≡ spelledLength (now (s .entry)) ⌝ }
+{
+    if equal(s, b"-") {
+        return Spelling::Length(0);
+    }
+    if s.len() == 0 {
+        return Spelling::NotHex;
+    }
+    if s.len() % 2 != 0 {
+        return Spelling::NotHex;
+    }
+    let mut i: usize = 0;
+    while i < s.len() {
+        if !is_hex_digit(s[i]) {
+            return Spelling::NotHex;
+        }
+        i += 1;
+    }
+    Spelling::Length(s.len() / 2)
 }
 
 // The value of 32 bytes that s spells, if it is exactly the digits of one.
@@ -57,7 +87,7 @@ fn is_hex_digit(b: u8) -> bool
 }
 
 // The value of a digit.
-fn digit_value(b: u8) -> u8
+pub(crate) fn digit_value(b: u8) -> u8
     requires { ⌜ isHexDigit b ≡ true ⌝ }
     ensures { λ r. ⌜ (r ≡ digitValue b) × (r < 16) ⌝ }
 {

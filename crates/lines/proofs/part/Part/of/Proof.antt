@@ -1,0 +1,74 @@
+-- `lines::part::Part::of` meets its contract.
+use mathlib.Core.Path.{refl}
+use native.Mathlib.Omega.{arith}
+use borrow.Author.Needs.{needs}
+use Rattle.lines.specs.Readings.{partOf}
+use Rattle.lines.proofs.PartLaws.{part-beyond, part-back, part-rest}
+use Rattle.lines.proofs.part.Part.of.Statement.{statement}
+use Rattle.lines.proofs.part.Part.of.Tie as tie
+
+sub-result : tie.Need-sub-result
+sub-result c = search needs
+
+part-result-start : tie.Need-part-result-start
+part-result-start c = search needs
+
+part-result-end : tie.Need-part-result-end
+part-result-end c = search needs
+
+returns : tie.Need-returns
+returns c = part-beyond _ _ (omega arith)
+
+sub-result-2 : tie.Need-sub-result-2
+sub-result-2 c = search needs
+
+part-result-start-2 : tie.Need-part-result-start-2
+part-result-start-2 c = search needs
+
+part-result-end-2 : tie.Need-part-result-end-2
+part-result-end-2 c = search needs
+
+returns-2 : tie.Need-returns-2
+returns-2 c = part-back _ _ (omega arith)
+
+sub-result-3 : tie.Need-sub-result-3
+sub-result-3 c = search needs
+
+part-result-start-3 : tie.Need-part-result-start-3
+part-result-start-3 c = search needs
+
+part-result-end-3 : tie.Need-part-result-end-3
+part-result-end-3 c = search needs
+
+returns-3 : tie.Need-returns-3
+returns-3 c = part-rest _ _ (omega arith)
+
+part-result-start-4 : tie.Need-part-result-start-4
+part-result-start-4 c = search needs
+
+part-result-end-4 : tie.Need-part-result-end-4
+part-result-end-4 c = search needs
+
+returns-4 : tie.Need-returns-4
+unfolding partOf
+returns-4 c = refl
+
+pub of-spec : {M : Type 1} → statement M
+of-spec =
+    tie.close
+    (tie.spec
+    sub-result
+    part-result-start
+    part-result-end
+    returns
+    sub-result-2
+    part-result-start-2
+    part-result-end-2
+    returns-2
+    sub-result-3
+    part-result-start-3
+    part-result-end-3
+    returns-3
+    part-result-start-4
+    part-result-end-4
+    returns-4)

@@ -1,0 +1,127 @@
+// Reading on from a cursor: lines of a text, fields of a line (paper 01, Response lines).
+ghost use mathlib.Core.Path.{_≡_};
+ghost use Rattle.lines.specs.Number.{readNumber};
+ghost use Rattle.lines.specs.Hex.{spelledLength};
+ghost use Rattle.lines.specs.Cursor.{lineAt, fieldAt, readAt, wordAt};
+ghost use Rattle.lines.specs.Readings.{lineOf, wordOf, nextNumberOf, nextBytesOf};
+use crate::hex::Spelling;
+use crate::hex::spelled_length;
+use crate::line::span;
+use crate::number::Number;
+use crate::number::read_number;
+use crate::part::equal;
+
+// A place in a text or in a line, from which it is read on. It goes in by value, and comes back with what was read, behind it.
+pub struct Cursor {
+    pub at: usize,
+}
+
+// A line, by the place of the newline that ends it; or what no newline ends.
+pub enum NextLine {
+    Ended { stop: usize, next: Cursor },
+    Open,
+}
+
+// A field that is a certain word, or another.
+pub enum NextWord {
+    Same(Cursor),
+    Other,
+}
+
+// A field that is a decimal number not above a bound, or another.
+pub enum NextNumber {
+    Read { value: u64, next: Cursor },
+    Unread,
+}
+
+// A field that spells a byte string in hex, by that string's length, or another.
+pub enum NextBytes {
+    Spelled { length: usize, next: Cursor },
+    Unspelled,
+}
+
+impl Cursor {
+    // The line that begins here in a text.
+    pub fn line(self, text: &[u8]) -> NextLine
+        ensures { λ r. ⌜ lineOf r ≡ lineAt (now (text .entry)) (self .at) ⌝ }
+    {
+        let at = self.at;
+        let stop = span(text, at, b'\n');
+        if stop < text.len() {
+            return NextLine::Ended {
+                stop,
+                next: Cursor { at: stop + 1 },
+            };
+        }
+        NextLine::Open
+    }
+
+    // The field that begins here in a line: the part of the line that it fills.
+    pub fn field(self, line: &[u8]) -> &[u8]
+        ensures { λ r. ⌜ now r ≡ fieldAt (now (line .entry)) (self .at) ⌝ }
+    {
+        let at = self.at;
+        if line.len() < at {
+            return &line[0..0];
+        }
+        let stop = span(line, at, b'\t');
+        &line[at..stop]
+    }
+
+    // The field that begins here in a line, as a word.
+    pub fn word(self, line: &[u8], word: &[u8]) -> NextWord
+        ensures { λ r. ⌜ wordOf r ≡ wordAt (now (word .entry)) (now (line .entry)) (self .at) ⌝ }
+    {
+        let at = self.at;
+        if line.len() < at {
+            return NextWord::Other;
+        }
+        let f = self.field(line);
+        if equal(f, word) {
+            return NextWord::Same(Cursor {
+                at: at + f.len() + 1,
+            });
+        }
+        NextWord::Other
+    }
+
+    // The same as a decimal number not above a bound.
+    pub fn number(self, line: &[u8], bound: u64) -> NextNumber
+        ensures { λ r. ⌜ nextNumberOf r ≡ readAt (readNumber bound) (now (line .entry)) (self .at) ⌝ }
+    {
+        let at = self.at;
+        if line.len() < at {
+            return NextNumber::Unread;
+        }
+        let f = self.field(line);
+        match read_number(f, bound) {
+            Number::Value(value) => NextNumber::Read {
+                value,
+                next: Cursor {
+                    at: at + f.len() + 1,
+                },
+            },
+            Number::Broken => NextNumber::Unread,
+        }
+    }
+
+    // The same as a byte string in hex.
+    pub fn bytes(self, line: &[u8]) -> NextBytes
+        ensures { λ r. ⌜ nextBytesOf r ≡ readAt spelledLength (now (line .entry)) (self .at) ⌝ }
+    {
+        let at = self.at;
+        if line.len() < at {
+            return NextBytes::Unspelled;
+        }
+        let f = self.field(line);
+        match spelled_length(f) {
+            Spelling::Length(length) => NextBytes::Spelled {
+                length,
+                next: Cursor {
+                    at: at + f.len() + 1,
+                },
+            },
+            Spelling::NotHex => NextBytes::Unspelled,
+        }
+    }
+}
