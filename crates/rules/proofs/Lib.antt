@@ -2,6 +2,8 @@ pub mod Computing
 pub mod StateLaws
 pub mod StateTextLaws
 pub mod MapLaws
+pub mod EncodingLaws
+pub mod ConfigurationLaws
 pub mod RefusalLaws
 pub mod Running
 pub mod RuleExamples

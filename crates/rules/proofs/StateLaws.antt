@@ -1,18 +1,18 @@
 -- What a valid state keeps to (specs/State.antt).
-use mathlib.Core.Path.{_≡_, refl, _∙_, ap}
+use mathlib.Core.Path.{_≡_, refl, _∙_}
 use mathlib.Core.Bool.{true, _||_}
 use mathlib.Core.List.{List·Memᴰ}
-use Prim.Native.Nat.{ℕ, _+_, _*_, _^_, _≤_, _<_}
-use native.Mathlib.Decide.{decLt}
+use Prim.Native.Nat.{ℕ, _*_, _≤_, _<_}
 use native.Mathlib.Omega.{arith}
 use lib.Dec.{eqb, leb, ltb}
 use lib.ListN.{length}
-use lib.Count.{ones, onesIn, ones-cat, ones-le}
 use borrow.Author.Tests.{le-leb, lt-ltb, eq-eqb, leb-true, ltb-true, eqb-true}
 use Rattle.lists.specs.Lists.{Bytes, every, rising}
 use Rattle.lists.proofs.ListLaws.{every-cons, all-at, at-all, mapped-at, all-mapped}
 use Rattle.tree.specs.LogTree.{fullSubtrees}
+use Rattle.tree.specs.LogHead.{levelLimit}
 use Rattle.tree.proofs.FullLaws.{full-length}
+use Rattle.tree.proofs.DecisionLaws.{ones-limit}
 use Rattle.rules.specs.Limits.{labelLimit, treeSizeLimit, greatestVersion, mapLimit, hashLength, numberBound, valuesBlockLength}
 use Rattle.rules.specs.State.{MapEntry, State, positions, versions, isValid}
 
@@ -74,17 +74,9 @@ valid-is s v =
     let t : leb (s .time) numberBound ≡ true = le-leb _ _ (v .timeBound) in
     rw (a, b, t, v .timeFits, c, d, e, v .mapRises, f, g) refl
 
--- a valid state has at most 40 values: below 2 ^ 40 a size has no more than 40 digits, and 2 ^ 40 itself has one set digit
-pub values-few : (s : State) → Valid s → length (s .values) ≤ 40
-unfolding ones onesIn
-values-few s v = let b = v .sizeFits in rw (v .valuesCount ∙ full-length (s .size)) (go (s .size) b (decLt (s .size) (2 ^ 40)))
-  where
-    go : (m : ℕ) → m ≤ 2 ^ 40 → Dec (m < 2 ^ 40) → ones m ≤ 40
-    go m b (yes h) = ones-le 40 m h
-    go m b (no h) =
-        let z : m ≡ 1 * 2 ^ 40 + 0 = omega arith in
-        let o : ones m ≡ 1 = ap ones z ∙ ones-cat 40 1 0 (omega arith) in
-        omega arith
+-- a valid state has at most as many values as a log has levels
+pub values-few : (s : State) → Valid s → length (s .values) ≤ levelLimit
+values-few s v = rw (v .valuesCount ∙ full-length (s .size)) (ones-limit levelLimit (s .size) (omega arith) (v .sizeFits))
 
 -- the values of a valid state fit their block
 pub values-fit : (s : State) → Valid s → hashLength * length (s .values) ≤ valuesBlockLength

@@ -7,10 +7,10 @@ use Prim.Native.Nat.{_≤_}
 use native.Mathlib.Omega.{arith}
 use lib.Dec.{eqb}
 use lib.ListN.{length, length-append}
-use borrow.Author.Tests.{le-leb, eq-eqb, eqb-true}
+use borrow.Author.Tests.{le-leb, eq-eqb}
 use Rattle.lists.specs.Choice.{_>>_}
 use Rattle.lists.specs.Lists.{Bytes, all, same}
-use Rattle.lists.proofs.ListLaws.{test-some, bind-some}
+use Rattle.lists.proofs.ListLaws.{none-left, test-some, bind-some}
 use Rattle.hash.specs.Bytes.{AreBytes}
 use Rattle.lines.specs.Number.{ascii, decimal}
 use Rattle.lines.specs.Hex.{hexField}
@@ -153,11 +153,6 @@ pair-was l e h =
     let (x, r, q) = bind-some (readLine pairForm l) (λ (x : Read pairForm). some (record { position = x .0; version = x .1 .0 })) e h in
     let i : record { position = x .0; version = x .1 .0 } ≡ e = Option·some-injective (record { position = x .0; version = x .1 .0 }) e q in
     rw (← i) (line-read pairForm l x r .0)
-
--- where the number of lines is 0, there is none
-none-left : (ls : List Bytes) → eqb (length ls) 0 ≡ true → ls ≡ []
-none-left [] e = refl
-none-left (l ∷ ls) e = let z = eqb-true (length (l ∷ ls)) 0 e in absurd (omega arith)
 
 -- lines that read as a state are its lines
 lines-read : (ls : List Bytes) (s : State) → readStateLines ls ≡ some s → (ls ≡ stateLines s) × HasBytes s

@@ -1,12 +1,12 @@
 -- What the calls answer, and what they leave in the bytes lent to them (paper 01, Sixteen numbers): search and monitoring, and the signed text;
 -- first over states, then as C programs call them, over state texts.
-use mathlib.Core.List.{[], _++_}
+use mathlib.Core.List.{[]}
 use mathlib.Core.Option.{Option, none, some, Option·elim, Option·getD}
 use Prim.Native.Nat.{ℕ, zero, suc, _+_, _*_, _^_}
 use lib.Dec.{leb}
-use lib.ListN.{length, take, drop}
+use lib.ListN.{length}
 use Rattle.lists.specs.Choice.{choose}
-use Rattle.lists.specs.Lists.{Bytes}
+use Rattle.lists.specs.Lists.{Bytes, written}
 use Rattle.tree.specs.LogTree.{fullValues}
 use Rattle.rules.specs.Limits.{responseLimit, stateTextLimit}
 use Rattle.rules.specs.State.{State}
@@ -76,10 +76,6 @@ valueFound monitored = none
 unfoldable pub valueOf : Judgement → Option Bytes
 valueOf (refused k) = none
 valueOf (passed c) = valueFound (c .parts .finding)
-
--- bytes put into others, from a place on where they fit; all others stay
-unfoldable pub written : Bytes → ℕ → Bytes → Bytes
-written s at t = take at s ++ t ++ drop (at + length t) s
 
 -- lent bytes afterwards: what there is to write, from byte 0
 unfoldable pub writtenFirst : Bytes → Option Bytes → Bytes
