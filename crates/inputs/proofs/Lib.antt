@@ -1,0 +1,16 @@
+pub mod VrfOutputLaws
+pub mod RoomLaws
+pub mod PairLaws
+pub mod StateBlockLaws
+pub mod ConfigurationReadingLaws
+pub mod ResponseLineLaws
+pub mod StateWriterLaws
+pub mod StateRoundTripLaws
+pub mod FrontLaws
+pub mod StateLineLaws
+pub mod StateRunLaws
+pub mod StateReaderLaws
+pub mod ResponseLaws
+pub mod ResponseFieldLaws
+pub mod ResponseSectionLaws
+pub mod ResponseBodyLaws

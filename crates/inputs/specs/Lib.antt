@@ -1,0 +1,9 @@
+pub mod Configuration
+pub mod VrfOutputs
+pub mod State
+pub mod StateReader
+pub mod StateWriter
+pub mod ResponseLines
+pub mod Response
+pub mod ResponseHeader
+pub mod ResponseSections

@@ -1,0 +1,179 @@
+// The lines of a response before its sections (paper 01, Response lines): kind, identifier, label, n, and the target of a search.
+ghost use mathlib.Core.Path.{_≡_};
+ghost use Rattle.lines.specs.Line.{readLine};
+ghost use Rattle.rules.specs.Response.{search};
+ghost use Rattle.rules.specs.ResponseText.{headForm, readResponse};
+ghost use Rattle.inputs.specs.ResponseLines.{kindOf};
+ghost use Rattle.inputs.specs.ResponseHeader.{readKt, readFrom, readFinding, openedOf, sizeOf, findingOf, headedOf, HeaderWithin};
+use crate::response_lines::HeadLine;
+use crate::response_lines::Kind;
+use crate::response_lines::KtLine;
+use crate::response_lines::Target;
+use crate::response_lines::TargetLine;
+use crate::response_lines::head_line;
+use crate::response_lines::kt_line;
+use crate::response_lines::target_line;
+use lines::cursor::Cursor;
+use lines::cursor::NextLine;
+use lines::part::Part;
+
+// What stands before the sections, and the place where these begin.
+pub(crate) struct Header {
+    pub(crate) kind: Kind,
+    pub(crate) identifier: Part,
+    pub(crate) label: Part,
+    pub(crate) size: u64,
+    pub(crate) target: Target,
+    pub(crate) next: usize,
+}
+
+// A header, or lines that begin no response.
+pub(crate) enum ReadHeader {
+    Headed(Header),
+    Headless,
+}
+
+// A first line, and the place after it.
+enum KtFrom {
+    Opened {
+        kind: Kind,
+        identifier: Part,
+        label: Part,
+        next: usize,
+    },
+    Unopened,
+}
+
+// A `head` line, with n, and the place after it.
+enum SizeFrom {
+    Sized { size: u64, next: usize },
+    Unsized,
+}
+
+// What a response of a kind found, and the place after it.
+enum FindingFrom {
+    Found { target: Target, next: usize },
+    Unfound,
+}
+
+// The lines before the sections, each where the one before it ends.
+pub(crate) fn read_header(text: &[u8]) -> ReadHeader
+    ensures header { λ r. ⌜ headedOf (now (text .entry)) r ≡ readResponse (now (text .entry)) ⌝ }
+    ensures within { λ r. ⌜ HeaderWithin (now (text .entry)) r ⌝ }
+{
+    match kt_from(text) {
+        KtFrom::Unopened => ReadHeader::Headless,
+        KtFrom::Opened {
+            kind,
+            identifier,
+            label,
+            next,
+        } => match size_from(text, next) {
+            SizeFrom::Unsized => ReadHeader::Headless,
+            SizeFrom::Sized { size, next } => match finding_from(text, kind, next) {
+                FindingFrom::Unfound => ReadHeader::Headless,
+                FindingFrom::Found { target, next } => ReadHeader::Headed(Header {
+                    kind,
+                    identifier,
+                    label,
+                    size,
+                    target,
+                    next,
+                }),
+            },
+        },
+    }
+}
+
+// The first line, with kind, identifier and label.
+fn kt_from(text: &[u8]) -> KtFrom
+    ensures { λ r. ⌜ openedOf (now (text .entry)) r ≡ readFrom readKt (now (text .entry)) 0 ⌝ }
+{
+    let start = Cursor { at: 0 };
+    match start.line(text) {
+        NextLine::Ended { stop, next } => match kt_line(&text[0..stop]) {
+            KtLine::Kt {
+                kind,
+                identifier,
+                label,
+            } => KtFrom::Opened {
+                kind,
+                identifier,
+                label,
+                next: next.at,
+            },
+            KtLine::NoKt => KtFrom::Unopened,
+        },
+        NextLine::Open => KtFrom::Unopened,
+    }
+}
+
+// The `head` line at a place.
+fn size_from(text: &[u8], at: usize) -> SizeFrom
+    ensures { λ r. ⌜ sizeOf r ≡ readFrom (readLine headForm) (now (text .entry)) at ⌝ }
+{
+    let start = Cursor { at };
+    match start.line(text) {
+        NextLine::Ended { stop, next } => match head_line(&text[at..stop]) {
+            HeadLine::Head(size) => SizeFrom::Sized {
+                size,
+                next: next.at,
+            },
+            HeadLine::NoHead => SizeFrom::Unsized,
+        },
+        NextLine::Open => SizeFrom::Unsized,
+    }
+}
+
+// What stands at a place after the `head` line: for a search its `target` line, for monitoring no line.
+fn finding_from(text: &[u8], kind: Kind, at: usize) -> FindingFrom
+    ensures { λ r. ⌜ findingOf (now (text .entry)) kind r ≡ readFinding (kindOf kind) (now (text .entry)) at ⌝ }
+{
+    match kind {
+        Kind::Search => target_from(text, at),
+        Kind::Monitor => FindingFrom::Found {
+            target: no_target(),
+            next: at,
+        },
+    }
+}
+
+// The `target` line at a place, its fields as parts of the text.
+fn target_from(text: &[u8], at: usize) -> FindingFrom
+    ensures { λ r. ⌜ findingOf (now (text .entry)) Kind.Search r ≡ readFinding search (now (text .entry)) at ⌝ }
+{
+    let start = Cursor { at };
+    match start.line(text) {
+        NextLine::Ended { stop, next } => match target_line(&text[at..stop]) {
+            TargetLine::Sought(t) => {
+                let opening = t.opening;
+                let value = t.value;
+                FindingFrom::Found {
+                    target: Target {
+                        version: t.version,
+                        opening: Part {
+                            start: at + opening.start,
+                            stop: at + opening.stop,
+                        },
+                        value: Part {
+                            start: at + value.start,
+                            stop: at + value.stop,
+                        },
+                    },
+                    next: next.at,
+                }
+            }
+            TargetLine::NoTarget => FindingFrom::Unfound,
+        },
+        NextLine::Open => FindingFrom::Unfound,
+    }
+}
+
+// The target of a response that has none.
+fn no_target() -> Target {
+    Target {
+        version: 0,
+        opening: Part { start: 0, stop: 0 },
+        value: Part { start: 0, stop: 0 },
+    }
+}
