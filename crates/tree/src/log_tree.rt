@@ -6,7 +6,6 @@ ghost use Prim.Native.Nat.{_+_, _-_, _*_, _<_, _≤_, _^_};
 ghost use lib.Count.{ones};
 ghost use lib.Dec.{ltb, eqb};
 ghost use lib.ListN.{length};
-ghost use Rattle.lists.specs.Lists.{same};
 ghost use Rattle.hash.specs.Sha256.{digestLength};
 ghost use Rattle.tree.specs.LogTree.{isFull, keptValue, agrees, shown};
 ghost use Rattle.tree.specs.LogText.{entriesAt, nodesIn};
@@ -18,6 +17,7 @@ use crate::log_text::position_at;
 use crate::log_text::stored_at;
 use crate::search_tree::power;
 use hash::strings::digest_66;
+use lines::part::equal;
 
 // The bytes of a value.
 const VALUE: usize = 32;
@@ -119,20 +119,6 @@ pub struct Walked {
     pub met: bool,
 }
 
-// Whether two values are the same.
-fn same_value(a: [u8; 32], b: [u8; 32]) -> bool
-    ensures { λ r. ⌜ r ≡ same a b ⌝ }
-{
-    let mut i: usize = 0;
-    while i < VALUE {
-        if a[i] != b[i] {
-            return false;
-        }
-        i += 1;
-    }
-    true
-}
-
 // The kept value of a full subtree: before it stand those of wider ones.
 fn kept_value(size: u64, kept: &[u8], start: u64, width: u64) -> [u8; 32]
     requires { ⌜ Whole start width × (isFull size (range start width) ≡ true) ⌝ }
@@ -149,7 +135,7 @@ fn is_met(size: u64, kept: &[u8], start: u64, width: u64, value: [u8; 32]) -> bo
 {
     if is_full(size, start, width) {
         let v = kept_value(size, kept, start, width);
-        return same_value(value, v);
+        return equal(&value, &v);
     }
     true
 }

@@ -14,14 +14,21 @@ kept-value-requires c κs =
     let p = c .before .before .before .pre in
     ((p .0, sym (c .before .is-full .ensures) ∙ c .if1 .taken), (p .1, p .2))
 
-same-value-requires : tie.Need-same-value-requires
-same-value-requires c κs = search needs
+slice-aggregate-equal : tie.Need-slice-aggregate-equal
+slice-aggregate-equal c = search needs
+
+slice-aggregate-equal-2 : tie.Need-slice-aggregate-equal-2
+slice-aggregate-equal-2 c = search needs
+
+equal-requires : tie.Need-equal-requires
+equal-requires c κs = search needs
 
 returns : tie.Need-returns
 unfolding knownIn
 returns c =
-    let at2 = c .before .before in
-    c .same-value .ensures ∙ agrees-full _ _ _ (sym (at2 .before .is-full .ensures) ∙ at2 .if1 .taken) _ (c .before .kept-value .ensures)
+    let at = c .before .before .before in
+    let at2 = at .before in
+    c .equal .ensures ∙ agrees-full _ _ _ (sym (at2 .before .is-full .ensures) ∙ at2 .if1 .taken) _ (at .kept-value .ensures)
 
 returns-2 : tie.Need-returns-2
 unfolding knownIn
@@ -29,4 +36,4 @@ returns-2 c = agrees-none _ _ _ (sym (c .before .is-full .ensures) ∙ c .if1 .l
 
 pub is-met-spec : {M : Type 1} → statement M
 is-met-spec =
-    tie.close (tie.spec is-full-requires kept-value-requires same-value-requires returns returns-2)
+    tie.close (tie.spec is-full-requires kept-value-requires slice-aggregate-equal slice-aggregate-equal-2 equal-requires returns returns-2)
