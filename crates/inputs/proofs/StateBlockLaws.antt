@@ -1,7 +1,7 @@
 -- Laws of the struct of a state (specs/State.antt): it and the state stand for each other, and its tests decide whether the state is valid.
 use mathlib.Core.Path.{_≡_, refl, sym, _∙_, ap}
 use mathlib.Core.Bool.{Bool, true, false, _&&_, _||_}
-use mathlib.Core.List.{flatten}
+use mathlib.Core.List.{flatten, List·Memᴰ}
 use mathlib.Core.Option.{Option, none, some, Option·none-ne-some}
 use Prim.Native.Nat.{ℕ, _*_, _≤_}
 use native.Mathlib.Omega.{arith}
@@ -94,14 +94,13 @@ block-room s v =
       versionsEnd = padded-room mapLimit (length (s .monitoringMap)) (versions (s .monitoringMap)) (length-map (s .monitoringMap) (λ (x : MapEntry). x .version));
     }
 
--- what fills the struct of a valid state is the state
-block-contents : (s : State) → Valid s → contents (blockOf s) ≡ s
+-- what fills the struct of a state is the state, if it has as many values as its size tells, each of its length
+pub block-contents : (s : State) → length (s .values) ≡ ones (s .size) → ((v : Bytes) → List·Memᴰ v (s .values) → length v ≡ hashLength) → contents (blockOf s) ≡ s
 unfolding contents blockOf
-block-contents s v =
+block-contents s n h =
     let m = s .monitoringMap in
-    let (n, _) = values-length s v in
     let a = take-padded labelLimit (length (s .label)) (s .label) refl in
-    let w = joined-padded hashLength (ones (s .size)) valuesBlockLength (s .values) n (v .valueLength) in
+    let w = joined-padded hashLength (ones (s .size)) valuesBlockLength (s .values) n h in
     let p = take-padded mapLimit (length m) (positions m) (length-map m (λ (x : MapEntry). x .position)) in
     let q = take-padded mapLimit (length m) (versions m) (length-map m (λ (x : MapEntry). x .version)) in
     rw (a, w, p, q, map-made m) refl
@@ -111,7 +110,7 @@ pub block-state : (s : State) → isValid s ≡ true → stateOf (blockOf s) ≡
 unfolding stateOf
 block-state s e =
     let v = valid-was s e in
-    provided-true (roomIsZero (blockOf s)) (contents (blockOf s)) (room-is (blockOf s) (block-room s v)) ∙ ap some (block-contents s v)
+    provided-true (roomIsZero (blockOf s)) (contents (blockOf s)) (room-is (blockOf s) (block-room s v)) ∙ ap some (block-contents s (values-length s v .0) (v .valueLength))
 
 -- the struct of the state that fills a struct is that struct
 contents-block : (b : StateBlock) → Sized b → RoomFits b → Valid (contents b) → blockOf (contents b) ≡ b

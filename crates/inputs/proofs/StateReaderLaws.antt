@@ -14,7 +14,6 @@ use Rattle.lists.specs.Choice.{provided, _>>_, given}
 use Rattle.lists.specs.Lists.{Bytes, same}
 use Rattle.lists.proofs.ListLaws.{provided-then, test-then, test-none, none-left, choose-true, choose-false, same-true}
 use Rattle.hash.specs.Bytes.{padded}
-use Rattle.hash.proofs.BytesLaws.{take-padded}
 use Rattle.lines.specs.Line.{Read, endedLines, openRest, readLines, readLine, leading}
 use Rattle.lines.specs.Cursor.{lineAt}
 use Rattle.lines.proofs.LineLaws.{leading-each}
@@ -31,11 +30,9 @@ use Rattle.inputs.specs.declared.state.State.{State as StateBlock}
 use Rattle.inputs.specs.declared.state_reader.SizeLine.{SizeLine}
 use Rattle.inputs.specs.declared.state_reader.Keeps.{Keeps}
 use Rattle.inputs.specs.declared.state_reader.Pairs.{Pairs}
-use Rattle.inputs.specs.State.{blockOf, contents, roomIsZero, stateOf, numberedBlock}
+use Rattle.inputs.specs.State.{blockOf, roomIsZero, stateOf, numberedBlock}
 use Rattle.inputs.specs.StateReader.{labelled, asSize, KeepsFrom, PairsFrom, ReadAs, gathered, ifValid, readAfterSize, refusedBy, orRefused}
-use Rattle.inputs.proofs.RoomLaws.{joined-padded}
-use Rattle.inputs.proofs.PairLaws.{map-made}
-use Rattle.inputs.proofs.StateBlockLaws.{block-stands}
+use Rattle.inputs.proofs.StateBlockLaws.{block-contents, block-stands}
 use Rattle.inputs.proofs.FrontLaws.{front-whole}
 use Rattle.inputs.proofs.StateRunLaws.{keep-length}
 
@@ -45,17 +42,6 @@ use Rattle.inputs.proofs.StateRunLaws.{keep-length}
 record Filling (st : State) : Type 0 where
   valueCount : length (st .values) ≡ ones (st .size)
   valueLength : (v : Bytes) → List·Memᴰ v (st .values) → length v ≡ hashLength
-
--- what fills its struct is the state
-contents-back : (st : State) → Filling st → contents (blockOf st) ≡ st
-unfolding blockOf contents
-contents-back st f =
-    let es = st .monitoringMap in
-    let a = take-padded labelLimit (length (st .label)) (st .label) refl in
-    let b = joined-padded hashLength (ones (st .size)) valuesBlockLength (st .values) (f .valueCount) (f .valueLength) in
-    let c = take-padded mapLimit (length es) (positions es) (length-map es (λ (e : MapEntry). e .position)) in
-    let d = take-padded mapLimit (length es) (versions es) (length-map es (λ (e : MapEntry). e .version)) in
-    rw (a, b, c, d, map-made es) refl
 
 -- its struct is valid where it is: of a valid state that is known, and any other is not valid in a struct either
 block-test : (st : State) → Filling st → given (validState (stateOf (blockOf st))) ≡ isValid st
@@ -68,7 +54,7 @@ block-test st f = go (isValid st) refl
 
     go : (t : Bool) → isValid st ≡ t → given (validState (stateOf (blockOf st))) ≡ t
     go true e = rw (block-stands st e) refl
-    go false e = rw (contents-back st f) (other (roomIsZero (blockOf st)) e)
+    go false e = rw (block-contents st (f .valueCount) (f .valueLength)) (other (roomIsZero (blockOf st)) e)
 
 -- ---- what was read, as a state
 
