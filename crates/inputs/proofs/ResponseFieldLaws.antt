@@ -6,7 +6,9 @@ use Prim.Native.Nat.{ℕ, _+_, _-_, _<_}
 use native.Mathlib.Omega.{arith}
 use lib.ListN.{length, take, drop, length-drop, length-take, take-append-drop}
 use lib.Seq.{take-append-le, drop-append-le, drop-drop}
+use Rattle.lists.specs.Choice.{given}
 use Rattle.lists.specs.Lists.{Bytes}
+use Rattle.lines.specs.Hex.{readHex}
 use Rattle.lines.specs.Line.{readLine}
 use Rattle.lines.specs.Cursor.{lineAt}
 use Rattle.lines.specs.Readings.{partOf}
@@ -23,7 +25,7 @@ use Rattle.inputs.specs.declared.response_lines.TargetLine.{TargetLine}
 use Rattle.inputs.specs.declared.response_lines.TargetLine.the-variants.{Sought}
 use Rattle.inputs.specs.declared.response_header.KtFrom.the-variants.{Opened}
 use Rattle.inputs.specs.declared.response_header.FindingFrom.the-variants.{Found}
-use Rattle.inputs.specs.ResponseLines.{ktOf, targetOf, StandsIn, KtStands, TargetStands}
+use Rattle.inputs.specs.ResponseLines.{ktOf, targetOf, Spells, StandsIn, KtStands, TargetStands}
 use Rattle.inputs.specs.Response.{findingIn}
 use Rattle.inputs.specs.ResponseHeader.{readKt, readFrom, readFinding, openedOf, findingOf}
 use Rattle.inputs.proofs.ResponseLaws.{from-some}
@@ -32,7 +34,7 @@ use Rattle.inputs.proofs.ResponseLaws.{from-some}
 part-moved : (s : Bytes) (at n : ℕ) (p q : Part) → StandsIn (take n (drop at s)) p → q .start ≡ at + p .start → q .stop ≡ at + p .stop
     → partOf s q ≡ partOf (take n (drop at s)) p
 unfolding partOf
-part-moved s at n p q (f, w) a b =
+part-moved s at n p q (f, w, _) a b =
     let x = drop at s in
     let l = take n x in
     let m = p .stop - p .start in
@@ -42,10 +44,14 @@ part-moved s at n p q (f, w) a b =
     ap (drop (p .start)) (sym (take-append-drop n x)) ∙ drop-append-le (p .start) l (drop n x) (omega arith) in
     ap₂ take k (d ∙ i) ∙ take-append-le m (drop (p .start) l) (drop n x) (omega (arith, length-drop (p .start) l))
 
--- moved so, it stands within the text
+-- moved so, it spells what it did
+moved-spells : (s : Bytes) (at n : ℕ) (p q : Part) → StandsIn (take n (drop at s)) p → q .start ≡ at + p .start → q .stop ≡ at + p .stop → Spells s q
+moved-spells s at n p q i a b = ap (λ (t : Bytes). given (readHex t)) (part-moved s at n p q i a b) ∙ i .2
+
+-- and stands within the text
 moved-within : (s : Bytes) (at stop next : ℕ) (p : Part) → LineHere s at stop next → StandsIn (take (stop - at) (drop at s)) p
     → (at + p .start < length s) × (at + p .stop < length s)
-moved-within s at stop next p h (f, w) =
+moved-within s at stop next p h (f, w, _) =
     let n = length-take (stop - at) (drop at s) in
     let a = h .forward in
     let b = h .within in
@@ -60,6 +66,14 @@ line-opened s stop next r kind identifier label e q w k =
     let (i, j) = rw k at w in
     rw (part-moved s 0 (stop - 0) identifier identifier i (omega arith) (omega arith), part-moved s 0 (stop - 0) label label j (omega arith) (omega arith))
     (sym (from-some readKt s 0 stop next _ e (sym q ∙ ap (ktOf l) k)))
+
+-- they spell what they do in the line
+pub opened-spells : (s : Bytes) (stop next : ℕ) (r : KtLine) (kind : Kind) (identifier label : Part) → lineAt s 0 ≡ some (stop, next)
+    → KtStands (take (stop - 0) (drop 0 s)) r → r ≡ Kt kind identifier label → Spells s identifier × Spells s label
+opened-spells s stop next r kind identifier label e w k =
+    let n = stop - 0 in
+    let (i, j) = rw k at w in
+    (moved-spells s 0 n identifier identifier i (omega arith) (omega arith), moved-spells s 0 n label label j (omega arith) (omega arith))
 
 -- a search whose target line is not read found nothing
 pub target-unfound : (s : Bytes) (at : ℕ) → readFrom (readLine targetForm) s at ≡ none → readFinding search s at ≡ none
@@ -85,6 +99,12 @@ module _
         let h = line-here s at stop next e in
         let (i, j) = rw k at w in
         record { opening = moved-within s at stop next (t .opening) h i; value = moved-within s at stop next (t .value) h j }
+
+    -- there they spell what they do in the line
+    pub target-spells : Spells s (moved at (t .opening)) × Spells s (moved at (t .value))
+    target-spells =
+        let (i, j) = rw k at w in
+        (moved-spells s at (stop - at) (t .opening) (moved at (t .opening)) i refl refl, moved-spells s at (stop - at) (t .value) (moved at (t .value)) j refl refl)
 
     -- the line is what a search found, with its fields as parts of the text
     pub target-found : targetOf (take (stop - at) (drop at s)) r ≡ readLine targetForm (take (stop - at) (drop at s))

@@ -22,7 +22,7 @@ use Rattle.lines.proofs.NumberLaws.{decimal-read}
 use Rattle.rules.specs.Response.{Kind, search}
 use Rattle.rules.specs.ResponseText.{kindWord, ktForm, readKindLine}
 use Rattle.rules.specs.ResponseText.{stepForm, entryForm, inForm, noForm, nlForm, nodeForm, readStep, readEntryLine, readIn, readNo, readNl, readNode}
-use Rattle.inputs.specs.ResponseLines.{numberAfter, spelled, lastBytesOf, StandsIn}
+use Rattle.inputs.specs.ResponseLines.{numberAfter, spelled, lastBytesOf, Spells, StandsIn}
 use Rattle.inputs.specs.declared.response_lines.LastBytes.{LastBytes}
 use Rattle.inputs.specs.declared.response_lines.LastBytes.the-variants.{Last, NotLast}
 
@@ -72,6 +72,14 @@ module _ (l : Bytes) where
   -- ---- byte strings
 
   module _ (at n next : ℕ) (e : readAt spelledLength l at ≡ some (n, next)) where
+    -- it is spelled by the part that the field fills
+    part-spells : Spells l (fieldPart at next)
+    unfolding partOf given
+    part-spells =
+        let f = here-read l spelledLength at n next e .0 in
+        let (b, h, _, _) = bytes-fit l (λ _. true) at n next e refl in
+        rw (f .part, h) refl
+
     -- the field of a byte string stands in the line
     pub part-stands : (0 < next) × StandsIn l (fieldPart at next)
     part-stands =
@@ -79,7 +87,7 @@ module _ (l : Bytes) where
         let p = f .begins in
         let q = f .nextIs in
         let r = f .within in
-        (omega arith, (omega arith, omega arith))
+        (omega arith, (omega arith, omega arith, part-spells))
 
     -- a byte string whose length fits is read of that part
     pub part-read : (fits : ℕ → Bool) → fits n ≡ true → readAt (readField (bytes fits)) l at ≡ some (spelled (partOf l (fieldPart at next)), next)

@@ -13,7 +13,7 @@ use Rattle.rules.specs.ResponseText.{readItem, grouped}
 use Rattle.inputs.specs.declared.response_lines.Kind.{Kind}
 use Rattle.inputs.specs.declared.response_lines.Kind.the-variants.{Search, Monitor}
 use Rattle.inputs.specs.declared.response_lines.Target.{Target}
-use Rattle.inputs.specs.ResponseLines.{spelled}
+use Rattle.inputs.specs.ResponseLines.{spelled, Spells}
 use Rattle.inputs.specs.declared.response.Response.{Response}
 use Rattle.inputs.specs.declared.response.ReadResponse.{ReadResponse}
 use Rattle.inputs.specs.declared.response.ReadResponse.the-variants.{Read, Broken}
@@ -79,7 +79,18 @@ pub record Filled (s : Bytes) (r : Response) : Type 0 where
   pub entries : AllRead readItem (partOf s (r .entries .part))
   pub nodes : AllRead readNode (partOf s (r .nodes .part))
 
--- what is promised of the sections
-abbrev pub Sections : Bytes → ReadResponse → Type 0
-Sections s (Read r) = Counted s r × Ordered s r × Filled s r
-Sections s Broken = Unit {0}
+-- opening and value of a search are fields that spell byte strings
+abbrev pub TargetSpells : Bytes → Kind → Target → Type 0
+TargetSpells s Search t = Spells s (t .opening) × Spells s (t .value)
+TargetSpells s Monitor t = Unit {0}
+
+-- and so are all fields that are handed on as parts
+pub record Fields (s : Bytes) (r : Response) : Type 0 where
+  pub identifier : Spells s (r .identifier)
+  pub label : Spells s (r .label)
+  pub target : TargetSpells s (r .kind) (r .target)
+
+-- what is promised of the places
+abbrev pub Places : Bytes → ReadResponse → Type 0
+Places s (Read r) = Fields s r × Counted s r × Ordered s r × Filled s r
+Places s Broken = Unit {0}

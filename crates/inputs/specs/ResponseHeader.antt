@@ -11,7 +11,7 @@ use Rattle.lines.specs.Readings.{partOf}
 use Rattle.rules.specs.Response.{Kind as KindOfResponse, search, monitor, Finding, searched, monitored, Parts}
 use Rattle.rules.specs.ResponseText.{ktForm, headForm, targetForm, readKindLine, readBody}
 use Rattle.inputs.specs.declared.response_lines.Kind.{Kind}
-use Rattle.inputs.specs.ResponseLines.{spelled, kindOf}
+use Rattle.inputs.specs.ResponseLines.{spelled, Spells, kindOf}
 use Rattle.inputs.specs.declared.response_header.Header.{Header}
 use Rattle.inputs.specs.declared.response_header.ReadHeader.{ReadHeader}
 use Rattle.inputs.specs.declared.response_header.ReadHeader.the-variants.{Headed, Headless}
@@ -21,7 +21,7 @@ use Rattle.inputs.specs.declared.response_header.SizeFrom.{SizeFrom}
 use Rattle.inputs.specs.declared.response_header.SizeFrom.the-variants.{Sized, Unsized}
 use Rattle.inputs.specs.declared.response_header.FindingFrom.{FindingFrom}
 use Rattle.inputs.specs.declared.response_header.FindingFrom.the-variants.{Found, Unfound}
-use Rattle.inputs.specs.Response.{findingIn}
+use Rattle.inputs.specs.Response.{findingIn, TargetSpells}
 
 -- the kind, the identifier and the label of a first line
 abbrev pub readKt : Bytes → Option (KindOfResponse × ReadForm (ktForm search))
@@ -67,7 +67,21 @@ abbrev pub headedOf : Bytes → ReadHeader → Option Parts
 headedOf s (Headed h) = partsAfter s h
 headedOf s Headless = none
 
+-- the fields of a first line spell byte strings
+abbrev pub OpenedSpells : Bytes → KtFrom → Type 0
+OpenedSpells s (Opened kind identifier label next) = Spells s identifier × Spells s label
+OpenedSpells s Unopened = Unit {0}
+
+-- so do those of a target line
+abbrev pub FoundSpells : Bytes → Kind → FindingFrom → Type 0
+FoundSpells s kind (Found target next) = TargetSpells s kind target
+FoundSpells s kind Unfound = Unit {0}
+
+-- and those of a header
+abbrev pub HeaderSpells : Bytes → Header → Type 0
+HeaderSpells s h = Spells s (h .identifier) × Spells s (h .label) × TargetSpells s (h .kind) (h .target)
+
 -- the sections begin within the text
-abbrev pub HeaderWithin : Bytes → ReadHeader → Type 0
-HeaderWithin s (Headed h) = h .next ≤ length s
-HeaderWithin s Headless = Unit {0}
+abbrev pub HeaderStands : Bytes → ReadHeader → Type 0
+HeaderStands s (Headed h) = (h .next ≤ length s) × HeaderSpells s h
+HeaderStands s Headless = Unit {0}

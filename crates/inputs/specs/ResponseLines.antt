@@ -1,10 +1,11 @@
--- What the readers of single lines of a response give back, from what is read. All but `spelled` is for contracts of private functions alone.
-use mathlib.Core.Bool.{Bool}
+-- What the readers of single lines of a response give back, from what is read. All but `spelled` and `Spells` is for contracts of private functions alone.
+use mathlib.Core.Path.{_≡_}
+use mathlib.Core.Bool.{Bool, true}
 use mathlib.Core.List.{[], _∷_}
 use mathlib.Core.Option.{Option, none, some, Option·getD, bind}
 use Prim.Native.Nat.{ℕ, _≤_}
 use lib.ListN.{length}
-use Rattle.lists.specs.Choice.{provided}
+use Rattle.lists.specs.Choice.{provided, given}
 use Rattle.lists.specs.Lists.{Bytes}
 use Rattle.lines.specs.Number.{readNumber}
 use Rattle.lines.specs.Hex.{readHex}
@@ -32,6 +33,10 @@ use Rattle.inputs.specs.declared.response_lines.LastParts.the-variants.{
 -- the byte string that a field spells
 unfoldable pub spelled : Bytes → Bytes
 spelled f = Option·getD (readHex f) []
+
+-- a part is a field that spells a byte string
+abbrev pub Spells : Bytes → Part → Type 0
+Spells s p = given (readHex (partOf s p)) ≡ true
 
 -- the form of a lookup that shows no other leaf, by its word
 abbrev pub lookupForm : Bytes → Form
@@ -76,9 +81,9 @@ abbrev pub lastPartsOf : Bytes → LastParts → Option (Bytes × (Bytes × Unit
 lastPartsOf l (Both first second) = some (spelled (partOf l first), (spelled (partOf l second), tt))
 lastPartsOf l NotBoth = none
 
--- a part stands in a text
+-- a part stands in a text, and spells a byte string
 abbrev pub StandsIn : Bytes → Part → Type 0
-StandsIn l p = (p .start ≤ p .stop) × (p .stop ≤ length l)
+StandsIn l p = (p .start ≤ p .stop) × (p .stop ≤ length l) × Spells l p
 
 -- so do the parts that a reader gives back
 abbrev pub KtStands : Bytes → KtLine → Type 0

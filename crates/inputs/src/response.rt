@@ -4,8 +4,8 @@ ghost use Prim.Native.Nat.{_≤_};
 ghost use lib.Dec.{ltb};
 ghost use lib.ListN.{length, drop};
 ghost use Rattle.rules.specs.ResponseText.{readResponse};
-ghost use Rattle.inputs.specs.ResponseHeader.{readFrom, partsAfter};
-ghost use Rattle.inputs.specs.Response.{partsOf, Sections};
+ghost use Rattle.inputs.specs.ResponseHeader.{readFrom, partsAfter, HeaderSpells};
+ghost use Rattle.inputs.specs.Response.{partsOf, Places};
 ghost use Rattle.inputs.specs.ResponseSections.{readRole, roleOf, roleFromOf, SectionOf, looseIn};
 use crate::response_header::Header;
 use crate::response_header::ReadHeader;
@@ -48,7 +48,7 @@ pub enum ReadResponse {
 // The response that a text is.
 pub fn read_response(text: &[u8]) -> ReadResponse
     ensures parts { λ r. ⌜ partsOf (now (text .entry)) r ≡ readResponse (now (text .entry)) ⌝ }
-    ensures sections { λ r. ⌜ Sections (now (text .entry)) r ⌝ }
+    ensures places { λ r. ⌜ Places (now (text .entry)) r ⌝ }
 {
     match read_header(text) {
         ReadHeader::Headed(h) => read_body(text, h),
@@ -79,9 +79,10 @@ struct RoleFrom {
 
 // The response that a header and the sections after it make, if nothing more stands in the text.
 fn read_body(text: &[u8], h: Header) -> ReadResponse
-    requires { ⌜ h .next ≤ length (now text) ⌝ }
+    requires within { ⌜ h .next ≤ length (now text) ⌝ }
+    requires spells { ⌜ HeaderSpells (now text) h ⌝ }
     ensures parts { λ r. ⌜ partsOf (now (text .entry)) r ≡ partsAfter (now (text .entry)) h ⌝ }
-    ensures sections { λ r. ⌜ Sections (now (text .entry)) r ⌝ }
+    ensures places { λ r. ⌜ Places (now (text .entry)) r ⌝ }
 {
     let steps = section_from(text, Sort::Steps, h.next);
     let entries = section_from(text, Sort::Entries, steps.part.stop);

@@ -4,7 +4,7 @@ ghost use Rattle.lines.specs.Line.{readLine};
 ghost use Rattle.rules.specs.Response.{search};
 ghost use Rattle.rules.specs.ResponseText.{headForm, readResponse};
 ghost use Rattle.inputs.specs.ResponseLines.{kindOf};
-ghost use Rattle.inputs.specs.ResponseHeader.{readKt, readFrom, readFinding, openedOf, sizeOf, findingOf, headedOf, HeaderWithin};
+ghost use Rattle.inputs.specs.ResponseHeader.{readKt, readFrom, readFinding, openedOf, sizeOf, findingOf, headedOf, OpenedSpells, FoundSpells, HeaderStands};
 use crate::response_lines::HeadLine;
 use crate::response_lines::Kind;
 use crate::response_lines::KtLine;
@@ -59,7 +59,7 @@ enum FindingFrom {
 // The lines before the sections, each where the one before it ends.
 pub(crate) fn read_header(text: &[u8]) -> ReadHeader
     ensures header { λ r. ⌜ headedOf (now (text .entry)) r ≡ readResponse (now (text .entry)) ⌝ }
-    ensures within { λ r. ⌜ HeaderWithin (now (text .entry)) r ⌝ }
+    ensures stands { λ r. ⌜ HeaderStands (now (text .entry)) r ⌝ }
 {
     match kt_from(text) {
         KtFrom::Unopened => ReadHeader::Headless,
@@ -87,7 +87,8 @@ pub(crate) fn read_header(text: &[u8]) -> ReadHeader
 
 // The first line, with kind, identifier and label.
 fn kt_from(text: &[u8]) -> KtFrom
-    ensures { λ r. ⌜ openedOf (now (text .entry)) r ≡ readFrom readKt (now (text .entry)) 0 ⌝ }
+    ensures read { λ r. ⌜ openedOf (now (text .entry)) r ≡ readFrom readKt (now (text .entry)) 0 ⌝ }
+    ensures spells { λ r. ⌜ OpenedSpells (now (text .entry)) r ⌝ }
 {
     let start = Cursor { at: 0 };
     match start.line(text) {
@@ -127,7 +128,8 @@ fn size_from(text: &[u8], at: usize) -> SizeFrom
 
 // What stands at a place after the `head` line: for a search its `target` line, for monitoring no line.
 fn finding_from(text: &[u8], kind: Kind, at: usize) -> FindingFrom
-    ensures { λ r. ⌜ findingOf (now (text .entry)) kind r ≡ readFinding (kindOf kind) (now (text .entry)) at ⌝ }
+    ensures read { λ r. ⌜ findingOf (now (text .entry)) kind r ≡ readFinding (kindOf kind) (now (text .entry)) at ⌝ }
+    ensures spells { λ r. ⌜ FoundSpells (now (text .entry)) kind r ⌝ }
 {
     match kind {
         Kind::Search => target_from(text, at),
@@ -140,7 +142,8 @@ fn finding_from(text: &[u8], kind: Kind, at: usize) -> FindingFrom
 
 // The `target` line at a place, its fields as parts of the text.
 fn target_from(text: &[u8], at: usize) -> FindingFrom
-    ensures { λ r. ⌜ findingOf (now (text .entry)) Kind.Search r ≡ readFinding search (now (text .entry)) at ⌝ }
+    ensures read { λ r. ⌜ findingOf (now (text .entry)) Kind.Search r ≡ readFinding search (now (text .entry)) at ⌝ }
+    ensures spells { λ r. ⌜ FoundSpells (now (text .entry)) Kind.Search r ⌝ }
 {
     let start = Cursor { at };
     match start.line(text) {

@@ -6,7 +6,9 @@ use lines::cursor::NextLine;
 use lines::cursor::NextNumber;
 use lines::cursor::NextWord;
 use lines::hex::Spelling;
+use lines::hex::read_digest;
 use lines::hex::spelled_length;
+use lines::line::span;
 use lines::number::Number;
 use lines::number::read_number;
 
@@ -51,6 +53,16 @@ fn spelling(s: &[u8]) {
     line::end();
 }
 
+fn digest(s: &[u8]) {
+    line::word(b"digest");
+    line::text(s);
+    let d = read_digest(s);
+    line::answer(d.found);
+    let value = d.value;
+    line::bytes(&value);
+    line::end();
+}
+
 pub(crate) fn spellings() {
     spelling(b"-");
     spelling(b"00");
@@ -62,6 +74,10 @@ pub(crate) fn spellings() {
     spelling(b"0A");
     spelling(b"--");
     spelling(b"-0");
+    digest(b"0123456789abcdef0123456789abcdef0123456789abcdef0123456789abcdef");
+    digest(b"0123456789abcdef0123456789abcdef0123456789abcdef0123456789abcde");
+    digest(b"0123456789abcdef0123456789abcdef0123456789abcdef0123456789abcdeF");
+    digest(b"-");
 }
 
 fn word_at(l: &[u8], at: usize, word: &[u8]) {
@@ -154,7 +170,19 @@ fn line_at(text: &[u8], at: usize) {
     line::end();
 }
 
+fn place(s: &[u8], at: usize, stop: u8) {
+    line::word(b"span");
+    line::text(s);
+    line::number(at as u64);
+    line::number(span(s, at, stop) as u64);
+    line::end();
+}
+
 pub(crate) fn lines_of_a_text() {
+    place(b"a\tb", 0, b'\t');
+    place(b"a\tb", 1, b'\t');
+    place(b"a\tb", 2, b'\t');
+    place(b"a\tb", 9, b'\t');
     line_at(b"a\n\nb", 0);
     line_at(b"a\n\nb", 1);
     line_at(b"a\n\nb", 2);

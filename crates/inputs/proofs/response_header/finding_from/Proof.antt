@@ -23,7 +23,7 @@ returns c = rw (c .before .enum-told .given .1) (c .target-from .ensures)
 
 returns-2 : tie.Need-returns-2
 unfolding findingIn readFinding
-returns-2 c = rw (c .before .enum-told2 .given .1) refl
+returns-2 c = rw (c .before .enum-told2 .given .1) (refl, tt)
 
 pub finding-from-spec : {M : Type 1} → statement M
 finding-from-spec =

@@ -8,7 +8,7 @@ use Rattle.lines.proofs.SectionLaws.{line-here}
 use Rattle.inputs.specs.ResponseLines.{ktOf}
 use Rattle.inputs.specs.ResponseHeader.{readKt}
 use Rattle.inputs.proofs.ResponseLaws.{from-open, from-none}
-use Rattle.inputs.proofs.ResponseFieldLaws.{line-opened}
+use Rattle.inputs.proofs.ResponseFieldLaws.{line-opened, opened-spells}
 use borrow.Author.Needs.{needs}
 use Rattle.inputs.proofs.response_header.kt_from.Statement.{statement}
 use Rattle.inputs.proofs.response_header.kt_from.Tie as tie
@@ -49,15 +49,17 @@ returns : tie.Need-returns
 returns c =
     let P = c .before .before .before in
     let r = P .kt-line .ensures in
-    line-opened _ _ _ _ _ _ _ (line (P .before .before)) (r .0) (r .1) (c .before .kind .given .1)
+    let k = c .before .kind .given .1 in
+    let e = line (P .before .before) in
+    (line-opened _ _ _ _ _ _ _ e (r .0) (r .1) k, opened-spells _ _ _ _ _ _ _ e (r .1) k)
 
 returns-2 : tie.Need-returns-2
 returns-2 c =
     let P = c .before .before in
-    sym (from-none readKt _ _ _ _ (line (P .before .before)) (sym (P .kt-line .ensures .0) ∙ ap (ktOf _) (c .enum-told .given .1)))
+    (sym (from-none readKt _ _ _ _ (line (P .before .before)) (sym (P .kt-line .ensures .0) ∙ ap (ktOf _) (c .enum-told .given .1))), tt)
 
 returns-3 : tie.Need-returns-3
-returns-3 c = sym (from-open readKt _ _ (sym (c .before .before .line .ensures) ∙ ap lineOf (c .enum-told2 .given .1)))
+returns-3 c = (sym (from-open readKt _ _ (sym (c .before .before .line .ensures) ∙ ap lineOf (c .enum-told2 .given .1))), tt)
 
 pub kt-from-spec : {M : Type 1} → statement M
 kt-from-spec =

@@ -34,21 +34,21 @@ enum-known-target : tie.Need-enum-known-target
 enum-known-target c = search needs
 
 returns : tie.Need-returns
-returns c = (sym (response-unopened _ (sym (c .before .before .kt-from .ensures) ∙ ap (openedOf _) (c .enum-told .given .1))), tt)
+returns c = (sym (response-unopened _ (sym (c .before .before .kt-from .ensures .0) ∙ ap (openedOf _) (c .enum-told .given .1))), tt)
 
 returns-2 : tie.Need-returns-2
 returns-2 c =
     let P = c .before .before .before .before in
-    let e = sym (P .before .before .kt-from .ensures) ∙ ap (openedOf _) (P .kind .given .1) in
+    let e = sym (P .before .before .kt-from .ensures .0) ∙ ap (openedOf _) (P .kind .given .1) in
     (sym (response-unsized _ _ _ _ _ e (sym (c .before .before .size-from .ensures) ∙ ap sizeOf (c .enum-told2 .given .1))), tt)
 
 returns-3 : tie.Need-returns-3
 returns-3 c =
     let Q = c .before .before .before .before in
     let P = Q .before .before .before .before in
-    let e = sym (P .before .before .kt-from .ensures) ∙ ap (openedOf _) (P .kind .given .1) in
+    let e = sym (P .before .before .kt-from .ensures .0) ∙ ap (openedOf _) (P .kind .given .1) in
     let f = sym (Q .before .before .size-from .ensures) ∙ ap sizeOf (Q .size .given .1) in
-    (sym (response-unfound _ _ _ _ _ e _ _ f (sym (c .before .before .finding-from .ensures) ∙ ap (findingOf _ _) (c .enum-told3 .given .1))), tt)
+    (sym (response-unfound _ _ _ _ _ e _ _ f (sym (c .before .before .finding-from .ensures .0) ∙ ap (findingOf _ _) (c .enum-told3 .given .1))), tt)
 
 returns-4 : tie.Need-returns-4
 unfolding partsAfter
@@ -56,10 +56,12 @@ returns-4 c =
     let R = c .before in
     let Q = R .before .before .before .before in
     let P = Q .before .before .before .before in
-    let e = sym (P .before .before .kt-from .ensures) ∙ ap (openedOf _) (P .kind .given .1) in
+    let e = sym (P .before .before .kt-from .ensures .0) ∙ ap (openedOf _) (P .kind .given .1) in
     let f = sym (Q .before .before .size-from .ensures) ∙ ap sizeOf (Q .size .given .1) in
-    let g = sym (R .before .before .finding-from .ensures) ∙ ap (findingOf _ _) (R .target .given .1) in
-    (sym (response-headed _ _ _ _ _ e _ _ f _ _ g), sections-within _ _ _ _ _ e _ _ f _ _ g)
+    let g = sym (R .before .before .finding-from .ensures .0) ∙ ap (findingOf _ _) (R .target .given .1) in
+    let (i, l) = rw (P .kind .given .1) at (P .before .before .kt-from .ensures .1) in
+    let t = rw (R .target .given .1) at (R .before .before .finding-from .ensures .1) in
+    (sym (response-headed _ _ _ _ _ e _ _ f _ _ g), (sections-within _ _ _ _ _ e _ _ f _ _ g, (i, l, t)))
 
 pub read-header-spec : {M : Type 1} → statement M
 read-header-spec =

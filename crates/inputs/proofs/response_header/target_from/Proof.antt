@@ -9,7 +9,7 @@ use Rattle.lines.proofs.SectionLaws.{line-here}
 use Rattle.rules.specs.ResponseText.{targetForm}
 use Rattle.inputs.specs.ResponseLines.{targetOf}
 use Rattle.inputs.proofs.ResponseLaws.{from-open, from-none}
-use Rattle.inputs.proofs.ResponseFieldLaws.{TargetWithin, target-unfound, target-within, target-found}
+use Rattle.inputs.proofs.ResponseFieldLaws.{TargetWithin, target-unfound, target-within, target-spells, target-found}
 use borrow.Author.Needs.{needs}
 use Rattle.inputs.proofs.response_header.target_from.Statement.{statement}
 use Rattle.inputs.proofs.response_header.target_from.Tie as tie
@@ -72,16 +72,18 @@ returns c =
     let P = c .before .before .before .before .before .before in
     let Q = P .before .before .before in
     let r = Q .target-line .ensures in
-    target-found _ _ _ _ _ _ (line (Q .before .before)) (r .1) (P .before .t .given .1) (r .0)
+    let e = line (Q .before .before) in
+    let k = P .before .t .given .1 in
+    (target-found _ _ _ _ _ _ e (r .1) k (r .0), target-spells _ _ _ _ _ _ e (r .1) k)
 
 returns-2 : tie.Need-returns-2
 returns-2 c =
     let P = c .before .before in
     let e = sym (P .target-line .ensures .0) ∙ ap (targetOf _) (c .enum-told .given .1) in
-    sym (target-unfound _ _ (from-none (readLine targetForm) _ _ _ _ (line (P .before .before)) e))
+    (sym (target-unfound _ _ (from-none (readLine targetForm) _ _ _ _ (line (P .before .before)) e)), tt)
 
 returns-3 : tie.Need-returns-3
-returns-3 c = sym (target-unfound _ _ (from-open (readLine targetForm) _ _ (sym (c .before .before .line .ensures) ∙ ap lineOf (c .enum-told2 .given .1))))
+returns-3 c = (sym (target-unfound _ _ (from-open (readLine targetForm) _ _ (sym (c .before .before .line .ensures) ∙ ap lineOf (c .enum-told2 .given .1)))), tt)
 
 pub target-from-spec : {M : Type 1} → statement M
 target-from-spec =
