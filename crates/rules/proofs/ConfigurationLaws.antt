@@ -41,8 +41,6 @@ pub record FitsWidths (c : Configuration) : Type 0 where
   pub windowFits : IsUint64 (c .monitoringWindow)
   pub lifetimeFits : IsOptionalUint64 (c .maximumLifetime)
 
--- ---- steps
-
 -- ---- optional numbers
 
 -- a number below 256 is its own byte

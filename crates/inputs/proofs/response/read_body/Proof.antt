@@ -57,8 +57,15 @@ returns-4 c =
     let d = P .before .section-from3 .ensures in
     let e = P .section-from4 .ensures in
     let n = sym (T .before .before .before .is-loose .ensures) ∙ T .before .before .if1 .left in
-    let (i, l, t) = P .before .before .before .before .before .pre .1 in
-    (sym (parts-whole _ _ _ _ _ _ a b d e n (T .if2 .left) (omega arith)), (record { identifier = i; label = l; target = t }, parts-counted _ _ _ _ _ _ a b d e, parts-ordered _ _ _ _ _ _ a b d e, parts-filled _ _ _ _ _ _ a b d e))
+    let (i, l, t) = P .before .before .before .before .before .pre .1 in (
+      sym (parts-whole _ _ _ _ _ _ a b d e n (T .if2 .left) (omega arith)),
+      (
+        record { identifier = i; label = l; target = t },
+        parts-counted _ _ _ _ _ _ a b d e,
+        parts-ordered _ _ _ _ _ _ a b d e,
+        parts-filled _ _ _ _ _ _ a b d e,
+      ),
+    )
 
 pub read-body-spec : {M : Type 1} → statement M
 read-body-spec =

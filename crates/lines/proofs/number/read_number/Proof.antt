@@ -29,7 +29,11 @@ returns-2 c = let a = c .before .before .before .before .args in sym (number-zer
 loop-holds : tie.Need-loop-holds Inv-loop μ-loop
 loop-holds c =
     let a = c .before .before .args in
-    let whole = ⊎-elim (λ w. number-many (a .bound) (a .s .now) (omega (arith, w .0 .taken)) (w .2 .left)) (λ w. number-one (a .bound) (a .s .now) (omega (arith, w .left))) (c .if2 .came) in
+    let whole =
+    ⊎-elim
+    (λ w. number-many (a .bound) (a .s .now) (omega (arith, w .0 .taken)) (w .2 .left))
+    (λ w. number-one (a .bound) (a .s .now) (omega (arith, w .left)))
+    (c .if2 .came) in
     (omega arith, omega arith, whole)
 
 shared-slice-read-b : tie.Need-shared-slice-read-b Inv-loop μ-loop
