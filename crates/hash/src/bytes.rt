@@ -16,7 +16,7 @@ pub(crate) fn copy_at(dst: &mut [u8], at: usize, src: &[u8])
     }
 }
 
-pub(crate) fn bytes8(x: u64) -> [u8; 8]
+pub fn bytes8(x: u64) -> [u8; 8]
     ensures { λ r. ⌜ (length r ≡ 8) × (r ≡ bigEndian 8 x) ⌝ }
 {
     [

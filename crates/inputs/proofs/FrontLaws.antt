@@ -1,18 +1,21 @@
--- Laws of arrays of zeros that are filled from their front: with bytes that fit, or with the first elements of a list, as far as there is room
--- (specs/StateReader.antt).
+-- Laws of bytes that are put at the front of others, and of arrays of zeros that are filled from their front: with bytes that fit, or with the first
+-- elements of a list, as far as there is room (specs/StateReader.antt).
 use mathlib.Core.Path.{_≡_, refl, sym, _∙_, ap}
 use mathlib.Core.Logic.{_⊎_, inl, inr}
 use mathlib.Core.List.{List, [], _∷_, _++_}
-use mathlib.Core.Option.{Option, some}
+use mathlib.Core.Option.{Option, none, some}
 use Prim.Native.Nat.{ℕ, _+_, _≤_, _<_}
 use native.Mathlib.Decide.{decLt}
 use native.Mathlib.Omega.{arith}
+use lib.Dec.{leb}
 use lib.ListN.{length, take, set, replicate, length-append, length-take}
 use lib.Seq.{take-nil, take-all, take-length, take-append-le, set-out}
+use borrow.Author.Tests.{leb-true, leb-false}
 use Rattle.lists.specs.Lists.{Bytes, written}
+use Rattle.lists.proofs.ListLaws.{provided-some, provided-none}
 use Rattle.hash.specs.Bytes.{padded}
 use Rattle.hash.proofs.BytesLaws.{length-padded, padded-nil, padded-set, padded-paste}
-use Rattle.lines.specs.Writing.{putAt, putAny}
+use Rattle.lines.specs.Writing.{placeAfter, putAt, putAny}
 use Rattle.lines.proofs.WritingLaws.{put-fits, put-over, put-some}
 use Rattle.inputs.specs.StateReader.{front}
 
@@ -28,6 +31,21 @@ put-behind n at s t d e l h =
 -- a byte string put into zeros
 pub put-first : (n : ℕ) (o : Option Bytes) (b : Bytes) → o ≡ some b → length b ≤ n → putAny (replicate n 0) 0 o ≡ padded n b
 put-first n o b e h = put-some (replicate n 0) 0 o b e .1 ∙ put-behind n 0 [] b (replicate n 0) (padded-nil n) refl (omega arith)
+
+-- ---- bytes put at the front of others
+
+module _ (s t : Bytes) where
+  -- where there is a place after them, they fit, and it is their length
+  pub place-fits : (n : ℕ) → placeAfter s 0 t ≡ some n → (length t ≤ length s) × (length t ≡ n)
+  unfolding placeAfter
+  place-fits n e =
+      let (h, l) = provided-some (leb (0 + length t) (length s)) (0 + length t) n e in
+      (omega (arith, leb-true (0 + length t) (length s) h), omega (arith, l))
+
+  -- where there is none, they are longer
+  pub place-over : placeAfter s 0 t ≡ none → length s < length t
+  unfolding placeAfter
+  place-over e = omega (arith, leb-false (0 + length t) (length s) (provided-none (leb (0 + length t) (length s)) (0 + length t) e))
 
 -- ---- the first elements of a list
 

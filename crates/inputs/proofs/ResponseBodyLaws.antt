@@ -21,9 +21,9 @@ use Rattle.inputs.specs.declared.response.Section.{Section}
 use Rattle.inputs.specs.declared.response.Sort.the-variants.{Steps, Entries, Nodes, Ends}
 use Rattle.inputs.specs.declared.response_header.Header.{Header}
 use Rattle.inputs.specs.declared.response.Response.{Response}
-use Rattle.inputs.specs.Response.{stepsIn, entriesIn, nodesIn, partsIn, Counted, Ordered, Filled}
+use Rattle.inputs.specs.Response.{stepsIn, entriesIn, nodesIn, partsIn, Counted, Ordered, Filled, looseIn}
 use Rattle.inputs.specs.ResponseHeader.{partsAfter}
-use Rattle.inputs.specs.ResponseSections.{SectionOf, looseIn}
+use Rattle.inputs.specs.ResponseSections.{SectionOf}
 
 -- what is no value is none
 none-otherwise : {A : Type 0} (o : Option A) → ((a : A) → o ≡ some a → ⊥) → o ≡ none
@@ -152,5 +152,12 @@ module _
         }
 
     -- and each is whole
-    pub parts-filled : Filled s whole
-    parts-filled = record { steps = a .whole; entries = b .whole; nodes = c .whole }
+    pub parts-filled : ltb 0 (length (looseIn (drop (steps .part .stop) s))) ≡ false → Filled s whole
+    parts-filled n =
+        let l = ltb-false 0 (length (looseIn (drop (steps .part .stop) s))) n in
+        record {
+          steps = a .whole;
+          entries = b .whole;
+          noneLoose = empty-length (looseIn (partOf s (entries .part))) (omega (arith, loose-section));
+          nodes = c .whole;
+        }

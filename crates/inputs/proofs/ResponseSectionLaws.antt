@@ -24,7 +24,8 @@ use Rattle.inputs.specs.declared.response.Sort.the-variants.{Steps, Entr
 use Rattle.inputs.specs.declared.response.Role.{Role}
 use Rattle.inputs.specs.declared.response.RoleFrom.{RoleFrom}
 use Rattle.inputs.specs.ResponseHeader.{readFrom}
-use Rattle.inputs.specs.ResponseSections.{Element, readElement, beginsElement, readRole, roleOf, roleFromOf, countOf, SectionOf, looseIn}
+use Rattle.inputs.specs.Response.{looseIn}
+use Rattle.inputs.specs.ResponseSections.{Element, readElement, beginsElement, readRole, roleOf, roleFromOf, countOf, SectionOf}
 use Rattle.inputs.proofs.ResponseLaws.{followedBy, from-line, from-some, ReadHere, from-was}
 
 -- ---- one line

@@ -7,7 +7,7 @@ use lib.ListN.{length}
 use Rattle.lists.specs.Lists.{Bytes}
 use Rattle.lines.specs.Line.{endedLines, openRest, leading}
 use Rattle.lines.specs.Readings.{partOf}
-use Rattle.rules.specs.Response.{search, Finding, searched, monitored, Step, Entry, Parts}
+use Rattle.rules.specs.Response.{search, Finding, searched, monitored, Step, Lookup, Entry, Parts}
 use Rattle.rules.specs.ResponseText.{readStep, readNode}
 use Rattle.rules.specs.ResponseText.{readItem, grouped}
 use Rattle.inputs.specs.declared.response_lines.Kind.{Kind}
@@ -22,6 +22,10 @@ use Rattle.inputs.specs.declared.response.ReadResponse.the-variants.{Rea
 
 unfoldable pub stepsIn : Bytes → List Step
 stepsIn s = leading readStep (endedLines s) .0
+
+-- lookups that follow no entry, and the entries
+unfoldable pub looseIn : Bytes → List Lookup
+looseIn s = grouped (leading readItem (endedLines s) .0) .0
 
 unfoldable pub entriesIn : Bytes → List Entry
 entriesIn s = grouped (leading readItem (endedLines s) .0) .1
@@ -73,10 +77,11 @@ pub record Ordered (s : Bytes) (r : Response) : Type 0 where
 abbrev pub AllRead : {A : Type 0} → (Bytes → Option A) → Bytes → Type 0
 AllRead read s = (leading read (endedLines s) .1 ≡ []) × (openRest s ≡ [])
 
--- and so is the text of each section
+-- and so is the text of each section, in which each lookup follows an entry
 pub record Filled (s : Bytes) (r : Response) : Type 0 where
   pub steps : AllRead readStep (partOf s (r .steps .part))
   pub entries : AllRead readItem (partOf s (r .entries .part))
+  pub noneLoose : looseIn (partOf s (r .entries .part)) ≡ []
   pub nodes : AllRead readNode (partOf s (r .nodes .part))
 
 -- opening and value of a search are fields that spell byte strings

@@ -8,7 +8,7 @@ use lib.ListN.{length, drop}
 use Rattle.lists.specs.Lists.{Bytes, same}
 use Rattle.lines.specs.Line.{Read as ReadForm, endedLines, openRest, readLine, leading}
 use Rattle.lines.specs.Readings.{partOf}
-use Rattle.rules.specs.Response.{Step, Lookup}
+use Rattle.rules.specs.Response.{Step}
 use Rattle.rules.specs.ResponseText.{endForm, readStep, readNode}
 use Rattle.rules.specs.ResponseText.{Item, entryItem, lookupItem, readItem, grouped}
 use Rattle.inputs.specs.declared.response.Section.{Section}
@@ -72,7 +72,3 @@ pub record SectionOf (sort : Sort) (s : Bytes) (from : ℕ) (r : Section) : Type
   pub rest : openRest (drop from s) ≡ openRest (drop (r .part .stop) s)
   pub whole : AllRead (readElement sort) (partOf s (r .part))
   pub counted : r .count ≡ countOf sort (leading (readElement sort) (endedLines (partOf s (r .part))) .0)
-
--- lookups that follow no entry
-unfoldable pub looseIn : Bytes → List Lookup
-looseIn s = grouped (leading readItem (endedLines s) .0) .0

@@ -34,6 +34,23 @@ pub or-holds : (s t : Bool) → (s || t) ≡ true → (s ≡ true) ⊎ (t ≡ tr
 or-holds true t e = inl refl
 or-holds false t e = inr e
 
+-- if neither of two tests holds, each fails
+pub or-fails : (s t : Bool) → (s || t) ≡ false → (s ≡ false) × (t ≡ false)
+or-fails true t e = absurd (false≢true (sym e))
+or-fails false t e = (refl, e)
+
+-- ---- a test
+
+-- a test that cannot hold fails
+pub never-holds : (t : Bool) → (t ≡ true → ⊥) → t ≡ false
+never-holds true h = absurd (h refl)
+never-holds false h = refl
+
+-- a test that cannot fail holds
+pub never-fails : (t : Bool) → (t ≡ false → ⊥) → t ≡ true
+never-fails true h = refl
+never-fails false h = absurd (h refl)
+
 -- ---- choices
 
 -- where the test holds, the first is chosen
@@ -125,6 +142,12 @@ pub map-some : {A B : Type 0} (f : A → B) (o : Option A) (b : B) → Option·m
 map-some f none b e = absurd (Option·none-ne-some b e)
 map-some f (some a) b e = (a, refl, Option·some-injective (f a) b e)
 
+-- where one of two steps gives a value, the first or the second gave it
+pub orElse-some : {A : Type 0} (o p : Option A) (a : A) → orElse o p ≡ some a → (o ≡ some a) ⊎ (p ≡ some a)
+unfolding orElse
+orElse-some none p a e = inr e
+orElse-some (some b) p a e = inl e
+
 -- ---- tests on lists
 
 -- a test that holds of all elements holds of the first and of all others
@@ -201,6 +224,26 @@ unfolding any
 any-none f [] h = refl
 any-none f (y ∷ ys) h = rw (h y (List·Memᴰ·head refl)) (any-none f ys (λ x i. h x (List·Memᴰ·tail i)))
 
+-- the first of which a test holds is the first element, where it holds of that
+pub first-here : {A : Type 0} (f : A → Bool) (x : A) (xs : List A) → f x ≡ true → first f (x ∷ xs) ≡ some x
+unfolding first
+first-here f x xs e = choose-true (f x) (λ _. some x) (λ _. first f xs) e
+
+-- where it does not, it is one of the others
+pub first-later : {A : Type 0} (f : A → Bool) (x : A) (xs : List A) → f x ≡ false → first f (x ∷ xs) ≡ first f xs
+unfolding first
+first-later f x xs e = choose-false (f x) (λ _. some x) (λ _. first f xs) e
+
+-- it is an element of the list
+pub first-listed : {A : Type 0} (f : A → Bool) (xs : List A) (x : A) → first f xs ≡ some x → List·Memᴰ x xs
+unfolding first choose
+first-listed f [] x e = absurd (Option·none-ne-some x e)
+first-listed f (y ∷ ys) x e = go (f y) (first-listed f ys x) e
+  where
+    go : (t : Bool) → (first f ys ≡ some x → List·Memᴰ x ys) → choose t (λ _. some y) (λ _. first f ys) ≡ some x → List·Memᴰ x (y ∷ ys)
+    go true ih q = List·Memᴰ·head (sym (Option·some-injective y x q))
+    go false ih q = List·Memᴰ·tail (ih q)
+
 -- where all tests of a list hold, the first and all others do
 pub every-cons : (b : Bool) (bs : List Bool) → every (b ∷ bs) ≡ true → (b ≡ true) × (every bs ≡ true)
 unfolding every
@@ -232,11 +275,7 @@ same-false xs ys e q = false≢true (sym e ∙ equal-same xs ys q)
 
 -- lists that differ are not the same
 pub differ-same : (xs ys : List ℕ) → (xs ≡ ys → ⊥) → same xs ys ≡ false
-differ-same xs ys h = go (same xs ys) refl
-  where
-    go : (t : Bool) → same xs ys ≡ t → t ≡ false
-    go true e = absurd (h (same-true xs ys e))
-    go false e = refl
+differ-same xs ys h = never-holds (same xs ys) (λ e. h (same-true xs ys e))
 
 -- ---- lists without a number
 
@@ -255,7 +294,7 @@ pub all-lacks : (f : ℕ → Bool) (k : ℕ) (xs : List ℕ) → f k ≡ false �
 all-lacks f k [] e h = tt
 all-lacks f k (x ∷ xs) e h = let p = all-cons f x xs h in (λ q. false≢true (sym e ∙ ap f (sym q) ∙ p .0), all-lacks f k xs e (p .1))
 
--- ---- rising lists, last elements
+-- ---- rising lists
 
 -- A list rises where its first is below all others, and those rise.
 pub rising-cons : (x : ℕ) (l : List ℕ) → ((y : ℕ) → List·Memᴰ y l → x < y) → rising l ≡ true → rising (x ∷ l) ≡ true

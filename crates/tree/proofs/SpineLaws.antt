@@ -13,11 +13,12 @@ use Rattle.lists.specs.Lists.{Bytes}
 use Rattle.hash.specs.Bytes.{padded}
 use Rattle.hash.specs.Sha256.{digestLength}
 use Rattle.tree.specs.declared.log_tree.Cursor.{Cursor}
+use Rattle.tree.specs.declared.log_tree.Step.the-variants.{Shown}
 use Rattle.tree.specs.declared.log_tree.Walked.{Walked}
 use Rattle.tree.specs.SearchTree.{power}
 use Rattle.tree.specs.LogTree.{LogEntry, isShown, isFull, Walk, given, parent, walk, nodeCount, widthOf, Known, value, fullValues}
 use Rattle.tree.specs.LogHead.{blockLength, positions}
-use Rattle.tree.specs.LogWalk.{range, cursorBefore, pastNode, Ready, Tail, walkOn, endOn, walkedBy, walkedOn, nodeNext, parentBy, comparedBy, Filled, valuesFrom}
+use Rattle.tree.specs.LogWalk.{range, cursorBefore, pastNode, Ready, StepFacts, Tail, walkOn, endOn, walkedBy, walkedOn, nodeNext, parentBy, comparedBy, Filled, valuesFrom}
 use Rattle.tree.proofs.WalkCaseLaws.{walks-over, walks-width}
 use Rattle.tree.proofs.WalkValueLaws.{full-values-one, full-values-both}
 use Rattle.tree.proofs.WalkedLaws.{compared-entries, walked-cursor, walked-given, walked-parent}
@@ -83,6 +84,10 @@ filled-then count a b c t u l f g s e h =
     g (s ++ t) (f s e h) x ∙ ap (padded blockLength) (append-assoc s t u)
 
 -- ---- what the walk yields
+
+-- where the last entries are a single one, which is shown, the walk takes that step
+pub spine-entry : (m n s w position : ℕ) → s + w ≡ n → w ≡ 1 → position < n → StepFacts (ltb position (s + w)) m (range s w) Shown
+spine-entry m n s w position e o p = (lt-ltb position (s + w) (omega arith), o)
 
 module _ (vs : List Bytes) (es : List LogEntry) (ns : List Bytes) {m n s w : ℕ} {c : Cursor} (t : Tail n s) (z : w ≡ power (n - s)) (r : Ready (positions es) m s c) (h : m ≤ n) where
   -- whether something is shown in the last entries

@@ -3,12 +3,12 @@ use mathlib.Core.Path.{_≡_, refl, sym, ap, ap₂, _∙_}
 use mathlib.Core.Logic.{_⊎_, inl, inr, ⊎-elim}
 use mathlib.Core.Bool.{Bool, true, false}
 use mathlib.Core.List.{List, []}
-use Prim.Native.Nat.{ℕ, zero, suc, _+_, _-_, _*_, _/_, _^_, _≤_, _<_}
+use Prim.Native.Nat.{ℕ, zero, suc, _+_, _-_, _*_, _/_, _%_, _^_, _≤_, _<_}
 use native.Mathlib.Nat.{mul-one}
 use native.Mathlib.Omega.{arith}
 use lib.Dec.{ltb}
 use lib.ListN.{length, getD, drop}
-use borrow.Author.Tests.{ltb-true, ltb-false}
+use borrow.Author.Tests.{eq-eqb, ne-eqb, ltb-true, ltb-false}
 use Rattle.lists.specs.Lists.{Bytes}
 use Rattle.hash.specs.Sha256.{sha256}
 use Rattle.tree.specs.declared.log_tree.Cursor.{Cursor}
@@ -23,7 +23,7 @@ use Rattle.tree.proofs.SubtreeLaws.{block, starts-double, halves-whole}
 use Rattle.tree.proofs.WalkStepLaws.{walk-retained, walk-given, walk-shown, walk-split, walk-fuel}
 use Rattle.tree.proofs.WalkCaseLaws.{Walks, keeps, takes, shows, splits, walk-cases, walks-width}
 use Rattle.tree.proofs.CursorLaws.{is-shown, below-quiet, below-one, string-at, entry-at, length-positions}
-use Rattle.tree.proofs.DecisionLaws.{whole-some}
+use Rattle.tree.proofs.DecisionLaws.{whole-some, full-taken, full-left}
 use Rattle.tree.proofs.WalkedLaws.{kept-entries, agrees-entries, compared-entries, walked-cursor, walked-retained, walked-given, walked-shown, walked-parent}
 
 -- what is known, by its parts
@@ -55,6 +55,19 @@ module _ {ps : List ℕ} {m s : ℕ} {c : Cursor} (r : Ready ps m s c) where
 -- a single entry is a block
 pub whole-one : (s : ℕ) → s < 2 ^ levelLimit → Whole s 1
 whole-one s h = record { level = 0; number = s; start-is = sym (mul-one s); width-is = refl; small = omega arith }
+
+module _ (m s : ℕ) (b : s < 2 ^ levelLimit) where
+  -- it is full where it is the last one of an odd number
+  pub entry-full : s + 1 ≡ m → s % 2 ≡ 0 → isFull m (range s 1) ≡ true
+  entry-full e z = sym (full-taken m s 1 (whole-one s b) (omega arith)) ∙ eq-eqb (s / 1 % 2) 0 (omega arith)
+
+  -- not where it is the last one of an even number
+  pub entry-even : s + 1 ≡ m → (s % 2 ≡ 0 → ⊥) → isFull m (range s 1) ≡ false
+  entry-even e z = sym (full-taken m s 1 (whole-one s b) (omega arith)) ∙ ne-eqb (s / 1 % 2) 0 (λ y. z (omega arith))
+
+  -- nor where it is not the last one
+  pub entry-inner : (s + 1 ≡ m → ⊥) → isFull m (range s 1) ≡ false
+  entry-inner e = sym (full-left m s 1 (whole-one s b) (λ y. e (omega arith)))
 
 module _ (t : Bytes) (pl : List ℕ) {m s : ℕ} {c : Cursor} (r : Ready (positions (entriesAt t pl)) m s c) (b : s < 2 ^ levelLimit) (h : c .position < s + 1) where
   passed : (below (positions (entriesAt t pl)) (s + 1) ≡ below (positions (entriesAt t pl)) s + 1) × (below (positions (entriesAt t pl)) s < length (positions (entriesAt t pl)))

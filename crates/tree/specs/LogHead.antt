@@ -42,8 +42,14 @@ isWalkable n k =
 abbrev pub walkOver : ℕ → Known → Walk
 walkOver n k = walkOf n (k .size) (positions (k .entries))
 
--- the head of a log; where there is no walk, zeros, and no kept value met
-unfoldable pub logHead : ℕ → Known → List Bytes → LogHead
+-- the head of a log: its root, the block of the values of its full subtrees, and whether the kept values were met
+pub record Head : Type 0 where
+  pub root : Bytes
+  pub values : Bytes
+  pub met : Bool
+
+-- the head that the walk yields; where there is no walk, zeros, and no kept value met
+unfoldable pub logHead : ℕ → Known → List Bytes → Head
 logHead n k nodes =
     choose (isWalkable n k)
     (λ _.
@@ -53,6 +59,10 @@ logHead n k nodes =
       met = keptValuesMet k (walkOver n k) nodes;
     })
     (λ _. record { root = zeros; values = replicate blockLength 0; met = false })
+
+-- what the code answers, with the values from the block that it filled
+abbrev pub headWith : Bytes → LogHead → Head
+headWith block h = record { root = h .root; values = block; met = h .met }
 
 -- the number of nodes that the walk takes; 0 where there is none
 unfoldable pub nodesAsked : ℕ → Known → ℕ

@@ -1,18 +1,18 @@
 // The head of a log (paper 01, Trees).
 ghost use mathlib.Core.Path.{_≡_};
 ghost use mathlib.Core.List.{[]};
+ghost use lib.ListN.{length};
 ghost use Rattle.tree.specs.LogText.{entriesAt, nodesIn};
-ghost use Rattle.tree.specs.LogHead.{positions, knownIn, isWalkable, logHead, nodesAsked};
+ghost use Rattle.tree.specs.LogHead.{blockLength, positions, knownIn, isWalkable, headWith, logHead, nodesAsked};
 ghost use Rattle.tree.specs.LogWalk.{risingBelow};
 use crate::log_text::position_at;
 use crate::log_tree::Cursor;
 use crate::log_tree::spine;
 use crate::log_tree::spine_end;
 
-// Its root, the values of its full subtrees, left to right and zeros after them, and whether the kept values were met.
+// Its root, and whether the kept values were met.
 pub struct LogHead {
     pub root: [u8; 32],
-    pub values: [u8; LogHead::BLOCK],
     pub met: bool,
 }
 
@@ -65,7 +65,8 @@ fn walkable(text: &[u8], places: &[u32], size: u64, kept_size: u64) -> bool
 }
 
 // The head of a log of size entries, of which those at some places of a text are shown: kept are the values of the full subtrees
-// of its first kept_size entries, and the node lines give the other values.
+// of its first kept_size entries, and the node lines give the other values. The values of the full subtrees of all entries, left
+// to right and zeros after them, go into the block lent.
 pub fn log_head(
     text: &[u8],
     places: &[u32],
@@ -73,10 +74,12 @@ pub fn log_head(
     size: u64,
     kept_size: u64,
     kept: &[u8; LogHead::BLOCK],
+    values: &mut [u8; LogHead::BLOCK],
 ) -> LogHead
-    ensures { λ r. ⌜ r ≡ logHead size (knownIn (now (text .entry)) (now (places .entry)) «kept_size» (now (kept .entry))) (nodesIn (now (nodes .entry))) ⌝ }
+    ensures { λ r. ⌜ headWith (now (values .exit)) r ≡ logHead size (knownIn (now (text .entry)) (now (places .entry)) «kept_size» (now (kept .entry))) (nodesIn (now (nodes .entry))) ⌝ }
+    ensures { λ _. ⌜ length (now (values .exit)) ≡ blockLength ⌝ }
 {
-    let mut values = [0u8; LogHead::BLOCK];
+    *values = [0u8; LogHead::BLOCK];
     if walkable(text, places, size, kept_size) {
         let cursor = Cursor::at(text, places, 0, 0);
         let top = spine(
@@ -88,23 +91,14 @@ pub fn log_head(
             size,
             0,
             cursor,
-            &mut values,
+            values,
             0,
         );
         let root = top.value;
-        LogHead {
-            root,
-            values,
-            met: top.met,
-        }
-    } else {
-        let root = [0u8; 32];
-        LogHead {
-            root,
-            values,
-            met: false,
-        }
+        return LogHead { root, met: top.met };
     }
+    let root = [0u8; 32];
+    LogHead { root, met: false }
 }
 
 // The number of nodes that the walk takes; 0 where there is no walk.

@@ -20,7 +20,7 @@ const NODE_WORD: usize = 5;
 const NODE_LINE: usize = 70;
 
 // The value whose digits stand at a place, or zeros.
-pub(crate) fn value_at(s: &[u8], at: usize) -> [u8; 32]
+pub fn value_at(s: &[u8], at: usize) -> [u8; 32]
     ensures { λ r. ⌜ r ≡ valueIn (take valueDigits (drop at (now (s .entry)))) ⌝ }
 {
     if s.len() < VALUE_DIGITS {
@@ -33,19 +33,32 @@ pub(crate) fn value_at(s: &[u8], at: usize) -> [u8; 32]
 }
 
 // The position of the entry that stands at a place.
-pub(crate) fn position_at(text: &[u8], place: u32) -> u64
+pub fn position_at(text: &[u8], place: u32) -> u64
     ensures { λ r. ⌜ r ≡ entryIn (drop place (now (text .entry))) .position ⌝ }
 {
     number_at(text, place as usize)
 }
 
-// The value of the leaf of the entry that stands at a place (001, 10.8).
+// Its time.
+pub fn time_at(text: &[u8], place: u32) -> u64
+    ensures { λ r. ⌜ r ≡ entryIn (drop place (now (text .entry))) .time ⌝ }
+{
+    number_at(text, after_tab(text, place as usize))
+}
+
+// Its prefix root.
+pub fn prefix_root_at(text: &[u8], place: u32) -> [u8; 32]
+    ensures { λ r. ⌜ r ≡ entryIn (drop place (now (text .entry))) .prefixRoot ⌝ }
+{
+    let time = after_tab(text, place as usize);
+    value_at(text, after_tab(text, time))
+}
+
+// The value of its leaf (001, 10.8).
 pub(crate) fn leaf_at(text: &[u8], place: u32) -> [u8; 32]
     ensures { λ r. ⌜ r ≡ sha256 (logLeafString (entryIn (drop place (now (text .entry))))) ⌝ }
 {
-    let time = after_tab(text, place as usize);
-    let root = after_tab(text, time);
-    digest_40(number_at(text, time), value_at(text, root))
+    digest_40(time_at(text, place), prefix_root_at(text, place))
 }
 
 // The value of a node line, or zeros where there are not so many.

@@ -140,6 +140,20 @@ fn is_met(size: u64, kept: &[u8], start: u64, width: u64, value: [u8; 32]) -> bo
     true
 }
 
+// The same of a single entry: a value is kept of it only where it is the last one of an odd number.
+fn is_entry_met(size: u64, kept: &[u8], start: u64, value: [u8; 32]) -> bool
+    requires { ⌜ (start < 2 ^ levelLimit) × (size ≤ 2 ^ levelLimit) × (length (now kept) ≡ blockLength) ⌝ }
+    ensures { λ r. ⌜ r ≡ agrees (knownIn [] [] size (now (kept .entry))) (range start 1) value ⌝ }
+{
+    if start + 1 == size {
+        if start % 2 == 0 {
+            let last = kept_value(size, kept, start, 1);
+            return equal(&value, &last);
+        }
+    }
+    true
+}
+
 // The next node.
 fn next_node(nodes: &[u8], cursor: Cursor) -> Walked
     requires { ⌜ cursor .node ≤ 2 ^ levelLimit ⌝ }
@@ -167,7 +181,7 @@ fn shown_entry(
 {
     let i = cursor.shown;
     let value = leaf_at(text, places[i]);
-    let met = is_met(size, kept, start, 1, value);
+    let met = is_entry_met(size, kept, start, value);
     let next = Cursor::at(text, places, i + 1, cursor.node);
     Walked {
         value,
@@ -343,6 +357,14 @@ pub(crate) fn spine(
     let width = power(n - start);
     match edge_at(size, n, start, width, cursor.position) {
         Edge::Block => {
+            if width == 1 {
+                if cursor.position < n {
+                    let entry = shown_entry(text, places, size, kept, start, cursor);
+                    let value = entry.value;
+                    put_value(block, count, value);
+                    return entry;
+                }
+            }
             let whole = subtree(text, places, nodes, size, kept, start, width, cursor);
             let value = whole.value;
             put_value(block, count, value);

@@ -5,7 +5,6 @@ use crate::line::number;
 use crate::line::value;
 use crate::line::word;
 use lines::hex::read_digest;
-use tree::log_head::LogHead;
 use tree::log_head::log_head;
 use tree::log_head::nodes_asked;
 
@@ -25,11 +24,19 @@ fn first_three(values: &[u8]) {
     }
 }
 
-// A name, a root, whether the kept values were met, and the first three values.
-fn head(name: &[u8], h: LogHead) {
+// Of a log of 14 entries: a name, a root, whether the kept values were met, and the first three values.
+fn head(
+    name: &[u8],
+    entries: &[u8],
+    places: &[u32],
+    nodes: &[u8],
+    kept_size: u64,
+    kept: [u8; 1280],
+) {
+    let mut values = [0u8; 1280];
+    let h = log_head(entries, places, nodes, 14, kept_size, &kept, &mut values);
     word(name);
     let root = h.root;
-    let values = h.values;
     value(&root);
     answer(h.met);
     first_three(&values);
@@ -54,19 +61,35 @@ pub(crate) fn of_fourteen() {
     ).value;
     head(
         b"head-14-from-0",
-        log_head(entries, &places, all_nodes, 14, 0, &[0u8; 1280]),
+        entries,
+        &places,
+        all_nodes,
+        0,
+        [0u8; 1280],
     );
     head(
         b"head-14-from-10",
-        log_head(entries, &places, nodes, 14, 10, &block(first, second)),
+        entries,
+        &places,
+        nodes,
+        10,
+        block(first, second),
     );
     head(
         b"head-14-forged",
-        log_head(entries, &places, nodes, 14, 10, &block(second, second)),
+        entries,
+        &places,
+        nodes,
+        10,
+        block(second, second),
     );
     head(
         b"head-14-from-15",
-        log_head(entries, &places, nodes, 14, 15, &block(first, second)),
+        entries,
+        &places,
+        nodes,
+        15,
+        block(first, second),
     );
 }
 

@@ -63,7 +63,7 @@ returns-4 c =
         record { identifier = i; label = l; target = t },
         parts-counted _ _ _ _ _ _ a b d e,
         parts-ordered _ _ _ _ _ _ a b d e,
-        parts-filled _ _ _ _ _ _ a b d e,
+        parts-filled _ _ _ _ _ _ a b d e n,
       ),
     )
 

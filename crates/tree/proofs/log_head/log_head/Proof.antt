@@ -14,30 +14,27 @@ walkable-requires c κs = search needs
 at-requires : tie.Need-at-requires
 at-requires c κs = search needs
 
-slice-aggregate-spine : tie.Need-slice-aggregate-spine
-slice-aggregate-spine c = search needs
-
 spine-requires : tie.Need-spine-requires
 unfolding knownIn
 spine-requires c κs =
-    let at4 = c .before .before .before .before in
-    let h = sym (at4 .walkable .ensures) ∙ c .before .before .before .if1 .taken in
-    (head-ready _ _ _ h (c .before .before .at .ensures), (c .before .spine-arg .given .0, refl, head-room _ _ _ h (c .before .before .at .ensures)))
+    let at2 = c .before .before in
+    let at4 = at2 .before .before in
+    let h = sym (at4 .walkable .ensures) ∙ at2 .before .if1 .taken in
+    (head-ready _ _ _ h (at2 .at .ensures), (c .before .spine-arg .given .0, refl, head-room _ _ _ h (at2 .at .ensures)))
 
 returns : tie.Need-returns
 unfolding knownIn
 returns c =
-    let at5 = c .before .before .before .before .before in
-    let s = at5 .before .before .before .before .before .before in
-    let r = c .before .before .spine in
-    let h = walkable-values _ _ _ _ _ ∙ sym (at5 .before .before .walkable .ensures) ∙ at5 .before .if1 .taken in
-    head-made _ _ _ h (at5 .at .ensures) (nodesIn (now (s .args .nodes))) _ _ (r .ensures .0) (r .ensures .1)
+    let at4 = c .before .before .before .before in
+    let at6 = at4 .before .before in
+    let s = at6 .before .before .before .before .before in
+    let r = c .before .spine in
+    let h = walkable-values _ _ _ _ _ ∙ sym (at6 .walkable .ensures) ∙ at4 .before .if1 .taken in
+    (head-made _ _ _ h (at4 .at .ensures) (nodesIn (now (s .args .nodes))) _ _ (r .ensures .0) (r .ensures .1), r .kept .1 .1 .1 .1 .1 .1 .1 .1 .0)
 
 returns-2 : tie.Need-returns-2
 unfolding knownIn
-returns-2 c = head-none _ _ _ (walkable-values _ _ _ _ _ ∙ sym (c .before .walkable .ensures) ∙ c .if1 .left)
+returns-2 c = (head-none _ _ _ (walkable-values _ _ _ _ _ ∙ sym (c .before .walkable .ensures) ∙ c .if1 .left), refl)
 
 pub log-head-spec : {M : Type 1} → statement M
-log-head-spec =
-    tie.close
-    (tie.spec walkable-requires at-requires slice-aggregate-spine spine-requires returns returns-2)
+log-head-spec = tie.close (tie.spec walkable-requires at-requires spine-requires returns returns-2)

@@ -2,7 +2,7 @@
 use borrow.Author.Needs.{needs}
 use denote.Ref.{now}
 use Rattle.tree.specs.LogHead.{knownIn}
-use Rattle.tree.proofs.WalkLaws.{whole-one, entry-room, entry-walked}
+use Rattle.tree.proofs.WalkLaws.{entry-room, entry-walked}
 use Rattle.tree.proofs.log_tree.shown_entry.Statement.{statement}
 use Rattle.tree.proofs.log_tree.shown_entry.Tie as tie
 
@@ -20,10 +20,10 @@ shared-slice-read-leaf-at c =
 leaf-at-requires : tie.Need-leaf-at-requires
 leaf-at-requires c κs = search needs
 
-is-met-requires : tie.Need-is-met-requires
-is-met-requires c κs =
+is-entry-met-requires : tie.Need-is-entry-met-requires
+is-entry-met-requires c κs =
     let p = c .before .before .before .before .before .pre in
-    (whole-one _ (p .1), p .0 .size-small, p .3)
+    (p .1, p .0 .size-small, p .3)
 
 add-at : tie.Need-add-at
 add-at c =
@@ -39,7 +39,7 @@ unfolding knownIn
 returns c =
     let at2 = c .before .before in
     let s = at2 .before .before .before .before .before in
-    entry-walked (now (s .args .text)) (now (s .args .places)) (s .pre .0) (s .pre .1) (s .pre .2) _ _ _ _ (at2 .leaf-at .ensures) (c .at .ensures) (c .before .is-met .ensures)
+    entry-walked (now (s .args .text)) (now (s .args .places)) (s .pre .0) (s .pre .1) (s .pre .2) _ _ _ _ (at2 .leaf-at .ensures) (c .at .ensures) (c .before .is-entry-met .ensures)
 
 pub shown-entry-spec : {M : Type 1} → statement M
 shown-entry-spec =
@@ -48,7 +48,7 @@ shown-entry-spec =
     mul-leaf-at
     shared-slice-read-leaf-at
     leaf-at-requires
-    is-met-requires
+    is-entry-met-requires
     add-at
     at-requires
     returns)
