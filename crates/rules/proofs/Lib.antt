@@ -5,6 +5,7 @@ pub mod MapLaws
 pub mod EncodingLaws
 pub mod ConfigurationLaws
 pub mod RefusalLaws
+pub mod NextStateLaws
 pub mod Running
 pub mod RuleExamples
 pub mod FormExamples

@@ -42,7 +42,7 @@ Tried rs c (refused k) = FirstApplies rs c k
 Tried rs c (passed d) = (d ≡ c) × NoneApplies rs c
 
 -- a refusal is no acceptance
-refused-not-passed : (k : ℕ) (c : Call) → refused k ≡ passed c → ⊥
+pub refused-not-passed : (k : ℕ) (c : Call) → refused k ≡ passed c → ⊥
 refused-not-passed k c e = let z : _≡_ {A = ℕ} 0 1 = cc in omega arith
 
 -- one rule more, before the others
