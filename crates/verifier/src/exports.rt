@@ -4,12 +4,29 @@ ghost use Prim.Native.Nat.{_+_, _≤_};
 ghost use lib.ListN.{length};
 ghost use lib.Seq.{sets};
 ghost use Rattle.hash.specs.Bytes.{bigEndian};
+ghost use Rattle.rules.specs.Limits.{stateTextLimit};
+ghost use Rattle.rules.specs.StateText.{readState};
+ghost use Rattle.rules.specs.Calls.{outputAfter, ktSearch, textAfter, answerWord};
+ghost use Rattle.inputs.specs.State.{stateOf};
+ghost use Rattle.checks.specs.Search.{argumentsOf};
 ghost use Rattle.verifier.specs.Exports.{sha256Answer, sha256Output, versionLength, ladderAnswer, ladderOutput};
+use checks::search::search;
+use inputs::state::State;
+use inputs::state_reader::read_state;
+use inputs::state_writer::write_state;
 use tree::ladder::Ladder;
 
 pub const DIGEST_LENGTH: usize = 32;
 
 pub const VERSION_LENGTH: usize = 4;
+
+// The refusal of what is too long, or of too little room for a state's text.
+const TOO_LONG: u64 = 1;
+
+// What the lengths in an answer are counted by: they stand above 8 bits, and above 32.
+const VALUE_UNIT: u64 = 1 << 8;
+
+const TEXT_UNIT: u64 = 1 << 32;
 
 // Writes the SHA-256 digest of a message to the first bytes lent and answers its length; with too little room it answers 0 and writes nothing.
 #[no_mangle]
@@ -40,6 +57,70 @@ pub extern "C" fn kt_ladder(version: u32, versions: &mut [u8]) -> u64
         put_version(versions, VERSION_LENGTH * i, all[i]);
     }
     length as u64
+}
+
+// Checks a response to a search and answers what came of it: a refusal's number in the low 8 bits, 0 for acceptance; then, in the next 24 bits, the length of the
+// value, which stands in the first output bytes, and in the high 32 bits the length of the new state's text, which stands in the first bytes of new_state. The
+// state is given by its text. A refusal writes nothing.
+#[no_mangle]
+pub extern "C" fn kt_search(
+    response: &[u8],
+    configuration: &[u8],
+    state: &[u8],
+    identifier: &[u8],
+    clock: u64,
+    vrf_outputs: &[u8],
+    signed_text: &[u8],
+    output: &mut [u8],
+    new_state: &mut [u8],
+) -> u64
+    ensures answer { λ r. ⌜ r ≡ answerWord (ktSearch (now (state .entry))
+        (argumentsOf (now (response .entry)) (now (configuration .entry)) (now (identifier .entry)) clock (now («vrf_outputs» .entry)))
+        (now («signed_text» .entry)) (now (output .entry)) (now («new_state» .entry))) ⌝ }
+    ensures output { λ r. ⌜ now (output .exit) ≡ outputAfter (now (output .entry)) (ktSearch (now (state .entry))
+        (argumentsOf (now (response .entry)) (now (configuration .entry)) (now (identifier .entry)) clock (now («vrf_outputs» .entry)))
+        (now («signed_text» .entry)) (now (output .entry)) (now («new_state» .entry))) ⌝ }
+    ensures state { λ r. ⌜ now («new_state» .exit) ≡ textAfter (now («new_state» .entry)) (ktSearch (now (state .entry))
+        (argumentsOf (now (response .entry)) (now (configuration .entry)) (now (identifier .entry)) clock (now («vrf_outputs» .entry)))
+        (now («signed_text» .entry)) (now (output .entry)) (now («new_state» .entry))) ⌝ }
+{
+    if State::TEXT < state.len() {
+        return TOO_LONG;
+    }
+    if new_state.len() < State::TEXT {
+        return TOO_LONG;
+    }
+    let held = state_in(state);
+    let answer = search(
+        response,
+        configuration,
+        held,
+        identifier,
+        clock,
+        vrf_outputs,
+        signed_text,
+        output,
+    );
+    if answer.number != 0 {
+        return answer.number;
+    }
+    let value = answer.length as u64;
+    let new = answer.state;
+    let text = write_state(new, new_state) as u64;
+    value * VALUE_UNIT + text * TEXT_UNIT
+}
+
+// The struct of the state that a text says; where it says none, one that stands for none.
+fn state_in(text: &[u8]) -> State
+    requires { ⌜ length (now text) ≤ stateTextLimit ⌝ }
+    ensures { λ r. ⌜ stateOf r ≡ readState (now (text .entry)) ⌝ }
+{
+    let read = read_state(text);
+    let mut state = read.state;
+    if read.number != 0 {
+        state.length = State::LABEL + 1;
+    }
+    state
 }
 
 // Writes a version as 4 bytes from a place on.

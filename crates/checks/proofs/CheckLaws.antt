@@ -1,0 +1,150 @@
+-- Laws of refusals 9 to 15 of a search, tried one part after the other (specs/Search.antt).
+use mathlib.Core.Path.{_≡_, refl, sym, ap, _∙_}
+use mathlib.Core.Bool.{true, false}
+use mathlib.Core.List.{List, map}
+use Prim.Native.Nat.{ℕ, _≤_, _<_}
+use native.Mathlib.Omega.{arith}
+use lib.Dec.{ltb}
+use lib.ListN.{length, take}
+use borrow.Author.Tests.{ne-eqb, le-ltb}
+use Rattle.lists.specs.Lists.{Bytes, all, lastOr, rising}
+use Rattle.hash.specs.Bytes.{padded}
+use Rattle.hash.proofs.BytesLaws.{length-padded, take-padded}
+use Rattle.tree.specs.Ladder.{ladder, ladderWithin, ladderCapacity}
+use Rattle.tree.proofs.LadderFillLaws.{ladder-fits, within-some}
+use Rattle.rules.specs.Limits.{treeSizeLimit, greatestVersion}
+use Rattle.rules.specs.Response.{Entry, Parts, entryPositions}
+use Rattle.rules.specs.Refusals.{Call, sizeWrong, lastTime, notAsAsked}
+use Rattle.inputs.specs.declared.response_lines.Kind.the-variants.{Search}
+use Rattle.inputs.specs.declared.response.Response.{Response}
+use Rattle.inputs.specs.Response.{stepsIn, entriesIn, partsIn}
+use Rattle.checks.specs.Search.{stepsText, entriesText, rules9, rules11, rules14, Shows, rules9to13}
+use Rattle.checks.specs.Search.{IsAskedNumber, IsShownNumber, IsShownTime, IsShownPosition, IsSectionsNumber, AreFound, IsHead, IsChecked}
+use Rattle.checks.specs.Steps.{CommitmentsAt}
+use Rattle.checks.specs.Entries.{EntriesStand}
+use Rattle.checks.specs.declared.shown.Shown.{Shown}
+use Rattle.checks.specs.declared.search.Sections.{Sections}
+use Rattle.checks.specs.declared.search.Checked.{Checked}
+use Rattle.checks.proofs.TrialLaws.{Numbered, none-applies, number-front, number-rest}
+use Rattle.checks.proofs.TargetLaws.{targetIn, call-found}
+use Rattle.checks.proofs.AskedCallLaws.{shown-rising, shown-below}
+
+-- ---- what is known before
+
+-- a size within its bounds is not wrong
+pub size-right : (text : Bytes) (r : Response) (m : ℕ) → 0 < r .size → r .size ≤ treeSizeLimit → m ≤ r .size
+    → (c : Call) → c .parts ≡ partsIn text r → c .state .size ≡ m → sizeWrong c ≡ false
+unfolding sizeWrong partsIn
+size-right text r m a b d c p q =
+    let n : c .parts .size ≡ r .size = ap (λ (x : Parts). x .size) p in
+    rw (n, q, ne-eqb (r .size) 0 (λ e. omega (arith, e, a)), le-ltb treeSizeLimit (r .size) b, le-ltb (r .size) m d) refl
+
+-- so many first numbers of an array are the ladder of a version
+pub record Ladders (t count : ℕ) (vs : List ℕ) : Type 0 where
+  pub wanted : take count vs ≡ ladder t
+  pub within : count ≤ length vs
+  pub all : count ≡ length (take count vs)
+  pub few : length (take count vs) ≤ ladderCapacity
+
+-- they are, where the array was filled with it
+pub ladder-held : (t count : ℕ) (vs : List ℕ) → (vs ≡ padded ladderCapacity (ladderWithin t)) × (count ≡ length (ladderWithin t)) → t ≤ greatestVersion
+    → Ladders t count vs
+ladder-held t count vs (e, f) h =
+    let w = within-some t (omega arith) in
+    let l : length (ladder t) ≤ ladderCapacity = ladder-fits t (omega arith) in
+    let g : count ≡ length (ladder t) = f ∙ ap length w in
+    let v : vs ≡ padded ladderCapacity (ladder t) = e ∙ ap (padded ladderCapacity) w in
+    let k : take count vs ≡ ladder t = ap (take count) v ∙ take-padded ladderCapacity count (ladder t) (sym g) in
+    record {
+      wanted = k;
+      within = omega (arith, g, l, ap length v, length-padded ladderCapacity (ladder t) l);
+      all = g ∙ ap length (sym k);
+      few = omega (arith, ap length k, l);
+    }
+
+-- the entries of a call rise, and are in its log
+abbrev pub OnFrontier : Call → Type 0
+OnFrontier c = (rising (entryPositions (c .parts)) ≡ true) × (all (λ (p : ℕ). ltb p (c .parts .size)) (entryPositions (c .parts)) ≡ true)
+
+-- they do where 9 does not apply to a search
+pub on-frontier : (text : Bytes) (r : Response) → r .kind ≡ Search → (c : Call) → c .parts ≡ partsIn text r → notAsAsked c ≡ false → OnFrontier c
+on-frontier text r k c p h =
+    let f = call-found text r k c p in
+    (shown-rising c (targetIn text r) f h, shown-below c (targetIn text r) f h)
+
+-- ---- the parts
+
+-- no rule of 9 and 10 has the number 0
+numbered9 : Numbered rules9
+numbered9 = (omega arith, (omega arith, tt))
+
+-- nor one of 9 to 13
+numbered9to13 : Numbered rules9to13
+numbered9to13 = (omega arith, (omega arith, (omega arith, (omega arith, (omega arith, tt)))))
+
+module _ (text : Bytes) (r : Response) (label : Bytes) (size time clock ahead behind : ℕ) (outputs : Bytes) where
+  -- the arguments of 9 to 13 are those of a call
+  abbrev Shown9 : Call → Type 0
+  Shown9 c = Shows c text r label size time clock ahead behind outputs
+
+  -- the number of 9 to 13
+  abbrev Number : ℕ → Type 0
+  Number n = IsSectionsNumber text r label size time clock ahead behind outputs n
+
+  -- refused with 9 or 10
+  pub asked-refused : (n : ℕ) → IsAskedNumber text r size outputs n → (n ≡ 0 → ⊥) → Number n
+  asked-refused n h z c st = number-front rules9 rules11 c n (h c (st .parts) (st .size) (st .outputs)) z
+
+  -- what is left after them is the second part's
+  pub shown-told : (n count count′ : ℕ) (steps places : List ℕ) → count ≡ count′ → IsAskedNumber text r size outputs n → n ≡ 0
+      → CommitmentsAt (stepsText text r) (take count′ steps) (stepsIn (stepsText text r))
+      → EntriesStand (entriesText text r) places (entriesIn (entriesText text r))
+      → (m : ℕ) → IsShownNumber text r label size time clock ahead behind outputs (take count steps) places m → Number m
+  shown-told n count count′ steps places same-count h z x y m g c st =
+      let (u, (v, t)) = none-applies rules9 c numbered9 (sym z ∙ h c (st .parts) (st .size) (st .outputs)) in
+      g c (st .parts) (st .label) (st .size) (st .time) (st .clock) (st .ahead) (st .behind) (st .outputs) u v (rw same-count x) y
+      ∙ number-rest rules9 rules11 c (u, (v, t))
+
+-- what is found where none of them applies
+pub found-shown : (text : Bytes) (r : Response) (s : Sections) (shown : Shown) (places wanted : List ℕ) → s .number ≡ shown .number → s .position ≡ shown .position
+    → s .time ≡ shown .time → take (s .count) (s .places) ≡ places → EntriesStand (entriesText text r) places (entriesIn (entriesText text r))
+    → IsShownTime text r places shown → IsShownPosition text r wanted shown → wanted ≡ ladder (r .target .version) → AreFound text r s
+found-shown text r s shown places wanted en ep et ec y ht hp hw z =
+    let w = sym en ∙ z in
+    let (e, f, q) = hp w in
+    record { stand = rw ec y; time = et ∙ ht w y; entry = e; isFirst = rw (← hw) f; position = q ∙ sym ep }
+
+module _ (text : Bytes) (r : Response) (label : Bytes) (size time : ℕ) (kept : Bytes) (clock ahead behind : ℕ) (configuration outputs signed : Bytes) where
+  -- what comes of 9 to 15
+  abbrev Told : Checked → Bytes → Type 0
+  Told k block = IsChecked text r label size time kept clock ahead behind configuration outputs signed k block
+
+  -- refused with 9 to 13
+  pub sections-refused : (n : ℕ) (k : Checked) (block : Bytes) → IsSectionsNumber text r label size time clock ahead behind outputs n → (n ≡ 0 → ⊥)
+      → k .number ≡ n → Told k block
+  sections-refused n k block h z e c st = (e ∙ number-front rules9to13 rules14 c n (h c (st .shows)) z, λ q. absurd (z (sym e ∙ q)))
+
+  -- 14, 15, or none of them
+  pub head-told : (s : Sections) (m : ℕ) (block : Bytes) (k : Checked)
+      → IsSectionsNumber text r label size time clock ahead behind outputs (s .number) → s .number ≡ 0 → AreFound text r s
+      → IsHead text r (take (s .count) (s .places)) size kept configuration signed m block
+      → ((c : Call) → c .parts ≡ partsIn text r → c .state .size ≡ size → sizeWrong c ≡ false)
+      → ((c : Call) → c .parts ≡ partsIn text r → notAsAsked c ≡ false → OnFrontier c)
+      → k .number ≡ m → k .position ≡ s .position → k .time ≡ s .time → Told k block
+  unfolding partsIn lastTime
+  head-told s m block k hs w hf hh right frontier en ep et c st =
+      let g = st .shows in
+      let f = hf w in
+      let ms = none-applies rules9to13 c numbered9to13 (sym w ∙ hs c g) in
+      let (rise, below) = frontier c (g .parts) (ms .0) in
+      let (nh, vh) = hh c (g .parts) (g .size) (st .values) (st .configuration) (st .signed) (right c (g .parts) (g .size)) rise below (f .stand) in
+      let es : c .parts .entries ≡ entriesIn (entriesText text r) = ap (λ (p : Parts). p .entries) (g .parts) in (
+        en ∙ nh ∙ number-rest rules9to13 rules14 c ms,
+        λ _. record {
+          entry = f .entry;
+          isFirst = rw es (f .isFirst);
+          position = ep ∙ sym (f .position);
+          time = et ∙ f .time ∙ ap (λ (xs : List Entry). lastOr 0 (map (λ (x : Entry). x .time) xs)) (sym es);
+          values = vh;
+        },
+      )

@@ -1,0 +1,53 @@
+-- `checks::given::first_number` meets its contract: the first of the three tests that fails gives its number.
+use mathlib.Core.Path.{sym, _∙_}
+use borrow.Author.Tests.{not-true, not-false}
+use Rattle.checks.proofs.GivenLaws.{first-foreign, first-size, first-version, first-none}
+use borrow.Author.Needs.{needs}
+use Rattle.checks.proofs.given.first_number.Statement.{statement}
+use Rattle.checks.proofs.given.first_number.Tie as tie
+
+is-own-requires : tie.Need-is-own-requires
+is-own-requires c κs = search needs
+
+returns : tie.Need-returns
+returns c =
+    let o = c .before .is-own .ensures in
+    first-foreign _ _ _ _ _ _ (λ d p q i l. sym (not-true _ (c .if1 .taken)) ∙ o d p q i l)
+
+size-fits-requires : tie.Need-size-fits-requires
+size-fits-requires c κs = search needs
+
+returns-2 : tie.Need-returns-2
+returns-2 c =
+    let o = c .before .before .before .is-own .ensures in
+    first-size _ _ _ _ _ _ (λ d p q i l. sym (not-false _ (c .before .before .if1 .left)) ∙ o d p q i l)
+    (sym (not-true _ (c .if2 .taken)) ∙ c .before .size-fits .ensures)
+
+version-fits-requires : tie.Need-version-fits-requires
+version-fits-requires c κs = search needs
+
+returns-3 : tie.Need-returns-3
+returns-3 c =
+    let o = c .before .before .before .before .before .is-own .ensures in
+    first-version _ _ _ _ _ _ (λ d p q i l. sym (not-false _ (c .before .before .before .before .if1 .left)) ∙ o d p q i l)
+    (sym (not-false _ (c .before .before .if2 .left)) ∙ c .before .before .before .size-fits .ensures)
+    (sym (not-true _ (c .if3 .taken)) ∙ c .before .version-fits .ensures)
+
+returns-4 : tie.Need-returns-4
+returns-4 c =
+    let o = c .before .before .before .before .before .is-own .ensures in
+    first-none _ _ _ _ _ _ (λ d p q i l. sym (not-false _ (c .before .before .before .before .if1 .left)) ∙ o d p q i l)
+    (sym (not-false _ (c .before .before .if2 .left)) ∙ c .before .before .before .size-fits .ensures)
+    (sym (not-false _ (c .if3 .left)) ∙ c .before .version-fits .ensures)
+
+pub first-number-spec : {M : Type 1} → statement M
+first-number-spec =
+    tie.close
+    (tie.spec
+    is-own-requires
+    returns
+    size-fits-requires
+    returns-2
+    version-fits-requires
+    returns-3
+    returns-4)

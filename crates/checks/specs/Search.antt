@@ -1,0 +1,246 @@
+-- A search as the library calls it (paper 01, Sixteen numbers): how its arguments, its answer and the bytes lent stand for those of the rules.
+use mathlib.Core.Path.{_≡_}
+use mathlib.Core.Bool.{Bool, true, false, not}
+use mathlib.Core.List.{List, [], _∷_, _++_, map, flatten}
+use mathlib.Core.Option.{Option, some, Option·getD}
+use Prim.Native.Nat.{ℕ}
+use lib.Count.{ones}
+use lib.Dec.{eqb, leb, ltb}
+use lib.ListN.{length, take}
+use Rattle.lists.specs.Lists.{Bytes, all, every, first, lastOr, rising, runs}
+use Rattle.hash.specs.Bytes.{padded}
+use Rattle.tree.specs.Ladder.{ladder}
+use Rattle.tree.specs.LogTree.{fullValues}
+use Rattle.lines.specs.Hex.{readHex}
+use Rattle.lines.specs.Readings.{partOf}
+use Rattle.rules.specs.Limits.{responseLimit, configurationLimit, signedTextLimit, vrfOutputsLimit, identifierLength, hashLength, valuesBlockLength}
+use Rattle.rules.specs.VrfOutputs.{readOutputs, hasOutput}
+use Rattle.rules.specs.State.{versions}
+use Rattle.rules.specs.Response.{search, Target, searched, Entry, stepVersions, entryPositions}
+use Rattle.rules.specs.Search.{isComplete}
+use Rattle.rules.specs.Refusals.{Call, Judgement, refused, passed, Rule, rule, tried, known, logWalk, lastTime, commitmentAsked, lookupsHold}
+use Rattle.rules.specs.Refusals.{foreign, sizeWrong, targetWrong, notAsAsked, outputMissing, timesWrong, lookupFails, resultsWrong, historyDiffers, headDiffers, roomMissing, checks, lastChecks}
+use Rattle.rules.specs.Calls.{Arguments, libraryInputs, numberOf, nextState, valueOf, outputAfter}
+use Rattle.inputs.specs.declared.state.State.{State as StateBlock}
+use Rattle.inputs.specs.State.{blockOf, stateOf}
+use Rattle.inputs.specs.declared.response.Response.{Response}
+use Rattle.inputs.specs.Response.{stepsIn, entriesIn, partsIn}
+use Rattle.checks.specs.declared.search.SearchAnswer.{SearchAnswer}
+use Rattle.checks.specs.Steps.{CommitmentsAt}
+use Rattle.checks.specs.Entries.{EntriesStand}
+use Rattle.checks.specs.Lookups.{allWanted}
+use Rattle.checks.specs.declared.asked.Asked.{Asked}
+use Rattle.checks.specs.declared.shown.Shown.{Shown}
+use Rattle.checks.specs.declared.search.Sections.{Sections}
+use Rattle.checks.specs.declared.search.Checked.{Checked}
+
+-- what a search is given besides the state, the signed text and the output bytes
+unfoldable pub argumentsOf : Bytes → Bytes → Bytes → ℕ → Bytes → Arguments
+argumentsOf response configuration identifier clock outputs =
+    record { response = response; configuration = configuration; identifier = identifier; clock = clock; vrfOutputs = outputs }
+
+-- the struct of the state afterwards: a refusal returns it as given
+unfoldable pub blockAfter : StateBlock → Judgement → StateBlock
+blockAfter b (refused k) = b
+blockAfter b (passed c) = blockOf (nextState c)
+
+-- the number, the state, and how many bytes the value fills
+unfoldable pub searchAnswer : StateBlock → Judgement → SearchAnswer
+searchAnswer b j = record { number = numberOf j; state = blockAfter b j; length = length (Option·getD (valueOf j) []) }
+
+-- ==== for contracts of private functions alone
+
+-- 1
+abbrev pub areLengthsFit : Bytes → Bytes → Bytes → Bytes → Bytes → Bool
+areLengthsFit response configuration signed outputs identifier =
+    every
+    (leb (length response) responseLimit
+    ∷ leb (length configuration) configurationLimit
+    ∷ leb (length signed) signedTextLimit
+    ∷ leb (length outputs) vrfOutputsLimit
+    ∷ eqb (length identifier) identifierLength
+    ∷ [])
+
+-- the number of the first rule of some that applies, or 0
+abbrev pub numberTried : List Rule → Call → ℕ
+numberTried rs c = numberOf (tried rs c)
+
+-- the rules, by the functions that try them
+abbrev pub rules6 : List Rule
+rules6 = rule 6 foreign ∷ rule 7 sizeWrong ∷ rule 8 targetWrong ∷ []
+
+abbrev pub rules9 : List Rule
+rules9 = rule 9 notAsAsked ∷ rule 10 outputMissing ∷ []
+
+abbrev pub rules11 : List Rule
+rules11 = rule 11 timesWrong ∷ rule 12 lookupFails ∷ rule 13 resultsWrong ∷ []
+
+abbrev pub rules14 : List Rule
+rules14 = rule 14 historyDiffers ∷ rule 15 headDiffers ∷ []
+
+-- 6
+abbrev pub IsOwn : Bytes → Response → Bytes → Bytes → Bool → Type 0
+IsOwn text r identifier label b =
+    (c : Call) → c .parts ≡ partsIn text r → c .inputs .kind ≡ some search → c .inputs .identifier ≡ identifier → c .state .label ≡ label
+    → b ≡ not (foreign c)
+
+-- 6 to 8
+abbrev pub IsFirstNumber : Bytes → Response → Bytes → Bytes → ℕ → List ℕ → ℕ → Type 0
+IsFirstNumber text r identifier label size map n =
+    (c : Call) → c .parts ≡ partsIn text r → c .inputs .kind ≡ some search → c .inputs .identifier ≡ identifier → c .state .label ≡ label
+    → c .state .size ≡ size → versions (c .state .monitoringMap) ≡ map → n ≡ numberTried rules6 c
+
+-- 9 and 10
+abbrev pub IsAskedNumber : Bytes → Response → ℕ → Bytes → ℕ → Type 0
+IsAskedNumber text r size outputs n =
+    (c : Call) → c .parts ≡ partsIn text r → c .state .size ≡ size → readOutputs outputs ≡ some (c .outputs) → n ≡ numberTried rules9 c
+
+-- the steps and the entries of a response, from its text
+abbrev pub stepsText : Bytes → Response → Bytes
+stepsText text r = partOf text (r .steps .part)
+
+abbrev pub entriesText : Bytes → Response → Bytes
+entriesText text r = partOf text (r .entries .part)
+
+-- where neither applies, commitments and entries stand at the places
+abbrev pub AskedStand : Bytes → Response → ℕ → Asked → Type 0
+AskedStand text r count a =
+    a .number ≡ 0
+    → CommitmentsAt (stepsText text r) (take count (a .steps)) (stepsIn (stepsText text r))
+    × EntriesStand (entriesText text r) (take (a .count) (a .entries)) (entriesIn (entriesText text r))
+
+-- 11 to 13, of a call to which neither 9 nor 10 applies
+abbrev pub IsShownNumber : Bytes → Response → Bytes → ℕ → ℕ → ℕ → ℕ → ℕ → Bytes → List ℕ → List ℕ → ℕ → Type 0
+IsShownNumber text r label size time clock ahead behind outputs commitments places n =
+    (c : Call) → c .parts ≡ partsIn text r → c .parts .label ≡ label → c .state .size ≡ size → c .state .time ≡ time → c .inputs .clock ≡ clock
+    → c .configuration .maxAhead ≡ ahead → c .configuration .maxBehind ≡ behind → readOutputs outputs ≡ some (c .outputs)
+    → notAsAsked c ≡ false → outputMissing c ≡ false
+    → CommitmentsAt (stepsText text r) commitments (stepsIn (stepsText text r))
+    → EntriesStand (entriesText text r) places (entriesIn (entriesText text r))
+    → n ≡ numberTried rules11 c
+
+-- the time of the last entry
+abbrev pub IsShownTime : Bytes → Response → List ℕ → Shown → Type 0
+IsShownTime text r places s =
+    s .number ≡ 0 → EntriesStand (entriesText text r) places (entriesIn (entriesText text r))
+    → s .time ≡ lastOr 0 (map (λ (e : Entry). e .time) (entriesIn (entriesText text r)))
+
+-- the position of the first complete entry
+abbrev pub IsShownPosition : Bytes → Response → List ℕ → Shown → Type 0
+IsShownPosition text r wanted s =
+    s .number ≡ 0
+    → (e : Entry) × (first (isComplete wanted (r .target .version)) (entriesIn (entriesText text r)) ≡ some e) × (e .position ≡ s .position)
+
+-- whether the lookups hold, of a call to which neither 9 nor 10 applies
+abbrev pub IsJudgedRight : Bytes → Response → Bytes → Bytes → List ℕ → List ℕ → Bool → Type 0
+IsJudgedRight text r label outputs commitments wanted b =
+    (c : Call) → c .parts ≡ partsIn text r → c .parts .label ≡ label → readOutputs outputs ≡ some (c .outputs)
+    → stepVersions (c .parts) ≡ wanted → all (commitmentAsked (c .parts .finding)) (c .parts .steps) ≡ true
+    → all (hasOutput (c .outputs)) wanted ≡ true → allWanted wanted (c .parts .entries) ≡ true
+    → CommitmentsAt (stepsText text r) commitments (stepsIn (stepsText text r))
+    → b ≡ all (lookupsHold c) (c .parts .entries)
+
+-- 14 and 15, of a call to which 7 does not apply, and whose entries rise and are in the log; the values of the full subtrees
+abbrev pub IsHead : Bytes → Response → List ℕ → ℕ → Bytes → Bytes → Bytes → ℕ → Bytes → Type 0
+IsHead text r places size kept configuration signed n values =
+    (c : Call) → c .parts ≡ partsIn text r → c .state .size ≡ size → c .state .values ≡ runs (ones size) hashLength kept
+    → c .inputs .configuration ≡ configuration → c .inputs .signedText ≡ signed → sizeWrong c ≡ false
+    → rising (entryPositions (c .parts)) ≡ true → all (λ (p : ℕ). ltb p (c .parts .size)) (entryPositions (c .parts)) ≡ true
+    → EntriesStand (entriesText text r) places (entriesIn (entriesText text r))
+    → (n ≡ numberTried rules14 c)
+    × (values ≡ padded valuesBlockLength (flatten (fullValues (c .parts .size) (known c) (logWalk c) (c .parts .nodes))))
+
+-- what the arguments of 9 to 13 are of a call
+pub record Shows (c : Call) (text : Bytes) (r : Response) (label′ : Bytes) (size′ time′ clock′ ahead′ behind′ : ℕ) (outputs′ : Bytes) : Type 0 where
+  pub parts : c .parts ≡ partsIn text r
+  pub label : c .parts .label ≡ label′
+  pub size : c .state .size ≡ size′
+  pub time : c .state .time ≡ time′
+  pub clock : c .inputs .clock ≡ clock′
+  pub ahead : c .configuration .maxAhead ≡ ahead′
+  pub behind : c .configuration .maxBehind ≡ behind′
+  pub outputs : readOutputs outputs′ ≡ some (c .outputs)
+
+abbrev pub rules9to13 : List Rule
+rules9to13 = rules9 ++ rules11
+
+-- 9 to 13, of a call to which none of 6 to 8 applies
+abbrev pub IsSectionsNumber : Bytes → Response → Bytes → ℕ → ℕ → ℕ → ℕ → ℕ → Bytes → ℕ → Type 0
+IsSectionsNumber text r label size time clock ahead behind outputs n =
+    (c : Call) → Shows c text r label size time clock ahead behind outputs → n ≡ numberTried rules9to13 c
+
+-- what is found where none applies: the places of the entries, the time of the last, the position of the first complete one
+pub record Found (text : Bytes) (r : Response) (s : Sections) : Type 0 where
+  pub stand : EntriesStand (entriesText text r) (take (s .count) (s .places)) (entriesIn (entriesText text r))
+  pub time : s .time ≡ lastOr 0 (map (λ (e : Entry). e .time) (entriesIn (entriesText text r)))
+  pub entry : Entry
+  pub isFirst : first (isComplete (ladder (r .target .version)) (r .target .version)) (entriesIn (entriesText text r)) ≡ some entry
+  pub position : entry .position ≡ s .position
+
+abbrev pub AreFound : Bytes → Response → Sections → Type 0
+AreFound text r s = s .number ≡ 0 → Found text r s
+
+-- what the arguments of 9 to 15 are of a call
+pub record Stands (c : Call) (text : Bytes) (r : Response) (label′ : Bytes) (size′ time′ : ℕ) (kept : Bytes) (clock′ ahead′ behind′ : ℕ)
+    (configuration′ outputs′ signed′ : Bytes) : Type 0 where
+  pub shows : Shows c text r label′ size′ time′ clock′ ahead′ behind′ outputs′
+  pub values : c .state .values ≡ runs (ones size′) hashLength kept
+  pub configuration : c .inputs .configuration ≡ configuration′
+  pub signed : c .inputs .signedText ≡ signed′
+
+abbrev pub rules9to15 : List Rule
+rules9to15 = rules9to13 ++ rules14
+
+-- what comes of a call that passes them: the position of the first complete entry, the time of the last, the values of the full subtrees
+pub record Leaves (c : Call) (t : ℕ) (k : Checked) (block : Bytes) : Type 0 where
+  pub entry : Entry
+  pub isFirst : first (isComplete (ladder t) t) (c .parts .entries) ≡ some entry
+  pub position : k .position ≡ entry .position
+  pub time : k .time ≡ lastTime c
+  pub values : block ≡ padded valuesBlockLength (flatten (fullValues (c .parts .size) (known c) (logWalk c) (c .parts .nodes)))
+
+-- 9 to 15, of a call to which none of 6 to 8 applies
+abbrev pub IsChecked : Bytes → Response → Bytes → ℕ → ℕ → Bytes → ℕ → ℕ → ℕ → Bytes → Bytes → Bytes → Checked → Bytes → Type 0
+IsChecked text r label size time kept clock ahead behind configuration outputs signed k block =
+    (c : Call) → Stands c text r label size time kept clock ahead behind configuration outputs signed → (k .number ≡ numberTried rules9to15 c)
+    × (k .number ≡ 0 → Leaves c (r .target .version) k block)
+
+-- 16 and acceptance, of a call to which none of 1 to 15 applies: the value is given by the field that spells it
+pub record Accepting (c : Call) (field : Bytes) (version size′ : ℕ) (b : StateBlock) (k : Checked) (block : Bytes) (room : ℕ) : Type 0 where
+  pub target : Target
+  pub finding : c .parts .finding ≡ searched target
+  pub isVersion : target .version ≡ version
+  pub isValue : readHex field ≡ some (target .value)
+  pub size : c .parts .size ≡ size′
+  pub state : stateOf b ≡ some (c .state)
+  pub leaves : Leaves c version k block
+  pub isRoom : c .inputs .room ≡ room
+
+abbrev pub rules16 : List Rule
+rules16 = rule 16 roomMissing ∷ []
+
+abbrev pub IsAcceptedAnswer : Bytes → ℕ → ℕ → StateBlock → Checked → Bytes → ℕ → SearchAnswer → Type 0
+IsAcceptedAnswer field version size b k block room a = (c : Call) → Accepting c field version size b k block room → a ≡ searchAnswer b (tried rules16 c)
+
+abbrev pub AreAcceptedBytes : Bytes → ℕ → ℕ → StateBlock → Checked → Bytes → Bytes → Bytes → Type 0
+AreAcceptedBytes field version size b k block output output′ =
+    (c : Call) → Accepting c field version size b k block (length output) → output′ ≡ outputAfter output (tried rules16 c)
+
+-- 6 to 16, of a call that was read
+pub record IsCall (c : Call) (text : Bytes) (r : Response) (configuration′ : Bytes) (ahead′ behind′ : ℕ) (b : StateBlock)
+    (identifier : Bytes) (clock : ℕ) (outputs′ signed : Bytes) (room : ℕ) : Type 0 where
+  pub parts : c .parts ≡ partsIn text r
+  pub inputs : c .inputs ≡ libraryInputs (some search) (argumentsOf text configuration′ identifier clock outputs′) signed room
+  pub ahead : c .configuration .maxAhead ≡ ahead′
+  pub behind : c .configuration .maxBehind ≡ behind′
+  pub state : stateOf b ≡ some (c .state)
+  pub outputs : readOutputs outputs′ ≡ some (c .outputs)
+
+abbrev pub IsReadAnswer : Bytes → Response → Bytes → ℕ → ℕ → StateBlock → Bytes → ℕ → Bytes → Bytes → ℕ → SearchAnswer → Type 0
+IsReadAnswer text r configuration ahead behind b identifier clock outputs signed room a =
+    (c : Call) → IsCall c text r configuration ahead behind b identifier clock outputs signed room → a ≡ searchAnswer b (tried (checks ++ lastChecks) c)
+
+abbrev pub AreReadBytes : Bytes → Response → Bytes → ℕ → ℕ → StateBlock → Bytes → ℕ → Bytes → Bytes → Bytes → Bytes → Type 0
+AreReadBytes text r configuration ahead behind b identifier clock outputs signed output output′ =
+    (c : Call) → IsCall c text r configuration ahead behind b identifier clock outputs signed (length output)
+    → output′ ≡ outputAfter output (tried (checks ++ lastChecks) c)

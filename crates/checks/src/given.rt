@@ -1,0 +1,141 @@
+// What is tried before the sections of a response are looked at (paper 01, Sixteen numbers): lengths, kind, identifier and label, size, version.
+ghost use mathlib.Core.Path.{_≡_};
+ghost use mathlib.Core.Bool.{false, not, _||_};
+ghost use mathlib.Core.Option.{Option·elim};
+ghost use Prim.Native.Nat.{ℕ, _≤_};
+ghost use lib.Dec.{eqb, ltb};
+ghost use lib.ListN.{length};
+ghost use Rattle.lists.specs.Lists.{Bytes, any, same};
+ghost use Rattle.lines.specs.Hex.{readHex};
+ghost use Rattle.rules.specs.Limits.{labelLimit, treeSizeLimit, greatestVersion};
+ghost use Rattle.inputs.specs.Response.{Fields};
+ghost use Rattle.checks.specs.Search.{areLengthsFit, IsOwn, IsFirstNumber};
+use inputs::response::Response;
+use inputs::response_lines::Kind;
+use inputs::response_lines::KtLine;
+use inputs::state::State;
+use lines::part::equal;
+use lines::writing::Put;
+use lines::writing::put_spelled;
+use tree::log_head::LogHead;
+
+// The most bytes of each input.
+const RESPONSE: usize = 1048576;
+
+const CONFIGURATION: usize = 2048;
+
+const SIGNED_TEXT: usize = 2088;
+
+const VRF_OUTPUTS: usize = 36864;
+
+// Whether no input is too long, and the identifier has its length.
+pub(crate) fn lengths_fit(
+    response: &[u8],
+    configuration: &[u8],
+    signed: &[u8],
+    outputs: &[u8],
+    identifier: &[u8],
+) -> bool
+    ensures { λ r. ⌜ r ≡ areLengthsFit (now (response .entry)) (now (configuration .entry)) (now (signed .entry)) (now (outputs .entry)) (now (identifier .entry)) ⌝ }
+{
+    if RESPONSE < response.len() {
+        return false;
+    }
+    if CONFIGURATION < configuration.len() {
+        return false;
+    }
+    if SIGNED_TEXT < signed.len() {
+        return false;
+    }
+    if VRF_OUTPUTS < outputs.len() {
+        return false;
+    }
+    identifier.len() == KtLine::IDENTIFIER
+}
+
+// The number of the first refusal from 6 to 8 that applies to a search, or 0: given the identifier sent, the label, the size and the versions of the state.
+pub(crate) fn first_number(
+    text: &[u8],
+    r: Response,
+    identifier: &[u8],
+    label: &[u8],
+    size: u64,
+    versions: &[u32],
+) -> u64
+    requires fields { ⌜ Fields (now text) r ⌝ }
+    requires identifier { ⌜ length (now identifier) ≤ labelLimit ⌝ }
+    requires label { ⌜ length (now label) ≤ labelLimit ⌝ }
+    ensures { λ n. ⌜ IsFirstNumber (now (text .entry)) r (now (identifier .entry)) (now (label .entry)) size (now (versions .entry)) n ⌝ }
+{
+    if !is_own(text, r, identifier, label) {
+        return 6;
+    }
+    if !size_fits(r.size, size) {
+        return 7;
+    }
+    if !version_fits(r.target.version, versions) {
+        return 8;
+    }
+    0
+}
+
+// Whether a response is that of a search with the identifier sent and the label.
+fn is_own(text: &[u8], r: Response, identifier: &[u8], label: &[u8]) -> bool
+    requires fields { ⌜ Fields (now text) r ⌝ }
+    requires identifier { ⌜ length (now identifier) ≤ labelLimit ⌝ }
+    requires label { ⌜ length (now label) ≤ labelLimit ⌝ }
+    ensures { λ b. ⌜ IsOwn (now (text .entry)) r (now (identifier .entry)) (now (label .entry)) b ⌝ }
+{
+    let kind = r.kind;
+    match kind {
+        Kind::Search => {
+            if !spells(r.identifier.of(text), identifier) {
+                return false;
+            }
+            spells(r.label.of(text), label)
+        }
+        Kind::Monitor => false,
+    }
+}
+
+// Whether the size of the log is neither 0 nor too large, nor below the kept one.
+pub(crate) fn size_fits(size: u64, kept_size: u64) -> bool
+    ensures { λ r. ⌜ r ≡ not (eqb size 0 || ltb treeSizeLimit size || ltb size «kept_size») ⌝ }
+{
+    if size == 0 {
+        return false;
+    }
+    if LogHead::LARGEST_SIZE < size {
+        return false;
+    }
+    kept_size <= size
+}
+
+// Whether a version is one that can be searched for, and not below one in the map.
+fn version_fits(version: u32, versions: &[u32]) -> bool
+    ensures { λ r. ⌜ r ≡ not (ltb greatestVersion version || any (λ (v : ℕ). ltb version v) (now (versions .entry))) ⌝ }
+{
+    if State::GREATEST_VERSION < version {
+        return false;
+    }
+    let mut i: usize = 0;
+    while i < versions.len() {
+        if version < versions[i] {
+            return false;
+        }
+        i += 1;
+    }
+    true
+}
+
+// Whether a field spells certain bytes.
+pub(crate) fn spells(field: &[u8], bytes: &[u8]) -> bool
+    requires { ⌜ length (now bytes) ≤ labelLimit ⌝ }
+    ensures { λ r. ⌜ r ≡ Option·elim (readHex (now (field .entry))) false (λ (b : Bytes). same b (now (bytes .entry))) ⌝ }
+{
+    let mut room = [0u8; State::LABEL];
+    match put_spelled(&mut room, 0, field) {
+        Put::Next(stop) => equal(&room[..stop], bytes),
+        Put::Unchanged => false,
+    }
+}

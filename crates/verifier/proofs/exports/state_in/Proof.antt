@@ -1,0 +1,22 @@
+-- `verifier::exports::state_in` meets its contract: the struct is that of the state, or one whose label is too long.
+use mathlib.Core.Path.{sym, _∙_}
+use native.Mathlib.Omega.{arith}
+use Rattle.verifier.proofs.SearchExportLaws.{label-over, text-broken, text-held}
+use borrow.Author.Needs.{needs}
+use Rattle.verifier.proofs.exports.state_in.Statement.{statement}
+use Rattle.verifier.proofs.exports.state_in.Tie as tie
+
+read-state-requires : tie.Need-read-state-requires
+read-state-requires c κs = search needs
+
+add-state : tie.Need-add-state
+add-state c = search needs
+
+returns : tie.Need-returns
+returns c = label-over _ (omega arith) ∙ sym (text-broken _ _ (c .before .before .before .read-state .ensures) (c .before .before .before .before .before .pre) (c .if1 .taken))
+
+returns-2 : tie.Need-returns-2
+returns-2 c = text-held _ _ (c .before .before .before .read-state .ensures) (c .before .before .before .before .before .pre) (c .if1 .left)
+
+pub state-in-spec : {M : Type 1} → statement M
+state-in-spec = tie.close (tie.spec read-state-requires add-state returns returns-2)
