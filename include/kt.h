@@ -54,6 +54,115 @@ uint64_t kt_sha256(const uint8_t *message, size_t message_length,
  */
 uint64_t kt_ladder(uint32_t version, uint8_t *versions, size_t versions_length);
 
+/*
+ * Searches.
+ *
+ * The limits of what a call is given, in bytes. KT_VALUE_LIMIT bytes of output are
+ * always enough. A state's text has at most KT_STATE_TEXT_LENGTH bytes, and the
+ * bytes lent for a new one must be as many, however short it turns out.
+ */
+#define KT_RESPONSE_LIMIT 1048576
+#define KT_CONFIGURATION_LIMIT 2048
+#define KT_STATE_TEXT_LENGTH 8192
+#define KT_IDENTIFIER_LENGTH 16
+#define KT_VRF_OUTPUT_LENGTH 32
+#define KT_VRF_RECORD_LENGTH (KT_VERSION_LENGTH + KT_VRF_OUTPUT_LENGTH)
+#define KT_VRF_OUTPUTS_LIMIT 36864
+#define KT_SIGNED_TEXT_LIMIT 2088
+#define KT_LABEL_LIMIT 255
+#define KT_VALUE_LIMIT 1024
+
+/* The largest log, the greatest version, the most entries of a monitoring map and the most siblings in a lookup. */
+#define KT_TREE_SIZE_LIMIT (UINT64_C(1) << 40)
+#define KT_GREATEST_VERSION (UINT32_MAX - 1)
+#define KT_MAP_LIMIT 48
+#define KT_SIBLING_LIMIT 255
+
+/*
+ * The three parts of an answer: KT_ACCEPTED or the number of a refusal, and how many
+ * bytes of the value and of the new state's text were written.
+ */
+#define KT_NUMBER(answer) ((int)((uint64_t)(answer) & 0xff))
+#define KT_VALUE_LENGTH(answer) ((size_t)((uint64_t)(answer) >> 8 & 0xffffff))
+#define KT_STATE_LENGTH(answer) ((size_t)((uint64_t)(answer) >> 32))
+
+/* Where several refusals apply, the one with the lowest number is answered. */
+enum {
+    KT_ACCEPTED = 0,
+    /* An input is longer than its limit, the identifier has another length, or too few bytes are lent for the new state. */
+    KT_REFUSED_LENGTH = 1,
+    /* The configuration cannot be decoded, or is for another cipher suite or deployment mode. */
+    KT_REFUSED_CONFIGURATION = 2,
+    /* The state's text is not that of a valid state. */
+    KT_REFUSED_STATE = 3,
+    /* The VRF outputs are not whole records, or their versions do not rise. */
+    KT_REFUSED_VRF_OUTPUTS = 4,
+    /* The response is not made of the right lines, or a field of it is malformed. */
+    KT_REFUSED_LINES = 5,
+    /* The response is for another kind of call, another identifier or another label. */
+    KT_REFUSED_REQUEST = 6,
+    /* The log is empty, larger than KT_TREE_SIZE_LIMIT, or smaller than the one in the state. */
+    KT_REFUSED_TREE_SIZE = 7,
+    /* The version found is above KT_GREATEST_VERSION, or older than one in the monitoring map. */
+    KT_REFUSED_TARGET = 8,
+    /* Steps, commitments, entries, lookups or nodes are more, fewer or other than this call needs. */
+    KT_REFUSED_SHAPE = 9,
+    /* A version that is looked up has no VRF output among those given. */
+    KT_REFUSED_MISSING_OUTPUT = 10,
+    /* Times go backwards, contradict the time in the state, or end too far ahead of the clock or behind it. */
+    KT_REFUSED_TIME = 11,
+    /* A lookup does not hash to the prefix root of its entry, or the other leaf that it shows cannot stand there. */
+    KT_REFUSED_LOOKUP = 12,
+    /* The lookups do not show that the version found is there and is the greatest. */
+    KT_REFUSED_LADDER = 13,
+    /* The log contradicts the one in the state: a full subtree has another value. */
+    KT_REFUSED_FULL_SUBTREE = 14,
+    /* The signed text is not that of this configuration, tree size and root. */
+    KT_REFUSED_SIGNED_TEXT = 15,
+    /* The value is longer than the output bytes, or the monitoring map would have more than KT_MAP_LIMIT entries. */
+    KT_REFUSED_ROOM = 16
+};
+
+/*
+ * Judges a log's response to a search for the greatest version of a label.
+ *
+ *   response       the text that came back
+ *   configuration  the log's encoded Configuration
+ *   state          the text that the last accepted call for this label wrote. The first
+ *                  call is given one line: the word size, the fields 0 and 0, and the
+ *                  label of at most KT_LABEL_LIMIT bytes in lower-case hex (- if it is
+ *                  empty), with one tab before each field and byte 0x0A at the end
+ *   identifier     the KT_IDENTIFIER_LENGTH bytes that were sent with the request
+ *   clock          the time now, in milliseconds, counted as the log counts
+ *   vrf_outputs    records of KT_VRF_RECORD_LENGTH bytes, by rising version: a version of
+ *                  KT_VERSION_LENGTH bytes, the highest byte first, and its VRF output
+ *   signed_text    the bytes that the log has signed for this tree head
+ *   output         lent for the value
+ *   new_state      lent for the new state's text
+ *
+ * No signature and no VRF proof is verified here: an acceptance means something only
+ * if the caller has verified the signature of signed_text and the proof of every VRF
+ * output with the keys of this configuration.
+ *
+ * Accepts exactly when none of the refusals applies. Then it writes the value to the
+ * first bytes of output and the new state's text to the first bytes of new_state,
+ * leaves the bytes after them as they are, and answers KT_ACCEPTED with both lengths;
+ * the caller keeps the new text in place of the old. A refusal writes nothing, and its
+ * answer is its number alone: both lengths are 0, and the old text stays good.
+ *
+ * The time grows with the length of what is given, some 10 ns a byte at most on a
+ * common computer, and a call takes less than 48 KiB of stack (measured).
+ */
+uint64_t kt_search(const uint8_t *response, size_t response_length,
+                   const uint8_t *configuration, size_t configuration_length,
+                   const uint8_t *state, size_t state_length,
+                   const uint8_t *identifier, size_t identifier_length,
+                   uint64_t clock,
+                   const uint8_t *vrf_outputs, size_t vrf_outputs_length,
+                   const uint8_t *signed_text, size_t signed_text_length,
+                   uint8_t *output, size_t output_length,
+                   uint8_t *new_state, size_t new_state_length);
+
 #ifdef __cplusplus
 }
 #endif

@@ -1,7 +1,9 @@
 /* Calls the verifier's static library as a C program does, and checks each promise of kt.h that a call can show. */
 #include <kt.h>
 
+#include <inttypes.h>
 #include <stdio.h>
+#include <stdlib.h>
 #include <string.h>
 
 static int failures = 0;
@@ -103,10 +105,95 @@ static void ladders(void)
     ladder(UINT32_MAX, longest, 0, "no ladder of 2^32 - 1");
 }
 
+#define EXAMPLE "examples/search/"
+
+struct file {
+    size_t length;
+    uint8_t bytes[4096];
+};
+
+static struct file contents(const char *path)
+{
+    struct file all = { 0, { 0 } };
+    FILE *file = fopen(path, "rb");
+    if (file != NULL)
+        all.length = fread(all.bytes, 1, sizeof all.bytes, file);
+    if (file == NULL || ferror(file) || all.length == sizeof all.bytes) {
+        fprintf(stderr, "kt_test: %s cannot be read\n", path);
+        exit(1);
+    }
+    fclose(file);
+    return all;
+}
+
+static struct file response, configuration, state, vrf_outputs, signed_text, value, next_state;
+static uint8_t identifier[KT_IDENTIFIER_LENGTH];
+static uint64_t clock_now;
+
+/* What is asked: the word search, the identifier in hex and the clock. */
+static void read_request(void)
+{
+    struct file request = contents(EXAMPLE "request");
+    char hex[2 * KT_IDENTIFIER_LENGTH + 1] = "";
+    int read = sscanf((const char *)request.bytes, "search\t%32[0-9a-f]\t%" SCNu64, hex, &clock_now);
+    expect(read == 2, "the request of the example");
+    for (size_t i = 0; i < KT_IDENTIFIER_LENGTH; i++)
+        expect(sscanf(hex + 2 * i, "%2" SCNx8, &identifier[i]) == 1, "the identifier of the example");
+}
+
+/* Lends so many of the marked bytes, and checks the answer and every byte. */
+static void search(int number, size_t output_room, size_t state_room, const char *what)
+{
+    static uint8_t output[KT_VALUE_LIMIT], output_after[KT_VALUE_LIMIT];
+    static uint8_t new_state[KT_STATE_TEXT_LENGTH], new_state_after[KT_STATE_TEXT_LENGTH];
+    memset(output, MARK, sizeof output);
+    memset(output_after, MARK, sizeof output_after);
+    memset(new_state, MARK, sizeof new_state);
+    memset(new_state_after, MARK, sizeof new_state_after);
+    int accepted = number == KT_ACCEPTED;
+    if (accepted) {
+        memcpy(output_after, value.bytes, value.length);
+        memcpy(new_state_after, next_state.bytes, next_state.length);
+    }
+    uint64_t answer = kt_search(response.bytes, response.length, configuration.bytes, configuration.length,
+                                state.bytes, state.length, identifier, sizeof identifier, clock_now,
+                                vrf_outputs.bytes, vrf_outputs.length, signed_text.bytes, signed_text.length,
+                                output, output_room, new_state, state_room);
+    expect(KT_NUMBER(answer) == number, what);
+    expect(KT_VALUE_LENGTH(answer) == (accepted ? value.length : 0), what);
+    expect(KT_STATE_LENGTH(answer) == (accepted ? next_state.length : 0), what);
+    expect(memcmp(output, output_after, sizeof output) == 0, what);
+    expect(memcmp(new_state, new_state_after, sizeof new_state) == 0, what);
+}
+
+/* The search of the examples, run from the top of the repository. */
+static void searches(void)
+{
+    response = contents(EXAMPLE "response");
+    configuration = contents(EXAMPLE "settings");
+    state = contents(EXAMPLE "state");
+    vrf_outputs = contents(EXAMPLE "sheet");
+    signed_text = contents(EXAMPLE "signed");
+    value = contents(EXAMPLE "value");
+    next_state = contents(EXAMPLE "state.new");
+    read_request();
+    search(KT_ACCEPTED, KT_VALUE_LIMIT, KT_STATE_TEXT_LENGTH, "a search");
+    search(KT_ACCEPTED, value.length, KT_STATE_TEXT_LENGTH, "a search with just enough room for the value");
+    search(KT_REFUSED_ROOM, value.length - 1, KT_STATE_TEXT_LENGTH, "a search with too little room for the value");
+    search(KT_REFUSED_LENGTH, KT_VALUE_LIMIT, KT_STATE_TEXT_LENGTH - 1, "a search with too little room for the new state");
+    for (size_t bit = 0; bit < 8 * sizeof identifier; bit++) {
+        uint8_t flipped = (uint8_t)(1 << bit % 8);
+        identifier[bit / 8] ^= flipped;
+        search(KT_REFUSED_REQUEST, KT_VALUE_LIMIT, KT_STATE_TEXT_LENGTH, "a search with another identifier");
+        identifier[bit / 8] ^= flipped;
+    }
+}
+
 int main(void)
 {
     sha256();
     ladders();
+    searches();
     if (failures == 0)
         puts("kt_test: all as kt.h says");
     return failures != 0;

@@ -7,6 +7,7 @@
 #include <string.h>
 
 #include "calls.h"
+#include "kt.h"
 
 #define GIVEN                                                                                          \
     response, response_length, configuration, configuration_length, state, state_length, identifier, \
@@ -31,25 +32,29 @@ static int fault(const char *name)
 uint64_t __wrap_kt_search(INPUTS, SIGNED, OUTPUT, NEW_STATE)
 {
     uint64_t answer = __real_kt_search(GIVEN, signed_text, signed_text_length, output, output_length, new_state, new_state_length);
-    if (fault("byte after the value") && answer >> 8 != 0 && output_length > (answer >> 8 & 0xffffff))
-        output[answer >> 8 & 0xffffff] ^= 1;
-    if (fault("output on refusal") && answer >> 8 == 0 && output_length > 0)
+    int number = KT_NUMBER(answer);
+    size_t written = KT_VALUE_LENGTH(answer);
+    if (fault("byte after the value") && number == KT_ACCEPTED && output_length > written)
+        output[written] ^= 1;
+    if (fault("output on refusal") && number != KT_ACCEPTED && output_length > 0)
         output[0] ^= 1;
-    if (fault("byte before the output") && answer == 5)
+    if (fault("byte before the output") && number == KT_REFUSED_LINES)
         *(output - 1) ^= 1;
-    if (fault("another number") && answer == 16)
-        return 15;
+    if (fault("another number") && number == KT_REFUSED_ROOM)
+        return KT_REFUSED_SIGNED_TEXT;
     return answer;
 }
 
 uint64_t __wrap_kt_monitor(INPUTS, SIGNED, NEW_STATE)
 {
     uint64_t answer = __real_kt_monitor(GIVEN, signed_text, signed_text_length, new_state, new_state_length);
-    if (fault("byte after the new state") && answer >> 32 != 0 && new_state_length > answer >> 32)
-        new_state[answer >> 32] ^= 1;
-    if (fault("new state on refusal") && answer == 9)
+    int number = KT_NUMBER(answer);
+    size_t written = KT_STATE_LENGTH(answer);
+    if (fault("byte after the new state") && number == KT_ACCEPTED && new_state_length > written)
+        new_state[written] ^= 1;
+    if (fault("new state on refusal") && number == KT_REFUSED_SHAPE)
         new_state[0] ^= 1;
-    if (fault("input changed") && answer == 14)
+    if (fault("input changed") && number == KT_REFUSED_FULL_SUBTREE)
         *(uint8_t *)(uintptr_t)state ^= 1;
     return answer;
 }
@@ -57,9 +62,9 @@ uint64_t __wrap_kt_monitor(INPUTS, SIGNED, NEW_STATE)
 uint64_t __wrap_kt_signed_text(uint32_t kind, INPUTS, OUTPUT, uint64_t offset)
 {
     uint64_t answer = __real_kt_signed_text(kind, GIVEN, output, output_length, offset);
-    if (fault("byte before the offset") && answer > 16 && offset > 0)
+    if (fault("byte before the offset") && answer > KT_REFUSED_ROOM && offset > 0)
         output[offset - 1] ^= 1;
-    if (fault("no room passed over") && answer == 16)
+    if (fault("no room passed over") && answer == KT_REFUSED_ROOM)
         return 72;
     return answer;
 }
@@ -67,7 +72,7 @@ uint64_t __wrap_kt_signed_text(uint32_t kind, INPUTS, OUTPUT, uint64_t offset)
 uint64_t __wrap_kt_ladder(uint32_t version, OUTPUT)
 {
     uint64_t answer = __real_kt_ladder(version, output, output_length);
-    if (fault("last version of a ladder") && answer == 64)
-        output[255] ^= 1;
+    if (fault("last version of a ladder") && answer == KT_LADDER_LENGTH)
+        output[KT_VERSION_LENGTH * KT_LADDER_LENGTH - 1] ^= 1;
     return answer;
 }

@@ -2,7 +2,7 @@
 //! easy errors it names.
 
 use crate::base::{self, question, Base, Plan};
-use crate::case::{Answer, Case, Inputs};
+use crate::case::Case;
 use crate::damage::leaves::misplaced;
 use crate::damage::Damage;
 use crate::honest::extremes::with_greatest;
@@ -15,7 +15,9 @@ use honest_log::VrfRule;
 pub fn cases() -> Vec<Case> {
     let mut list = targets();
     list.extend(sizes());
-    list.extend(bounds());
+    list.extend(identifiers());
+    list.extend(clocks());
+    list.extend(kept_times());
     list.extend(maps());
     list.extend(hidden_version());
     list.extend(early_version());
@@ -63,25 +65,75 @@ fn sizes() -> Vec<Case> {
     list
 }
 
-/// An identifier off by one bit, and a last time at clock + max_ahead and one more.
-fn bounds() -> Vec<Case> {
+/// An identifier off by one bit.
+fn identifiers() -> Vec<Case> {
+    let flipped = Damage::on_inputs(6, "identifier off by one bit", |inputs| {
+        inputs.identifier[15] ^= 1
+    });
+    let bases = [base::searches().remove(0), base::monitorings().remove(0)];
+    bases.iter().map(|base| flipped.apply(base)).collect()
+}
+
+/// A last time at each bound around the clock and one past it, also where the time is the first or
+/// the last of all.
+fn clocks() -> Vec<Case> {
+    let at = |name: &str, time: u64| {
+        let log = Plan {
+            first_time: time,
+            pace: 0,
+            ..Plan::new(b"noon", 3, &[(0, 0)])
+        }
+        .log();
+        let question = question(&log, b"noon", 2, &[(1, 0)], 3);
+        Base::new(name, Kind::Search, &log, question)
+    };
+    let bases = [
+        base::searches().remove(0),
+        base::monitorings().remove(0),
+        at("search at time 0", 0),
+        at("search at time 2^64 - 1", u64::MAX),
+    ];
     let mut list = Vec::new();
-    for base in [base::searches().remove(0), base::monitorings().remove(0)] {
-        let earliest = base.exchange.new_state.time - base.exchange.settings.max_ahead;
-        let damages = [
-            Damage::on_inputs(6, "identifier off by one bit", |inputs| {
-                inputs.identifier[15] ^= 1
-            }),
-            Damage::on_inputs(0, "last time at clock + max_ahead", move |inputs| {
-                inputs.clock = earliest
-            }),
-            Damage::on_inputs(11, "last time one past clock + max_ahead", move |inputs| {
-                inputs.clock = earliest - 1
-            }),
+    for base in bases {
+        let time = base.exchange.new_state.time;
+        let earliest = time.checked_sub(base.exchange.settings.max_ahead);
+        let latest = time.checked_add(base.exchange.settings.max_behind);
+        let clocks = [
+            (0, "at clock + max_ahead", earliest),
+            (11, "one past clock + max_ahead", earliest.map(|c| c - 1)),
+            (0, "at clock - max_behind", latest),
+            (11, "one before clock - max_behind", latest.map(|c| c + 1)),
         ];
-        list.extend(damages.iter().map(|damage| damage.apply(&base)));
+        for (number, bound, clock) in clocks {
+            let Some(clock) = clock else { continue };
+            let name = format!("last time {bound}");
+            let damage = Damage::on_inputs(number, name, move |inputs| inputs.clock = clock);
+            list.push(damage.apply(&base));
+        }
     }
     list
+}
+
+/// A kept time at that of the entries shown on either side of the old size, and one past it.
+fn kept_times() -> Vec<Case> {
+    let base = base::searches().remove(0);
+    let entries = &base.exchange.response.entries;
+    let (old, new) = (entries[0].time, entries[1].time);
+    assert!(entries[0].position < base.exchange.state.size);
+    assert!(entries[1].position >= base.exchange.state.size);
+    let times = [
+        (0, "at an old entry's", old),
+        (11, "one before an old entry's", old - 1),
+        (0, "at a new entry's", new),
+        (11, "one after a new entry's", new + 1),
+    ];
+    let kept = |(number, bound, time): (u8, &str, u64)| {
+        Damage::on_exchange(number, format!("kept time {bound}"), move |exchange| {
+            exchange.state.time = time
+        })
+        .apply(&base)
+    };
+    times.into_iter().map(kept).collect()
 }
 
 /// 48 pairs: a new position is one too many, an old one is not.
@@ -160,20 +212,16 @@ fn early_version() -> Vec<Case> {
 /// A kept value under which something is shown is compared even where the rest is right.
 fn compared_value() -> Vec<Case> {
     let log = Plan::new(b"yaw", 5, &[(0, 0)]).log();
-    let question = question(&log, b"yaw", 5, &[], 5);
-    let base = Base::new("yaw of 5 after 5", Kind::Monitor, &log, question);
     let mut list = Vec::new();
-    for at in 0..2 {
-        let mut exchange = base.exchange.clone();
-        exchange.state.values[at] = [3; limits::DIGEST];
-        let answer = Some(Answer::Refused(14));
-        let name = format!("kept value {at} of 5 that a shown entry contradicts");
-        list.push(Case {
-            name,
-            inputs: Inputs::of(&exchange),
-            room: 0,
-            answer,
-        });
+    for kind in [Kind::Search, Kind::Monitor] {
+        let question = question(&log, b"yaw", 5, &[], 5);
+        let base = Base::new("yaw of 5 after 5", kind, &log, question);
+        for at in 0..2 {
+            let mut exchange = base.exchange.clone();
+            exchange.state.values[at] = [3; limits::DIGEST];
+            let name = format!("{} with kept value {at} contradicted", kind.word());
+            list.push(Case::of(name, 14, &exchange));
+        }
     }
     list
 }

@@ -19,6 +19,19 @@ pub enum Call {
     Sha256 = 4,
 }
 
+impl Call {
+    pub fn named(name: &str) -> Option<Call> {
+        match name {
+            "kt_search" => Some(Call::Search),
+            "kt_monitor" => Some(Call::Monitor),
+            "kt_signed_text" => Some(Call::SignedText),
+            "kt_ladder" => Some(Call::Ladder),
+            "kt_sha256" => Some(Call::Sha256),
+            _ => None,
+        }
+    }
+}
+
 /// A call of the library and the bytes lent to it.
 #[derive(Clone, Copy, Debug)]
 pub struct Request<'a> {

@@ -108,6 +108,77 @@ fn accepted_cases_reach_every_limit() {
     );
 }
 
+/// The searches among paper 01's examples that a program runs and its easy errors, and the bounds of times, by number.
+const EXAMPLES: [(u8, &[&str]); 10] = [
+    (
+        0,
+        &[
+            "ladder of 2^32 - 2 by 64 versions",
+            "search with n = 11 and m = 11",
+            "search of 13 after 10: last time at clock + max_ahead",
+            "search of 13 after 10: last time at clock - max_behind",
+            "search at time 0: last time at clock - max_behind",
+            "search at time 2^64 - 1: last time at clock + max_ahead",
+            "search of 13 after 10: kept time at an old entry's",
+            "search of 13 after 10: kept time at a new entry's",
+            "search of 13 after 10: entry 12's time as early as may be",
+            "48 pairs and old position",
+        ],
+    ),
+    (6, &["search of 13 after 10: identifier off by one bit"]),
+    (7, &["search with n = 10 and m = 11"]),
+    (
+        8,
+        &[
+            "ladder of 2^32 - 2: target 2^32 - 1",
+            "t = 2^32 - 1 with a ladder of its own",
+        ],
+    ),
+    (9, &["search of 13 after 10: 1 spare nodes of zero bytes"]),
+    (
+        11,
+        &[
+            "search of 13 after 10: last time one past clock + max_ahead",
+            "search of 13 after 10: last time one before clock - max_behind",
+            "search at time 0: last time one before clock - max_behind",
+            "search at time 2^64 - 1: last time one past clock + max_ahead",
+            "search of 13 after 10: kept time one before an old entry's",
+            "search of 13 after 10: kept time one after a new entry's",
+            "search of 13 after 10: entry 12's time one too early",
+        ],
+    ),
+    (
+        12,
+        &[
+            "nl whose other leaf is the searched one",
+            "nl whose other leaf stands elsewhere",
+        ],
+    ),
+    (
+        13,
+        &[
+            "version 1 is there and 0 is said to be the last",
+            "in above t at an early entry",
+        ],
+    ),
+    (14, &["search with kept value 0 contradicted"]),
+    (16, &["48 pairs and new position"]),
+];
+
+#[test]
+fn the_papers_examples_are_cases() {
+    let cases = compare::named();
+    let find = |name: &str| cases.iter().find(|case| case.name == name);
+    for (number, names) in EXAMPLES {
+        for name in names {
+            let case = find(name).unwrap_or_else(|| panic!("no case {name}"));
+            let answer = case.answer.as_ref().map(|answer| answer.number());
+            assert_eq!(answer, Some(number), "{name}");
+            assert_eq!(case.inputs.kind.word(), "search", "{name}");
+        }
+    }
+}
+
 #[test]
 fn names_are_distinct() {
     for cases in [compare::named(), compare::small()] {

@@ -1,7 +1,7 @@
 //! Compares a checker with the second program on many calls.
 //!
 //!     compare program PATH FOLDER COUNT [SEED]    runs the program at PATH in folders under FOLDER
-//!     compare library PATH COUNT [SEED]           calls a library through the C program at PATH
+//!     compare library PATH COUNT [SEED [CALL..]]  calls a library through the C program at PATH, all calls or those named
 //!
 //! A library is called on all fixed cases and on COUNT cases that follow from the seed; a program is run on up to COUNT
 //! fixed cases, of each number alike, and on COUNT others. With COUNT 0 the small cases are run alone. The second
@@ -10,7 +10,7 @@
 
 use compare::case::{Case, Folder};
 use compare::folders::of_case;
-use compare::library::{self, Library, Request};
+use compare::library::{self, Call, Library, Request};
 use compare::program;
 use compare::selection::{by_number, spread, NUMBERS};
 use compare::tally::Tally;
@@ -34,14 +34,15 @@ fn main() {
                 programs(&path, &folder, share)
             })
         }
-        ["library", path, count, rest @ ..] if rest.len() < 2 => {
+        ["library", path, count, rest @ ..] => {
             let path = PathBuf::from(path);
+            let calls: Vec<Call> = rest.iter().skip(1).map(|name| named(name)).collect();
             together(number(count), seed(rest), move |share| {
-                libraries(&path, share)
+                libraries(&path, &calls, share)
             })
         }
         _ => {
-            eprintln!("usage: compare program PATH FOLDER COUNT [SEED]\n       compare library PATH COUNT [SEED]");
+            eprintln!("usage: compare program PATH FOLDER COUNT [SEED]\n       compare library PATH COUNT [SEED [CALL..]]");
             exit(2);
         }
     };
@@ -53,6 +54,11 @@ fn main() {
 
 fn number(word: &str) -> u64 {
     word.parse().unwrap_or_else(|error| fail(word, error))
+}
+
+/// A call by its name in the library.
+fn named(name: &str) -> Call {
+    Call::named(name).unwrap_or_else(|| fail(name, "no call"))
 }
 
 fn fail(what: &str, error: impl std::fmt::Display) -> ! {
@@ -158,13 +164,17 @@ fn run(
     Ok(())
 }
 
-fn libraries(path: &Path, share: Share) -> io::Result<Tally> {
+/// Makes the calls given, or all where none is.
+fn libraries(path: &Path, calls: &[Call], share: Share) -> io::Result<Tally> {
     let mut tally = Tally::default();
     let mut library = Library::start(path)?;
     for (number, case) in share.cases(usize::MAX).enumerate() {
         for (i, request) in library::requests(&case, number).iter().enumerate() {
             if tally.enough() {
                 break;
+            }
+            if !calls.is_empty() && !calls.contains(&request.call) {
+                continue;
             }
             if let Err(error) = call(&mut library, request, i == 0, &mut tally) {
                 tally.differs(format!("{}: no reply, {error}", case.name));
@@ -187,7 +197,7 @@ fn call(library: &mut Library, request: &Request, own: bool, tally: &mut Tally) 
         }
     }
     match request.call {
-        library::Call::Search | library::Call::Monitor => tally.count(expected.word as u8),
+        Call::Search | Call::Monitor => tally.count(expected.word as u8),
         _ => tally.count_other(),
     }
     if let Some(what) = library::difference(&library.call(request)?, &expected) {
