@@ -1,4 +1,9 @@
-//! What the programs share.
+//! What the programs share, and the inputs of the searches that are measured.
+
+pub mod answers;
+pub mod hostile;
+pub mod inputs;
+pub mod stack;
 
 /// A small generator (xorshift, 64 bits) with a fixed seed, so that every run has the same inputs.
 pub struct Random(u64);
