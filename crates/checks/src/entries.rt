@@ -8,6 +8,7 @@ ghost use Rattle.rules.specs.Limits.{responseLimit};
 ghost use Rattle.inputs.specs.Response.{looseIn};
 ghost use Rattle.checks.specs.Sections.{EntryLines, AfterLookups};
 ghost use Rattle.checks.specs.Entries.{versionsOf, beginsLadder, AreEntriesAsked, AreEntriesAt};
+use crate::sections::ENTRY_WORD;
 use crate::sections::NextEntry;
 use crate::sections::NextLookup;
 use crate::sections::lookup_version;
@@ -27,9 +28,6 @@ struct LookupsAsked {
     asked: bool,
     next: usize,
 }
-
-// The bytes of an entry line before its position: its word and a tab.
-pub(crate) const ENTRY_WORD: usize = 6;
 
 // The entries of a search: those at some positions, in each of which the ladder that is wanted, or a beginning of it, is looked up.
 pub(crate) fn entries_asked(entries: &[u8], positions: &[u64], wanted: &[u32]) -> EntriesAsked

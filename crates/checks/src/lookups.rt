@@ -10,7 +10,9 @@ ghost use Rattle.rules.specs.Search.{endsEarly, earlyThenComplete};
 ghost use Rattle.inputs.specs.Response.{entriesIn, looseIn};
 ghost use Rattle.checks.specs.Sections.{EntryLines, AfterLookups, OfLookup};
 ghost use Rattle.checks.specs.Lookups.{leadsTo, leafReaches, reaches, Passes, AllPass, completeLadder, AllHold, IsFirstComplete};
-use crate::entries::ENTRY_WORD;
+use crate::sections::DIGITS;
+use crate::sections::ENTRY_WORD;
+use crate::sections::LOOKUP_WORD;
 use crate::sections::NextEntry;
 use crate::sections::NextLookup;
 use crate::sections::is_included;
@@ -44,12 +46,6 @@ struct LookupsJudged {
     early: bool,
     next: usize,
 }
-
-// The bytes of a lookup line before its version: its word and a tab.
-const LOOKUP_WORD: usize = 3;
-
-// The digits of a value.
-const DIGITS: usize = 64;
 
 // The entries of a search for a version, tried with the outputs, with the commitments of the steps, whose versions are those of the ladder that is wanted,
 // and with the version's own commitment.

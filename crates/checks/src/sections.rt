@@ -36,10 +36,12 @@ pub(crate) enum NextLookup {
 // The bytes of a line before its first field: the word and a tab.
 const STEP_WORD: usize = 5;
 
-const LOOKUP_WORD: usize = 3;
+pub(crate) const ENTRY_WORD: usize = 6;
 
-// The digits of a commitment.
-const DIGITS: usize = 64;
+pub(crate) const LOOKUP_WORD: usize = 3;
+
+// The digits of a value.
+pub(crate) const DIGITS: usize = 64;
 
 // The step at a place.
 pub(crate) fn next_step(steps: &[u8], at: usize) -> NextStep
