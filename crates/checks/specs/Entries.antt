@@ -11,7 +11,7 @@ use Rattle.rules.specs.State.{State}
 use Rattle.rules.specs.Response.{Target, searched, Lookup, Entry, logEntry}
 use Rattle.rules.specs.Search.{Asked}
 use Rattle.rules.specs.Refusals.{entriesAsked, timeFits}
-use Rattle.inputs.specs.Response.{entriesIn, looseIn}
+use Rattle.inputs.specs.Response.{entriesIn}
 
 abbrev pub versionsOf : List Lookup → List ℕ
 versionsOf ls = map (λ (l : Lookup). l .version) ls

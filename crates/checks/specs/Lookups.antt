@@ -1,8 +1,8 @@
 -- What is known of the lookups of a search, from what they are tried with: for contracts of private functions alone.
 use mathlib.Core.Path.{_≡_}
-use mathlib.Core.Bool.{Bool, true, false, _&&_, not}
-use mathlib.Core.List.{List, [], _∷_}
-use mathlib.Core.Option.{some, Option·elim}
+use mathlib.Core.Bool.{Bool, true, false, _&&_}
+use mathlib.Core.List.{List}
+use mathlib.Core.Option.{some}
 use Prim.Native.Nat.{ℕ, _+_}
 use lib.Dec.{eqb, leb}
 use lib.ListN.{length, take, drop}
@@ -11,11 +11,10 @@ use Rattle.lists.specs.Lists.{Bytes, all, any, first, same}
 use Rattle.tree.specs.LogText.{valueDigits, valueIn, valuesIn}
 use Rattle.tree.specs.PrefixTree.{Terminal, ownLeaf, emptyPlace, foreignLeaf, lookupRoot, terminalFits}
 use Rattle.rules.specs.VrfOutputs.{readOutputs, hasOutput}
-use Rattle.rules.specs.Response.{Target, Finding, searched, Result, included, absent, otherLeaf, Lookup, Entry, isIncluded}
+use Rattle.rules.specs.Response.{Target, searched, Result, included, absent, otherLeaf, Lookup, Entry}
 use Rattle.rules.specs.Commitment.{commitmentTo}
-use Rattle.rules.specs.Search.{resultFits, isComplete, earlyThenComplete}
+use Rattle.rules.specs.Search.{resultFits, isComplete}
 use Rattle.rules.specs.Refusals.{Call, commitmentAsked, untried, lookupHolds, lookupsHold}
-use Rattle.inputs.specs.Response.{entriesIn, looseIn}
 use Rattle.checks.specs.Sections.{readLookup}
 use Rattle.checks.specs.Steps.{CommitmentsAt}
 use Rattle.checks.specs.Steps.{versionsOf as stepVersions}

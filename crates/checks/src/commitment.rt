@@ -3,7 +3,7 @@ ghost use mathlib.Core.Path.{_≡_};
 ghost use Prim.Native.Nat.{_≤_};
 ghost use lib.ListN.{length};
 ghost use Rattle.rules.specs.Limits.{labelLimit, valueLimit, openingLength};
-ghost use Rattle.rules.specs.Commitment.{commitmentKey, commitmentTo};
+ghost use Rattle.rules.specs.Commitment.{commitmentTo};
 ghost use Rattle.inputs.specs.ResponseLines.{spelled};
 use hash::hmac::finish;
 use hash::hmac::start;

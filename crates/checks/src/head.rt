@@ -1,5 +1,4 @@
 // The head of the log that a response shows (paper 01, Sixteen numbers: 14 and 15).
-ghost use mathlib.Core.Path.{_≡_};
 ghost use Rattle.inputs.specs.declared.response.ReadResponse.the-variants.{Read};
 ghost use Rattle.inputs.specs.Response.{Places};
 ghost use Rattle.checks.specs.Search.{IsHead};

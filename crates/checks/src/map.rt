@@ -1,7 +1,4 @@
 // The monitoring map with one pair more (paper 01, Ladder, search, monitoring).
-ghost use mathlib.Core.Path.{_≡_};
-ghost use Prim.Native.Nat.{_≤_};
-ghost use Rattle.rules.specs.Limits.{mapLimit};
 ghost use Rattle.checks.specs.Map.{IsMap, HasPair};
 use inputs::state::State;
 

@@ -6,7 +6,7 @@ ghost use Prim.Native.Nat.{_≤_, _<_};
 ghost use lib.ListN.{length, take};
 ghost use Rattle.lines.specs.Readings.{partOf};
 ghost use Rattle.tree.specs.SearchTree.{frontierCapacity};
-ghost use Rattle.rules.specs.Limits.{responseLimit, labelLimit, identifierLength, treeSizeLimit, greatestVersion, mapLimit, valueLimit, openingLength};
+ghost use Rattle.rules.specs.Limits.{responseLimit, labelLimit, identifierLength, treeSizeLimit, greatestVersion, valueLimit, openingLength};
 ghost use Rattle.lists.specs.Choice.{given};
 ghost use Rattle.rules.specs.ResponseText.{readResponse};
 ghost use Rattle.rules.specs.Refusals.{validState};

@@ -1,5 +1,4 @@
 // The steps of a search (paper 01, Ladder, search, monitoring): whether they are as asked, and their commitments.
-ghost use mathlib.Core.Path.{_≡_};
 ghost use Prim.Native.Nat.{_≤_};
 ghost use lib.ListN.{length};
 ghost use Rattle.tree.specs.Ladder.{ladderCapacity};

@@ -1,21 +1,21 @@
 -- Laws of a search over state texts (rules/specs/Calls.antt, ktSearch): the state that a text says, and the answer as one number.
-use mathlib.Core.Path.{_≡_, refl, sym, ap, ap₂, subst, _∙_}
-use mathlib.Core.Bool.{Bool, true, false}
+use mathlib.Core.Path.{_≡_, refl, sym, ap, _∙_}
+use mathlib.Core.Bool.{true}
 use mathlib.Core.List.{[]}
-use mathlib.Core.Option.{Option, none, some, Option·elim, Option·getD, Option·map, Option·some-injective, bind}
+use mathlib.Core.Option.{Option, none, some, Option·elim, Option·getD, Option·map, Option·some-injective}
 use Prim.Native.Nat.{ℕ, _+_, _*_, _^_, _≤_, _<_}
 use native.Mathlib.Omega.{arith}
 use lib.Dec.{leb}
 use lib.ListN.{length}
 use borrow.Author.Tests.{le-leb, lt-leb}
-use Rattle.lists.specs.Choice.{choose, provided, given}
+use Rattle.lists.specs.Choice.{provided}
 use Rattle.lists.specs.Lists.{Bytes, every, written}
 use Rattle.lists.proofs.ListLaws.{bind-some, test-some, choose-true, choose-false}
 use Rattle.rules.specs.Limits.{labelLimit, valueLimit, stateTextLimit}
 use Rattle.rules.specs.State.{State, isValid}
 use Rattle.rules.specs.StateText.{readState, writeState, readStateLines, readStateText}
-use Rattle.rules.specs.Response.{Target, Finding, searched, monitored}
-use Rattle.rules.specs.Refusals.{Call, Judgement, refused, passed, validState}
+use Rattle.rules.specs.Response.{Finding, searched, monitored}
+use Rattle.rules.specs.Refusals.{Call, Judgement, refused, passed}
 use Rattle.rules.specs.Calls.{Arguments, judgeSearch, numberOf, nextState, valueFound, valueOf, writtenFirst, outputAfter, textJudged, roomJudged, ktSearch, textOf, textAfter, answerWord}
 use Rattle.rules.proofs.StateTextLaws.{state-short}
 use Rattle.rules.proofs.RefusalLaws.{sixteen-numbers}
@@ -23,7 +23,7 @@ use Rattle.rules.proofs.NextStateLaws.{TargetFits, response-bounds, accepted-ca
 use Rattle.lines.specs.Line.{readLines}
 use Rattle.inputs.specs.declared.state.State.{State as StateBlock}
 use Rattle.inputs.specs.declared.state.NumberedState.{NumberedState as NumberedBlock}
-use Rattle.inputs.specs.State.{blockOf, numberedBlock, contents, roomIsZero, stateOf}
+use Rattle.inputs.specs.State.{blockOf, numberedBlock, roomIsZero, stateOf}
 use Rattle.inputs.specs.StateReader.{orRefused}
 use Rattle.inputs.specs.StateWriter.{textFor}
 use Rattle.inputs.proofs.StateBlockLaws.{block-state, block-stands}
