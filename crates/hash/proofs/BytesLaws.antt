@@ -1,10 +1,10 @@
 -- Laws of numbers as bytes and of lists filled up with zeros (specs/Bytes.antt). A buffer that starts all zero and is filled from its front is a `padded` list at each step.
-use mathlib.Core.Path.{_≡_, refl, sym, _∙_}
+use mathlib.Core.Path.{_≡_, refl, sym, _∙_, ap}
 use mathlib.Core.List.{List, [], _∷_, _++_, map, append-assoc, append-nil}
 use Prim.Native.Nat.{ℕ, zero, suc, _+_, _-_, _/_, _%_, _≤_, _<_}
 use native.Mathlib.Nat.{le-of-eq}
 use native.Mathlib.Omega.{arith}
-use lib.ListN.{length, getD, take, drop, set, replicate, length-append, length-drop, length-replicate, length-map, replicate-append-replicate}
+use lib.ListN.{length, getD, take, drop, set, replicate, length-append, length-take, length-drop, length-replicate, length-map, replicate-append-replicate}
 use lib.Seq.{paste, take-at, drop-at, drop-append-add, set-at, take-all, take-length, length-take-le}
 use Rattle.hash.specs.Bytes.{AreBytes, bigEndian, padded}
 
@@ -48,6 +48,13 @@ padded-full n s h = let z : n - length s ≡ 0 = omega arith in rw z (append-nil
 pub take-padded : (n k : ℕ) (s : List ℕ) → length s ≡ k → take k (padded n s) ≡ s
 unfolding padded
 take-padded n k s h = take-at s (replicate (n - length s) 0) k h
+
+-- the list at the front of an array that was filled with it
+pub filled-front : (n count : ℕ) (vs ws : List ℕ) → (vs ≡ padded n ws) × (count ≡ length ws)
+    → (take count vs ≡ ws) × (count ≤ length vs) × (count ≡ length (take count vs))
+filled-front n count vs ws (e, f) =
+    let k : take count vs ≡ ws = ap (take count) e ∙ take-padded n count ws (sym f) in
+    (k, omega (arith, f, ap length k, length-take count vs), f ∙ ap length (sym k))
 
 -- zeros after the list are there already
 pub padded-zeros : (n z : ℕ) (s : List ℕ) → length s + z ≤ n → padded n s ≡ padded n (s ++ replicate z 0)

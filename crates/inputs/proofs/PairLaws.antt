@@ -1,5 +1,5 @@
 -- Laws of the pairs of a monitoring map, which stand as positions and as versions (specs/State.antt).
-use mathlib.Core.Path.{_≡_, refl, sym, _∙_, ap}
+use mathlib.Core.Path.{_≡_, refl, sym, _∙_, ap, ap₂}
 use mathlib.Core.Bool.{Bool, true, false, and-false}
 use mathlib.Core.List.{List, [], _∷_}
 use Prim.Native.Nat.{ℕ, zero, suc, _+_, _≤_, _<_}
@@ -7,8 +7,10 @@ use native.Mathlib.Omega.{arith}
 use lib.Dec.{leb}
 use lib.ListN.{length, getD, take, drop, length-take, length-map}
 use lib.Seq.{getD-take}
-use borrow.Author.Tests.{le-leb, lt-leb}
+use borrow.Author.Tests.{le-leb, lt-leb, leb-true}
 use Rattle.lists.specs.Lists.{all}
+use Rattle.lists.proofs.ListLaws.{all-at, at-member}
+use Rattle.lines.proofs.PlaceLaws.{at-cons}
 use Rattle.tree.specs.LogWalk.{risingBelow}
 use Rattle.tree.proofs.RisingBelowLaws.{between, between-low, between-high, between-next, between-end}
 use Rattle.rules.specs.Limits.{greatestVersion}
@@ -75,6 +77,10 @@ module _ (size pairs : ℕ) (ps vs : List ℕ) (least i : ℕ) (left : PairsLeft
           versionsFit = all-next isNotTooGreat (take pairs vs) i (omega (arith, length-take pairs vs)) t ∙ left .versionsFit;
         }
 
+-- where no version is too great, the one at a place is not
+pub version-within : (vs : List ℕ) (i : ℕ) → all isNotTooGreat vs ≡ true → i < length vs → getD vs i 0 ≤ greatestVersion
+version-within vs i a h = leb-true (getD vs i 0) greatestVersion (all-at isNotTooGreat vs (getD vs i 0) a (at-member vs i 0 h))
+
 -- ---- pairs by their positions and their versions
 
 -- pairs made of positions and as many versions have those positions
@@ -110,3 +116,16 @@ map-at [] vs i d h l = absurd (omega arith)
 map-at (p ∷ ps) [] i d h l = absurd (omega arith)
 map-at (p ∷ ps) (v ∷ vs) zero d h l = refl
 map-at (p ∷ ps) (v ∷ vs) (suc i) d h l = map-at ps vs i d (omega arith) (omega arith)
+
+-- the pairs from a place on are the one there and those behind it
+pub pairs-from : (ps vs : List ℕ) (i : ℕ) → i < length ps → i < length vs
+    → mapOf (drop i ps) (drop i vs) ≡ record { position = getD ps i 0; version = getD vs i 0 } ∷ mapOf (drop (i + 1) ps) (drop (i + 1) vs)
+unfolding mapOf
+pairs-from ps vs i h l = ap₂ mapOf (at-cons ps i h) (at-cons vs i l)
+
+-- pairs are no more than their positions
+pub pairs-few : (ps vs : List ℕ) → length (mapOf ps vs) ≤ length ps
+unfolding mapOf
+pairs-few [] vs = omega arith
+pairs-few (p ∷ ps) [] = omega arith
+pairs-few (p ∷ ps) (v ∷ vs) = let h = pairs-few ps vs in omega arith

@@ -1,18 +1,19 @@
 -- Laws of the VRF outputs: records by their numbers (specs/VrfOutputs.antt), whether versions rise, and the search for a version by halving.
-use mathlib.Core.Path.{_≡_, refl, sym, _∙_, ap, subst}
-use mathlib.Core.Logic.{_⊎_, inl, inr}
+use mathlib.Core.Path.{_≡_, refl, sym, _∙_, ap, ap₂, subst}
+use mathlib.Core.Logic.{_⊎_, inl, inr, ⊎-elim}
 use mathlib.Core.Bool.{Bool, true, false, _&&_, false≢true}
 use mathlib.Core.List.{List, [], _∷_, map, List·Memᴰ, List·Memᴰ·head, List·Memᴰ·tail, List·Memᴰ·cases-cons, List·Memᴰ·not-nil}
 use mathlib.Core.Option.{Option, Option·elim, none, some}
-use Prim.Native.Nat.{ℕ, _+_, _*_, _/_, _%_, _≤_, _<_}
+use Prim.Native.Nat.{ℕ, zero, suc, _+_, _*_, _/_, _%_, _≤_, _<_}
 use native.Mathlib.Omega.{arith}
 use lib.Dec.{eqb, ltb}
 use lib.ListN.{length, take, drop, getD, length-map, length-drop, List·getD-map}
 use lib.Seq.{drop-drop, take-take}
-use borrow.Author.Tests.{eq-eqb, ne-eqb, lt-ltb, le-ltb}
+use borrow.Author.Tests.{eq-eqb, ne-eqb, eqb-true, lt-ltb, le-ltb, ltb-true}
 use Rattle.lists.specs.Choice.{given}
-use Rattle.lists.specs.Lists.{Bytes, any, first, rising, runs}
-use Rattle.lists.proofs.ListLaws.{at-member, member-at, given-first, choose-true, choose-false, given-provided, provided-some, and-holds, mapped-at}
+use Rattle.lists.specs.Lists.{Bytes, select, first, rising, runs}
+use Rattle.lists.proofs.ListLaws.{at-member, member-at, given-first, first-here, first-later, given-provided, provided-some, and-holds, mapped-at, any-at}
+use Rattle.lists.proofs.ListLaws.{select-here, select-later, select-fewer}
 use Rattle.lists.proofs.RisingLaws.{rising-at, rising-two, short-rises, rising-first, rising-tail}
 use Rattle.lines.proofs.PlaceLaws.{at-cons}
 use Rattle.rules.specs.Limits.{vrfOutputLength}
@@ -20,7 +21,7 @@ use Rattle.rules.specs.Encoding.{uint, bytesAfter}
 use Rattle.rules.specs.VrfOutputs.{VrfOutput, recordLength, readRecord, readRecords, readOutputs, hasOutput, outputOf}
 use Rattle.tree.proofs.DigitLaws.{by-order}
 use Rattle.tree.proofs.RunLaws.{length-runs, mapped-run, drop-take}
-use Rattle.inputs.specs.VrfOutputs.{recordAt, foundOutput, recordOf, IsRecordOf, IsOfSomeRecord}
+use Rattle.inputs.specs.VrfOutputs.{recordAt, foundOutput, recordOf, recordsBelow, IsRecordOf, IsOfSomeRecord}
 use Rattle.inputs.specs.declared.vrf_outputs.FoundOutput.{FoundOutput}
 
 -- ---- the records
@@ -28,6 +29,10 @@ use Rattle.inputs.specs.declared.vrf_outputs.FoundOutput.{FoundOutput}
 -- the version of a record
 abbrev versionIn : VrfOutput → ℕ
 versionIn x = x .version
+
+-- it is below another
+abbrev smaller : ℕ → VrfOutput → Bool
+smaller v x = ltb (x .version) v
 
 -- there are as many records as have room
 length-records : (s : Bytes) → length (readRecords s) ≡ length s / recordLength
@@ -142,13 +147,13 @@ outputs-read s xs e =
 
 -- a first record of the version is found
 record-here : (x : VrfOutput) (xs : List VrfOutput) (v : ℕ) → x .version ≡ v → recordOf (x ∷ xs) v ≡ some x
-unfolding recordOf first
-record-here x xs v e = choose-true (eqb (x .version) v) (λ _. some x) (λ _. recordOf xs v) (eq-eqb (x .version) v e)
+unfolding recordOf
+record-here x xs v e = first-here (λ (x : VrfOutput). eqb (x .version) v) x xs (eq-eqb (x .version) v e)
 
 -- one of another version is passed over
 record-later : (x : VrfOutput) (xs : List VrfOutput) (v : ℕ) → (x .version ≡ v → ⊥) → recordOf (x ∷ xs) v ≡ recordOf xs v
-unfolding recordOf first
-record-later x xs v h = choose-false (eqb (x .version) v) (λ _. some x) (λ _. recordOf xs v) (ne-eqb (x .version) v h)
+unfolding recordOf
+record-later x xs v h = first-later (λ (x : VrfOutput). eqb (x .version) v) x xs (ne-eqb (x .version) v h)
 
 -- where none is of the version, none is found
 record-none : (xs : List VrfOutput) (v : ℕ) → ((x : VrfOutput) → List·Memᴰ x xs → x .version ≡ v → ⊥) → recordOf xs v ≡ none
@@ -168,6 +173,43 @@ record-found (y ∷ ys) x v r m e =
     go (inr k) f =
         let below = rising-first (y .version) (map versionIn ys) r (x .version) (mapped-at versionIn ys x k) in
         record-later y ys v (λ q. omega arith) ∙ f k
+
+-- a first record of a smaller version stands before
+below-first : (x : VrfOutput) (xs : List VrfOutput) (v : ℕ) → x .version < v → recordsBelow (x ∷ xs) v ≡ suc (recordsBelow xs v)
+unfolding recordsBelow
+below-first x xs v h = ap length (select-here (smaller v) x xs (lt-ltb (x .version) v h))
+
+-- one that is not smaller does not
+below-later : (x : VrfOutput) (xs : List VrfOutput) (v : ℕ) → v ≤ x .version → recordsBelow (x ∷ xs) v ≡ recordsBelow xs v
+unfolding recordsBelow
+below-later x xs v h = ap length (select-later (smaller v) x xs (le-ltb (x .version) v h))
+
+-- where none is smaller, none stands before
+below-none : (xs : List VrfOutput) (v : ℕ) → ((x : VrfOutput) → List·Memᴰ x xs → v ≤ x .version) → recordsBelow xs v ≡ 0
+unfolding recordsBelow select
+below-none [] v h = refl
+below-none (x ∷ xs) v h = below-later x xs v (h x (List·Memᴰ·head refl)) ∙ below-none xs v (λ y m. h y (List·Memᴰ·tail m))
+
+-- where versions rise, as many records stand before one as its number says
+pub records-before : (xs : List VrfOutput) (i v : ℕ) (d : VrfOutput) → rising (map versionIn xs) ≡ true → i < length xs → getD xs i d .version ≡ v
+    → recordsBelow xs v ≡ i
+records-before [] i v d r h e = absurd (omega arith)
+records-before (x ∷ xs) zero v d r h e =
+    below-later x xs v (omega arith)
+    ∙ below-none xs v (λ y m. omega (arith, rising-first (x .version) (map versionIn xs) r (y .version) (mapped-at versionIn xs y m)))
+records-before (x ∷ xs) (suc i) v d r h e =
+    let m = mapped-at versionIn xs (getD xs i d) (at-member xs i d (omega arith)) in
+    below-first x xs v (omega (arith, rising-first (x .version) (map versionIn xs) r (getD xs i d .version) m))
+    ∙ ap suc (records-before xs i v d (rising-tail (x .version) (map versionIn xs) r) (omega arith) e)
+
+-- fewer records are below a version than below a greater one, where the smaller has one
+pub fewer-below : (xs : List VrfOutput) (u v : ℕ) → u < v → hasOutput xs u ≡ true → recordsBelow xs u < recordsBelow xs v
+unfolding hasOutput recordsBelow
+fewer-below xs u v h e =
+    let (a, m, q) = any-at (λ (x : VrfOutput). eqb (x .version) u) xs e in
+    let z = eqb-true (a .version) u q in
+    select-fewer (smaller u) (smaller v) xs a (λ x t. lt-ltb (x .version) v (omega (arith, ltb-true (x .version) u t))) m
+    (le-ltb (a .version) u (omega arith)) (lt-ltb (a .version) v (omega arith))
 
 -- ---- the search by halving
 
@@ -202,18 +244,25 @@ pub between-below : (s : Bytes) (v low high m : ℕ) → v < recordAt s m .versi
 between-below s v low high m l b r i k e = (b r i k e .0, version-before s i m r k (omega arith))
 
 -- a record of the version is what was to be found
-pub found-record : (s : Bytes) (v m : ℕ) (r : FoundOutput) → m < length s / recordLength → recordAt s m .version ≡ v → r ≡ foundOutput (some (recordAt s m))
+pub found-record : (s : Bytes) (v m : ℕ) (r : FoundOutput) → m < length s / recordLength → recordAt s m .version ≡ v → r ≡ foundOutput m (some (recordAt s m))
     → IsRecordOf s v r × IsOfSomeRecord s v r
 unfolding versions
-found-record s v m r h e q = (λ xs p. q ∙ ap foundOutput (sym (found xs (outputs-read s xs p))), inr (recordAt s m, record-listed s m h, e, q))
+found-record s v m r h e q = (λ xs p. q ∙ sym (found xs (outputs-read s xs p)), inr (m, h, e, q))
   where
-    found : (xs : List VrfOutput) → (rising (versions s) ≡ true) × (readRecords s ≡ xs) → recordOf xs v ≡ some (recordAt s m)
-    found xs (u, w) = ap (λ (ys : List VrfOutput). recordOf ys v) (sym w) ∙ record-found (readRecords s) (recordAt s m) v u (record-listed s m h) e
+    at : getD (readRecords s) m (recordAt s m) ≡ recordAt s m
+    at = record-at s m (recordAt s m) h
+
+    found : (xs : List VrfOutput) → (rising (versions s) ≡ true) × (readRecords s ≡ xs)
+        → foundOutput (recordsBelow xs v) (recordOf xs v) ≡ foundOutput m (some (recordAt s m))
+    found xs (u, w) = subst (λ (ys : List VrfOutput). foundOutput (recordsBelow ys v) (recordOf ys v) ≡ foundOutput m (some (recordAt s m))) w
+        (ap₂ foundOutput (records-before (readRecords s) m v (recordAt s m) u (omega (arith, length-records s)) (ap versionIn at ∙ e))
+        (record-found (readRecords s) (recordAt s m) v u (record-listed s m h) e))
 
 -- where no number is left, there is no record of the version
-pub found-nothing : (s : Bytes) (v low high : ℕ) (r : FoundOutput) → Between s v low high → high ≤ low → r ≡ foundOutput none
+pub found-nothing : (s : Bytes) (v low high : ℕ) (r : FoundOutput) → Between s v low high → high ≤ low → r ≡ foundOutput 0 none
     → IsRecordOf s v r × IsOfSomeRecord s v r
-found-nothing s v low high r b l q = (λ xs p. q ∙ ap foundOutput (sym (nothing xs (outputs-read s xs p))), inl q)
+unfolding foundOutput
+found-nothing s v low high r b l q = (λ xs p. q ∙ sym (ap (foundOutput (recordsBelow xs v)) (nothing xs (outputs-read s xs p))), inl q)
   where
     other : rising (versions s) ≡ true → (x : VrfOutput) → List·Memᴰ x (readRecords s) → x .version ≡ v → ⊥
     other u x m e = let (i, h, z) = listed-record s x m in omega (arith, b u i h (ap versionIn z ∙ e))
@@ -224,19 +273,38 @@ found-nothing s v low high r b l q = (λ xs p. q ∙ ap foundOutput (sym (nothin
 -- ---- what is found
 
 -- a record is found where the version has an output
-pub found-has : (xs : List VrfOutput) (v : ℕ) → foundOutput (recordOf xs v) .found ≡ hasOutput xs v
+pub found-has : (xs : List VrfOutput) (i v : ℕ) → foundOutput i (recordOf xs v) .found ≡ hasOutput xs v
 unfolding hasOutput recordOf foundOutput given
-found-has xs v = found-given (recordOf xs v) ∙ given-first (λ (x : VrfOutput). eqb (x .version) v) xs
+found-has xs i v = found-given (recordOf xs v) ∙ given-first (λ (x : VrfOutput). eqb (x .version) v) xs
   where
-    found-given : (o : Option VrfOutput) → foundOutput o .found ≡ given o
+    found-given : (o : Option VrfOutput) → foundOutput i o .found ≡ given o
     found-given none = refl
     found-given (some x) = refl
 
 -- and it holds that output
-pub found-output : (xs : List VrfOutput) (v : ℕ) → hasOutput xs v ≡ true → foundOutput (recordOf xs v) .output ≡ outputOf xs v
+pub found-output : (xs : List VrfOutput) (i v : ℕ) → hasOutput xs v ≡ true → foundOutput i (recordOf xs v) .output ≡ outputOf xs v
 unfolding outputOf recordOf hasOutput foundOutput given Option·elim
-found-output xs v h = held (recordOf xs v) (given-first (λ (x : VrfOutput). eqb (x .version) v) xs ∙ h)
+found-output xs i v h = held (recordOf xs v) (given-first (λ (x : VrfOutput). eqb (x .version) v) xs ∙ h)
   where
-    held : (o : Option VrfOutput) → given o ≡ true → foundOutput o .output ≡ Option·elim o [] (λ x. x .output)
+    held : (o : Option VrfOutput) → given o ≡ true → foundOutput i o .output ≡ Option·elim o [] (λ x. x .output)
     held none e = absurd (false≢true e)
     held (some x) e = refl
+
+-- the number of a record that is found is the one told
+pub found-index : (xs : List VrfOutput) (i v : ℕ) → hasOutput xs v ≡ true → foundOutput i (recordOf xs v) .index ≡ i
+unfolding foundOutput
+found-index xs i v h = held (recordOf xs v) (found-has xs i v ∙ h)
+  where
+    held : (o : Option VrfOutput) → foundOutput i o .found ≡ true → foundOutput i o .index ≡ i
+    held none e = absurd (false≢true e)
+    held (some x) e = refl
+
+-- of outputs that read, whether one is found tells whether the version has one
+pub found-is : (s : Bytes) (v : ℕ) (r : FoundOutput) → IsRecordOf s v r → (xs : List VrfOutput) → readOutputs s ≡ some xs → hasOutput xs v ≡ r .found
+found-is s v r f xs e = sym (found-has xs (recordsBelow xs v) v) ∙ ap (λ (x : FoundOutput). x .found) (sym (f xs e))
+
+-- of any bytes, the number told is below each number but 0 that the number of records is not above
+pub found-below : (s : Bytes) (v k : ℕ) (r : FoundOutput) → 0 < k → length s / recordLength ≤ k → IsOfSomeRecord s v r → r .index < k
+unfolding foundOutput
+found-below s v k r p l h =
+    ⊎-elim (λ e. omega (arith, ap (λ (x : FoundOutput). x .index) e)) (λ (i, b, _, e). omega (arith, ap (λ (x : FoundOutput). x .index) e)) h

@@ -13,9 +13,10 @@ const OUTPUT: usize = 32;
 
 const RECORD: usize = VERSION + OUTPUT;
 
-// The output of a version, or none and zeros.
+// The output of a version and the number of its record, counted from 0; or none, 0 and zeros.
 pub struct FoundOutput {
     pub found: bool,
+    pub index: usize,
     pub output: [u8; OUTPUT],
 }
 
@@ -50,6 +51,7 @@ pub fn find_output(outputs: &[u8], version: u32) -> FoundOutput
         if there == version {
             return FoundOutput {
                 found: true,
+                index: middle,
                 output: output_at(outputs, middle),
             };
         }
@@ -61,6 +63,7 @@ pub fn find_output(outputs: &[u8], version: u32) -> FoundOutput
     }
     FoundOutput {
         found: false,
+        index: 0,
         output: [0u8; OUTPUT],
     }
 }

@@ -1,16 +1,16 @@
 -- Laws of tests and of steps that may fail (specs/Choice.antt), and of tests on lists (specs/Lists.antt).
 use mathlib.Core.Path.{_≡_, refl, sym, _∙_, ap, ap₂}
-use mathlib.Core.Logic.{_⊎_, inl, inr}
+use mathlib.Core.Logic.{_⊎_, inl, inr, ⊎-elim}
 use mathlib.Core.Bool.{Bool, true, false, _&&_, _||_, false≢true}
-use mathlib.Core.List.{List, [], _∷_, _++_, map, List·Memᴰ, List·Memᴰ·head, List·Memᴰ·tail, List·Memᴰ·cases-cons, List·Memᴰ·not-nil}
+use mathlib.Core.List.{List, [], _∷_, _++_, map, List·Memᴰ, List·Memᴰ·head, List·Memᴰ·tail, List·Memᴰ·cases-cons, List·Memᴰ·not-nil, Memᴰ·append-right}
 use mathlib.Core.Option.{Option, none, some, bind, Option·map, Option·some-injective, Option·none-ne-some}
-use Prim.Native.Nat.{ℕ, zero, suc, _<_}
+use Prim.Native.Nat.{ℕ, zero, suc, _≤_, _<_}
 use native.Mathlib.Omega.{arith}
 use lib.Dec.{eqb, ltb}
-use lib.ListN.{length, getD}
+use lib.ListN.{length, getD, take, set, replicate}
 use borrow.Author.Tests.{eq-eqb, eqb-true, lt-ltb}
 use Rattle.lists.specs.Choice.{choose, provided, _>>_, given, orElse}
-use Rattle.lists.specs.Lists.{all, every, any, first, lastOr, allButLast, same, rising}
+use Rattle.lists.specs.Lists.{all, every, any, select, first, lastOr, allButLast, same, rising, largest}
 
 -- ---- two tests
 
@@ -186,6 +186,17 @@ unfolding all
 all-implied f g [] h e = refl
 all-implied f g (x ∷ xs) h e = let p = all-cons f x xs e in holds-and (g x) (all g xs) (h x (p .0)) (all-implied f g xs h (p .1))
 
+-- a test that holds of one element more holds of all as before
+pub all-with : {A : Type 0} (f : A → Bool) (xs : List A) (x : A) → f x ≡ true → all f (xs ++ x ∷ []) ≡ all f xs
+unfolding all
+all-with f [] x e = rw e refl
+all-with f (y ∷ xs) x e = ap (λ (t : Bool). f y && t) (all-with f xs x e)
+
+-- one that does not hold of an element more does not hold of all
+pub all-without : {A : Type 0} (f : A → Bool) (xs : List A) (x : A) → f x ≡ false → all f (xs ++ x ∷ []) ≡ false
+all-without f xs x e =
+    never-holds (all f (xs ++ x ∷ [])) (λ t. false≢true (sym e ∙ all-at f (xs ++ x ∷ []) x t (Memᴰ·append-right xs (List·Memᴰ·head refl))))
+
 -- what is made of an element is among what is made of the elements
 pub mapped-at : {A B : Type 0} (f : A → B) (xs : List A) (x : A) → List·Memᴰ x xs → List·Memᴰ (f x) (map f xs)
 mapped-at f xs x (List·Memᴰ·head e) = List·Memᴰ·head (ap f e)
@@ -248,6 +259,68 @@ first-listed f (y ∷ ys) x e = go (f y) (first-listed f ys x) e
 pub every-cons : (b : Bool) (bs : List Bool) → every (b ∷ bs) ≡ true → (b ≡ true) × (every bs ≡ true)
 unfolding every
 every-cons b bs e = and-holds b (every bs) e
+
+-- ---- elements of which a test holds
+
+-- the first is among them, where it holds of that
+pub select-here : {A : Type 0} (f : A → Bool) (x : A) (xs : List A) → f x ≡ true → select f (x ∷ xs) ≡ x ∷ select f xs
+unfolding select
+select-here f x xs e = choose-true (f x) (λ _. x ∷ select f xs) (λ _. select f xs) e
+
+-- else they are all among the others
+pub select-later : {A : Type 0} (f : A → Bool) (x : A) (xs : List A) → f x ≡ false → select f (x ∷ xs) ≡ select f xs
+unfolding select
+select-later f x xs e = choose-false (f x) (λ _. x ∷ select f xs) (λ _. select f xs) e
+
+-- the test holds of each of them
+pub select-holds : {A : Type 0} (f : A → Bool) (xs : List A) (a : A) → List·Memᴰ a (select f xs) → f a ≡ true
+unfolding select
+select-holds f [] a m = absurd (List·Memᴰ·not-nil m)
+select-holds f (x ∷ xs) a m = go (f x) refl m (select-holds f xs a)
+  where
+    go : (t : Bool) → f x ≡ t → List·Memᴰ a (select f (x ∷ xs)) → (List·Memᴰ a (select f xs) → f a ≡ true) → f a ≡ true
+    go true e m ih = ⊎-elim (λ z. ap f z ∙ e) ih (List·Memᴰ·cases-cons (rw (select-here f x xs e) at m))
+    go false e m ih = ih (rw (select-later f x xs e) at m)
+
+-- they are no more than all
+pub select-length : {A : Type 0} (f : A → Bool) (xs : List A) → length (select f xs) ≤ length xs
+unfolding select
+select-length f [] = omega arith
+select-length f (x ∷ xs) = go (f x) refl (select-length f xs)
+  where
+    go : (t : Bool) → f x ≡ t → length (select f xs) ≤ length xs → length (select f (x ∷ xs)) ≤ length (x ∷ xs)
+    go true e ih = rw (select-here f x xs e) (omega arith)
+    go false e ih = rw (select-later f x xs e) (omega arith)
+
+-- a test that implies another selects no more
+select-more : {A : Type 0} (f g : A → Bool) (xs : List A) → ((x : A) → f x ≡ true → g x ≡ true) → length (select f xs) ≤ length (select g xs)
+unfolding select choose
+select-more f g [] h = omega arith
+select-more f g (x ∷ xs) h = go (f x) (g x) (h x) (select-more f g xs h)
+  where
+    go : (s t : Bool) → (s ≡ true → t ≡ true) → length (select f xs) ≤ length (select g xs)
+        → length (choose s (λ _. x ∷ select f xs) (λ _. select f xs)) ≤ length (choose t (λ _. x ∷ select g xs) (λ _. select g xs))
+    go true true k l = omega arith
+    go true false k l = absurd (false≢true (k refl))
+    go false true k l = omega arith
+    go false false k l = l
+
+-- and fewer, where the other holds of an element of which it does not
+pub select-fewer : {A : Type 0} (f g : A → Bool) (xs : List A) (a : A) → ((x : A) → f x ≡ true → g x ≡ true) → List·Memᴰ a xs → f a ≡ false → g a ≡ true
+    → length (select f xs) < length (select g xs)
+unfolding select choose
+select-fewer f g [] a h m p q = absurd (List·Memᴰ·not-nil m)
+select-fewer f g (x ∷ xs) a h m p q = go (f x) (g x) refl refl (h x) (λ k. select-fewer f g xs a h k p q) (List·Memᴰ·cases-cons m)
+  where
+    go : (s t : Bool) → f x ≡ s → g x ≡ t → (s ≡ true → t ≡ true) → (List·Memᴰ a xs → length (select f xs) < length (select g xs))
+        → (a ≡ x) ⊎ List·Memᴰ a xs
+        → length (choose s (λ _. x ∷ select f xs) (λ _. select f xs)) < length (choose t (λ _. x ∷ select g xs) (λ _. select g xs))
+    go true true c d k ih (inl e) = absurd (false≢true (sym p ∙ ap f e ∙ c))
+    go true true c d k ih (inr i) = omega (arith, ih i)
+    go true false c d k ih i = absurd (false≢true (k refl))
+    go false true c d k ih i = omega (arith, select-more f g xs h)
+    go false false c d k ih (inl e) = absurd (false≢true (sym d ∙ ap g (sym e) ∙ q))
+    go false false c d k ih (inr i) = ih i
 
 -- ---- equal lists
 
@@ -334,6 +407,19 @@ unfolding allButLast lastOr
 snoc-last d x [] = refl
 snoc-last d x (y ∷ l) = ap (λ (t : List _). x ∷ t) (snoc-last x y l)
 
+-- ---- the largest of numbers
+
+-- what is one more than the largest of some numbers is the largest of those that are one more
+pub largest-more : (w : ℕ) (ws : List ℕ) → largest (map suc (w ∷ ws)) ≡ suc (largest (w ∷ ws))
+unfolding largest
+largest-more w [] = omega arith
+largest-more w (y ∷ ws) = let e = largest-more y ws in omega arith
+
+-- where that is 0, there are no numbers
+pub largest-none : (ws : List ℕ) → 0 ≡ largest (map suc ws) → ws ≡ []
+largest-none [] e = refl
+largest-none (w ∷ ws) e = absurd (omega (arith, largest-more w ws))
+
 -- ---- whether there is a value
 
 -- where there is one, it is some value
@@ -398,3 +484,23 @@ member-at xs x d (List·Memᴰ·tail {xs = ys} m) = let (i, h, e) = member-at ys
 pub none-left : {A : Type 0} (xs : List A) → eqb (length xs) 0 ≡ true → xs ≡ []
 none-left [] e = refl
 none-left (x ∷ xs) e = let z = eqb-true (length (x ∷ xs)) 0 e in absurd (omega arith)
+
+-- with one element set, no other comes in
+pub set-only : {A : Type 0} (l : List A) (i : ℕ) (b y : A) → List·Memᴰ y (set l i b) → (y ≡ b) ⊎ List·Memᴰ y l
+set-only [] i b y k = absurd (List·Memᴰ·not-nil k)
+set-only (x ∷ l) zero b y k = ⊎-elim inl (λ j. inr (List·Memᴰ·tail j)) (List·Memᴰ·cases-cons k)
+set-only (x ∷ l) (suc i) b y k =
+    ⊎-elim (λ e. inr (List·Memᴰ·head e)) (λ j. ⊎-elim inl (λ q. inr (List·Memᴰ·tail q)) (set-only l i b y j)) (List·Memᴰ·cases-cons k)
+
+-- ---- one element repeated
+
+-- a list of it has no other
+pub repeated-only : {A : Type 0} (n : ℕ) (b y : A) → List·Memᴰ y (replicate n b) → y ≡ b
+repeated-only zero b y k = absurd (List·Memᴰ·not-nil k)
+repeated-only (suc n) b y k = ⊎-elim (λ e. e) (repeated-only n b y) (List·Memᴰ·cases-cons k)
+
+-- the first of many alike are as many alike
+pub first-alike : {A : Type 0} (k n : ℕ) (x : A) → k ≤ n → take k (replicate n x) ≡ replicate k x
+first-alike zero n x h = refl
+first-alike (suc k) zero x h = absurd (omega arith)
+first-alike (suc k) (suc n) x h = ap (_∷_ x) (first-alike k n x (omega arith))

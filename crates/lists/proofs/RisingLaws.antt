@@ -1,9 +1,9 @@
 -- Laws of rising lists: their members, their last, and numbers put into them (specs/Lists.antt).
-use mathlib.Core.Path.{_≡_, refl, sym}
+use mathlib.Core.Path.{_≡_, refl, sym, ap₂}
 use mathlib.Core.Logic.{_⊎_, inl, inr, ⊎-elim}
 use mathlib.Core.Bool.{true, _&&_}
 use mathlib.Core.List.{List, [], _∷_, List·Memᴰ, List·Memᴰ·head, List·Memᴰ·tail, List·Memᴰ·cases-cons, List·Memᴰ·not-nil, List·Memᴰ·eq-of-singleton}
-use Prim.Native.Nat.{ℕ, zero, suc, _≤_, _<_}
+use Prim.Native.Nat.{ℕ, zero, suc, _+_, _≤_, _<_}
 use native.Mathlib.Decide.{decLt}
 use native.Mathlib.Omega.{arith}
 use lib.Dec.{ltb}
@@ -49,6 +49,28 @@ pub last-none : (d : ℕ) (l : List ℕ) → ((y : ℕ) → List·Memᴰ y l →
 unfolding lastOr
 last-none d [] h = refl
 last-none d (x ∷ l) h = absurd (h x (List·Memᴰ·head refl))
+
+-- Rising lists with the same members are equal.
+pub same-members : (xs ys : List ℕ) → rising xs ≡ true → rising ys ≡ true → ((a : ℕ) → List·Memᴰ a xs → List·Memᴰ a ys)
+    → ((a : ℕ) → List·Memᴰ a ys → List·Memᴰ a xs) → xs ≡ ys
+same-members [] [] rx ry f g = refl
+same-members [] (y ∷ ys) rx ry f g = absurd (List·Memᴰ·not-nil (g y (List·Memᴰ·head refl)))
+same-members (x ∷ xs) [] rx ry f g = absurd (List·Memᴰ·not-nil (f x (List·Memᴰ·head refl)))
+same-members (x ∷ xs) (y ∷ ys) rx ry f g =
+    ap₂ _∷_ first
+    (same-members xs ys (rising-tail x xs rx) (rising-tail y ys ry) (λ a m. after x y xs ys rx first f a m) (λ a m. after y x ys xs ry (sym first) g a m))
+  where
+    after : (x y : ℕ) (xs ys : List ℕ) → rising (x ∷ xs) ≡ true → x ≡ y → ((a : ℕ) → List·Memᴰ a (x ∷ xs) → List·Memᴰ a (y ∷ ys))
+        → (a : ℕ) → List·Memᴰ a xs → List·Memᴰ a ys
+    after x y xs ys r e f a m = ⊎-elim (λ q. absurd (omega (arith, rising-first x xs r a m))) (λ k. k) (List·Memᴰ·cases-cons (f a (List·Memᴰ·tail m)))
+
+    first : x ≡ y
+    first = go (List·Memᴰ·cases-cons (f x (List·Memᴰ·head refl))) (List·Memᴰ·cases-cons (g y (List·Memᴰ·head refl)))
+      where
+        go : (x ≡ y) ⊎ List·Memᴰ x ys → (y ≡ x) ⊎ List·Memᴰ y xs → x ≡ y
+        go (inl e) k = e
+        go (inr m) (inl e) = sym e
+        go (inr m) (inr k) = absurd (omega (arith, rising-first x xs rx y k, rising-first y ys ry x m))
 
 -- ---- one number put in
 
@@ -120,6 +142,14 @@ insert-rising x (y ∷ l) r = by-three x y
     after h z (inl e) = omega arith
     after h z (inr k) = rising-first y l r z k
 
+-- It makes a list longer by one at most.
+insert-length : (x : ℕ) (l : List ℕ) → length (insert x l) ≤ suc (length l)
+insert-length x [] = rw (insert-nil x) (omega arith)
+insert-length x (y ∷ l) = by-three x y
+    (λ h. rw (insert-below x y l h) (omega arith))
+    (λ h. rw (insert-same x y l h) (omega arith))
+    (λ h. rw (insert-above x y l h) (omega (arith, insert-length x l)))
+
 -- ---- all numbers of a list put in
 
 -- Nothing put in leaves the list.
@@ -154,6 +184,11 @@ insertAll-only (x ∷ xs) ys a m =
 pub insertAll-rising : (xs ys : List ℕ) → rising ys ≡ true → rising (insertAll xs ys) ≡ true
 insertAll-rising [] ys r = rw (insertAll-nil ys) r
 insertAll-rising (x ∷ xs) ys r = rw (insertAll-cons x xs ys) (insert-rising x (insertAll xs ys) (insertAll-rising xs ys r))
+
+-- They make a list longer by their number at most.
+pub insertAll-length : (xs ys : List ℕ) → length (insertAll xs ys) ≤ length xs + length ys
+insertAll-length [] ys = rw (insertAll-nil ys) (omega arith)
+insertAll-length (x ∷ xs) ys = rw (insertAll-cons x xs ys) (omega (arith, insert-length x (insertAll xs ys), insertAll-length xs ys))
 
 -- ---- elements by their numbers
 

@@ -1,4 +1,5 @@
--- The state after an accepted call is valid, and the map after a search has at most one pair more than before (specs/Calls.antt).
+-- The state after an accepted call is valid; the map after a search has at most one pair more than before, after monitoring no more, all on the frontier
+-- (specs/Calls.antt).
 use mathlib.Core.Path.{_≡_, refl, sym, ap, ap₂, _∙_, subst}
 use mathlib.Core.Logic.{_⊎_, inl, inr, ⊎-elim}
 use mathlib.Core.Bool.{Bool, true, false, _||_, false≢true}
@@ -37,6 +38,7 @@ use Rattle.rules.specs.Refusals.{Inputs, Call, Judgement, passed, readin
 use Rattle.rules.specs.Refusals.{sameKind, kindAsked, foreign, sizeWrong, targetWrongIn, targetWrong, askedBy, asked, entriesAsked, logWalk, notAsAsked}
 use Rattle.rules.specs.Refusals.{lastTime, known, historyDiffers, mapAfterBy, mapAfter, roomMissingFor, roomMissing, checks, lastChecks, judge}
 use Rattle.rules.specs.Calls.{Arguments, libraryInputs, judgeSearch, judgeMonitoring, nextState}
+use Rattle.rules.proofs.MapLaws.{Stand, monitored-on-frontier}
 use Rattle.rules.proofs.StateLaws.{valid-was, valid-is}
 use Rattle.rules.proofs.RefusalLaws.{NoneApplies, refused-not-passed, accepted-meaning}
 
@@ -327,6 +329,15 @@ monitored-keepable n (e ∷ es) h =
     put-keepable max (record { position = lastOr (e .position) (rightAncestors n (e .position)); version = e .version }) n (λ w l. omega arith) (q, v)
     (mapAfterMonitoring n es) (monitored-keepable n es (λ x m. h x (List·Memᴰ·tail m)))
 
+-- its positions rise
+pub monitored-rises : (n : ℕ) (es : List MapEntry) → rising (positions (mapAfterMonitoring n es)) ≡ true
+unfolding mapAfterMonitoring rising
+monitored-rises n [] = refl
+monitored-rises n (e ∷ es) =
+    let end = lastOr (e .position) (rightAncestors n (e .position)) in
+    ap rising (put-positions max (record { position = end; version = e .version }) (mapAfterMonitoring n es))
+    ∙ insert-rising end (positions (mapAfterMonitoring n es)) (monitored-rises n es)
+
 -- it is not longer than the old one
 pub monitored-length : (n : ℕ) (es : List MapEntry) → length (mapAfterMonitoring n es) ≤ length es
 unfolding mapAfterMonitoring
@@ -488,6 +499,14 @@ module _ (c : Call) (h : Accepted c) where
         let l = monitored-length (c .parts .size) (c .state .monitoringMap) in
         rw monitoring-map (omega arith)
 
+    -- it has no more than the old one
+    pub monitoring-no-more : length (mapAfter c) ≤ length (c .state .monitoringMap)
+    monitoring-no-more = rw monitoring-map (monitored-length (c .parts .size) (c .state .monitoringMap))
+
+    -- they stand on the frontier
+    pub monitoring-stands : Stand (λ (p : ℕ). List·Memᴰ p (frontier (c .parts .size))) (mapAfter c)
+    monitoring-stands = rw monitoring-map (monitored-on-frontier (c .parts .size) (c .state .monitoringMap) (λ e m. old-keepable .pairs e m .0))
+
     -- and may be kept
     monitoring-keepable : Keepable (c .parts .size) (mapAfter c)
     monitoring-keepable = rw monitoring-map (monitored-keepable (c .parts .size) (c .state .monitoringMap) (old-keepable .pairs))
@@ -517,6 +536,16 @@ pub monitoring-state-valid : (s : Option State) (a : Arguments) (signed : Bytes)
 unfolding judgeMonitoring
 monitoring-state-valid s a signed c e = state-valid s (libraryInputs (some monitor) a signed 0) c e
 
+-- what an accepted call found is of the kind asked for
+kind-was : (s : Option State) (k : Kind) (a : Arguments) (signed : Bytes) (room : ℕ) (c : Call) → judge s (libraryInputs (some k) a signed room) ≡ passed c
+    → sameKind (kindOf (c .parts .finding)) k ≡ true
+unfolding kindAsked libraryInputs Option·elim
+kind-was s k a signed room c e =
+    let (q, h) = accepted-call s (libraryInputs (some k) a signed room) c e in
+    let w : Option·elim (c .inputs .kind) false (sameKind (kindOf (c .parts .finding))) ≡ true = own-was c (rules-passed c h .own) .0 in
+    let j : c .inputs .kind ≡ some k = ap (λ (i : Inputs). i .kind) q in
+    sym (ap (λ (o : Option Kind). Option·elim o false (sameKind (kindOf (c .parts .finding)))) j) ∙ w
+
 -- what is of the kind of a search has a target
 found-by-search : (f : Finding) → sameKind (kindOf f) searchKind ≡ true → (t : Target) × (f ≡ searched t)
 unfolding sameKind kindOf
@@ -526,12 +555,19 @@ found-by-search monitored h = absurd (false≢true h)
 -- so has an accepted search
 pub search-target : (s : Option State) (a : Arguments) (signed output : Bytes) (c : Call) → judgeSearch s a signed output ≡ passed c
     → (t : Target) × (c .parts .finding ≡ searched t)
-unfolding judgeSearch kindAsked libraryInputs Option·elim
-search-target s a signed output c e =
-    let (q, h) = accepted-call s (libraryInputs (some searchKind) a signed (length output)) c e in
-    let k : Option·elim (c .inputs .kind) false (sameKind (kindOf (c .parts .finding))) ≡ true = own-was c (rules-passed c h .own) .0 in
-    let j : c .inputs .kind ≡ some searchKind = ap (λ (i : Inputs). i .kind) q in
-    found-by-search (c .parts .finding) (sym (ap (λ (o : Option Kind). Option·elim o false (sameKind (kindOf (c .parts .finding)))) j) ∙ k)
+unfolding judgeSearch
+search-target s a signed output c e = found-by-search (c .parts .finding) (kind-was s searchKind a signed (length output) c e)
+
+-- what is of the kind of monitoring has none
+found-by-monitoring : (f : Finding) → sameKind (kindOf f) monitor ≡ true → f ≡ monitored
+unfolding sameKind kindOf
+found-by-monitoring (searched t) h = absurd (false≢true h)
+found-by-monitoring monitored h = refl
+
+-- nor has accepted monitoring
+pub monitoring-finding : (s : Option State) (a : Arguments) (signed : Bytes) (c : Call) → judgeMonitoring s a signed ≡ passed c → c .parts .finding ≡ monitored
+unfolding judgeMonitoring
+monitoring-finding s a signed c e = found-by-monitoring (c .parts .finding) (kind-was s monitor a signed 0 c e)
 
 -- the map after a search has at most one pair more than the old one, and not too many
 pub search-map-length : (s : Option State) (a : Arguments) (signed output : Bytes) (c : Call) → judgeSearch s a signed output ≡ passed c
@@ -541,3 +577,12 @@ search-map-length s a signed output c e =
     let (_, h) = accepted-call s (libraryInputs (some searchKind) a signed (length output)) c e in
     let (t, f) = search-target s a signed output c e in
     (search-one-more c h t f, search-few c h t f)
+
+-- after monitoring every pair stands on the frontier, and there are no more than before
+pub monitoring-map-stands : (s : Option State) (a : Arguments) (signed : Bytes) (c : Call) → judgeMonitoring s a signed ≡ passed c
+    → Stand (λ (p : ℕ). List·Memᴰ p (frontier (c .parts .size))) (mapAfter c) × (length (mapAfter c) ≤ length (c .state .monitoringMap))
+unfolding judgeMonitoring
+monitoring-map-stands s a signed c e =
+    let (_, h) = accepted-call s (libraryInputs (some monitor) a signed 0) c e in
+    let f = monitoring-finding s a signed c e in
+    (monitoring-stands c h f, monitoring-no-more c h f)

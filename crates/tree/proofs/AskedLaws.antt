@@ -3,15 +3,17 @@ use mathlib.Core.Path.{_≡_, refl, sym, ap, ap₂, _∙_}
 use mathlib.Core.Logic.{_⊎_, inl, inr, ⊎-elim}
 use mathlib.Core.Bool.{true}
 use mathlib.Core.List.{List, [], _∷_, List·Memᴰ, List·Memᴰ·head, List·Memᴰ·tail, List·Memᴰ·cases-cons, List·Memᴰ·not-nil}
-use Prim.Native.Nat.{ℕ, suc, min, _-_, _≤_, _<_}
+use Prim.Native.Nat.{ℕ, suc, min, _+_, _-_, _*_, _^_, _≤_, _<_}
 use native.Mathlib.Omega.{arith}
 use lib.ListN.{length, getD, drop}
 use lib.Seq.{drop-cons, drop-length}
 use Rattle.lists.specs.Lists.{lastOr, rising, insertAll}
-use Rattle.lists.proofs.RisingLaws.{last-none, insertAll-has, insertAll-keeps, insertAll-only, insertAll-rising}
-use Rattle.tree.specs.SearchTree.{frontier, rightAncestors, frontierAndPaths, nextFrom}
+use Rattle.lists.proofs.RisingLaws.{last-none, insertAll-has, insertAll-keeps, insertAll-only, insertAll-rising, insertAll-length}
+use Rattle.tree.specs.SearchTree.{frontier, frontierCapacity, rightAncestors, frontierAndPaths, nextFrom}
+use Rattle.tree.specs.LogHead.{levelLimit}
 use Rattle.tree.proofs.FrontierLaws.{frontier-below, frontier-rising}
-use Rattle.tree.proofs.AncestorLaws.{right-ancestors-only, right-ancestors-rising, right-ancestors-end}
+use Rattle.tree.proofs.FrontierFillLaws.{frontier-fits}
+use Rattle.tree.proofs.AncestorLaws.{right-ancestors-only, right-ancestors-rising, right-ancestors-end, right-ancestors-length}
 use Rattle.tree.proofs.NextLaws.{next-together}
 
 -- ---- rising entries of a log up to its last
@@ -89,6 +91,14 @@ paths-only n (p ∷ ps) a m =
         → List·Memᴰ a (frontier n) ⊎ ((q : ℕ) × List·Memᴰ q (p ∷ ps) × List·Memᴰ a (rightAncestors n q))
     more (inl k) = inl k
     more (inr (q, i, k)) = inr (q, List·Memᴰ·tail i, k)
+
+-- They are no more than a frontier has, and for each entry a right path.
+pub paths-length : (n : ℕ) (ps : List ℕ) → n ≤ 2 ^ levelLimit → length (frontierAndPaths n ps) ≤ frontierCapacity + length ps * suc levelLimit
+paths-length n [] h = rw (paths-nil n) (omega (arith, frontier-fits n (omega arith)))
+paths-length n (p ∷ ps) h =
+    rw (paths-cons n p ps)
+    (omega
+    (arith, insertAll-length (rightAncestors n p) (frontierAndPaths n ps), right-ancestors-length (suc levelLimit) n p (omega arith), paths-length n ps h))
 
 -- ---- the next of them
 

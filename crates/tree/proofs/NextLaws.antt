@@ -1,17 +1,19 @@
--- Laws of the next of some entries (nextFrom of specs/SearchTree.antt), where the entries rise and are below n.
-use mathlib.Core.Path.{_≡_, refl, sym, _∙_}
+-- Laws of the next of some entries (nextFrom of specs/SearchTree.antt), where the entries rise and are below n, and of those from one on, one after the other.
+use mathlib.Core.Path.{_≡_, refl, sym, _∙_, ap}
 use mathlib.Core.Logic.{_⊎_, inl, inr}
 use mathlib.Core.Bool.{true, false}
 use mathlib.Core.List.{List, [], _∷_, List·Memᴰ, List·Memᴰ·head, List·Memᴰ·tail, List·Memᴰ·cases-cons, List·Memᴰ·not-nil}
-use Prim.Native.Nat.{ℕ, min, _≤_, _<_}
+use Prim.Native.Nat.{ℕ, min, _+_, _≤_, _<_}
 use native.Mathlib.Nat.{min-eq-left, min-eq-right}
 use native.Mathlib.Omega.{arith}
-use lib.Dec.{eqb}
+use lib.Dec.{eqb, leb}
+use lib.ListN.{length, getD, drop}
 use borrow.Author.Tests.{le-leb, lt-leb, eq-eqb, ne-eqb}
 use Rattle.lists.specs.Choice.{choose}
-use Rattle.lists.specs.Lists.{any, first, rising, insertAll}
-use Rattle.lists.proofs.ListLaws.{at-any, any-none}
+use Rattle.lists.specs.Lists.{any, select, first, rising, insertAll}
+use Rattle.lists.proofs.ListLaws.{at-any, any-none, select-here, select-later}
 use Rattle.lists.proofs.RisingLaws.{rising-first, rising-tail, insertAll-has, insertAll-keeps, insertAll-only, insertAll-rising}
+use Rattle.lines.proofs.PlaceLaws.{at-cons, at-end}
 use Rattle.tree.specs.SearchTree.{nextFrom}
 use Rattle.tree.proofs.DigitLaws.{by-order}
 
@@ -23,12 +25,12 @@ unfolding nextFrom first
 next-nil n x = refl
 
 -- A first entry that is not below x is next.
-next-first : (n a x : ℕ) (l : List ℕ) → x ≤ a → nextFrom n (a ∷ l) x ≡ a
+pub next-first : (n a x : ℕ) (l : List ℕ) → x ≤ a → nextFrom n (a ∷ l) x ≡ a
 unfolding nextFrom first choose
 next-first n a x l h = rw (le-leb x a h)
 
 -- One below x is passed over.
-next-later : (n a x : ℕ) (l : List ℕ) → a < x → nextFrom n (a ∷ l) x ≡ nextFrom n l x
+pub next-later : (n a x : ℕ) (l : List ℕ) → a < x → nextFrom n (a ∷ l) x ≡ nextFrom n l x
 unfolding nextFrom first choose
 next-later n a x l h = rw (lt-leb x a h)
 
@@ -124,6 +126,81 @@ next-from n [] x z h p = next-nil n x ∙ sym (next-nil n z)
 next-from n (a ∷ l) x z h p =
     let q : z ≤ a = h a (List·Memᴰ·head refl) in
     next-first n a x l (omega arith) ∙ sym (next-first n a z l q)
+
+-- What is next from x on is next from any entry between.
+pub next-stays : (n : ℕ) (l : List ℕ) (x y : ℕ) → rising l ≡ true → x ≤ y → y ≤ nextFrom n l x → nextFrom n l x ≡ nextFrom n l y
+next-stays n l x y r h k = sym (next-is n l y (nextFrom n l x) r (go (next-found n l x r)))
+  where
+    go : Next n l x (nextFrom n l x) → Next n l y (nextFrom n l x)
+    go (inl s) = inl (record { listed = s .listed; from = k; least = λ z m p. s .least z m (omega arith) })
+    go (inr (f, e)) = inr (λ z m. omega (arith, f z m), e)
+
+-- What is next is not below x, unless it is n.
+pub next-above : (n x : ℕ) (l : List ℕ) → nextFrom n l x < n → x ≤ nextFrom n l x
+next-above n x [] h = absurd (omega (arith, next-nil n x))
+next-above n x (a ∷ l) h = by-order a x
+    (λ p. rw (next-later n a x l p) (next-above n x l (rw (next-later n a x l p) at h)))
+    (λ p. rw (next-first n a x l p) p)
+
+-- ---- past the entries before a place
+
+module _ (n x : ℕ) (l : List ℕ) (i : ℕ) (e : nextFrom n l x ≡ nextFrom n (drop i l) x) where
+  -- Past the last entry none is next.
+  pub next-end : length l ≤ i → n ≡ nextFrom n l x
+  next-end h = sym (e ∙ ap (λ (z : List ℕ). nextFrom n z x) (at-end l i h) ∙ next-nil n x)
+
+  module _ (h : i < length l) where
+    -- The entry at the place is next, where it is not below x.
+    pub next-at : x ≤ getD l i 0 → getD l i 0 ≡ nextFrom n l x
+    next-at k = sym (e ∙ ap (λ (z : List ℕ). nextFrom n z x) (at-cons l i h) ∙ next-first n (getD l i 0) x (drop (i + 1) l) k)
+
+    -- Else it is passed over.
+    pub next-past : getD l i 0 < x → nextFrom n l x ≡ nextFrom n (drop (i + 1) l) x
+    next-past k = e ∙ ap (λ (z : List ℕ). nextFrom n z x) (at-cons l i h) ∙ next-later n (getD l i 0) x (drop (i + 1) l) k
+
+-- ---- the entries from one on
+
+-- those that are not below x
+abbrev pub listedFrom : ℕ → List ℕ → List ℕ
+listedFrom x l = select (λ (a : ℕ). leb x a) l
+
+-- Of none there is none.
+from-nil : (x : ℕ) → listedFrom x [] ≡ []
+unfolding select
+from-nil x = refl
+
+-- A first entry that is not below x is one of them.
+from-first : (a x : ℕ) (l : List ℕ) → x ≤ a → listedFrom x (a ∷ l) ≡ a ∷ listedFrom x l
+from-first a x l h = select-here (λ (a : ℕ). leb x a) a l (le-leb x a h)
+
+-- One below x is left out.
+from-later : (a x : ℕ) (l : List ℕ) → a < x → listedFrom x (a ∷ l) ≡ listedFrom x l
+from-later a x l h = select-later (λ (a : ℕ). leb x a) a l (lt-leb x a h)
+
+-- Where no entry is below x, they are all entries.
+pub from-all : (x : ℕ) (l : List ℕ) → ((a : ℕ) → List·Memᴰ a l → x ≤ a) → listedFrom x l ≡ l
+from-all x [] h = from-nil x
+from-all x (a ∷ l) h = from-first a x l (h a (List·Memᴰ·head refl)) ∙ ap (_∷_ a) (from-all x l (λ b m. h b (List·Memᴰ·tail m)))
+
+-- Where none is next, none is left.
+pub from-none : (n x : ℕ) (l : List ℕ) → ((a : ℕ) → List·Memᴰ a l → a < n) → n ≤ nextFrom n l x → listedFrom x l ≡ []
+from-none n x [] w h = from-nil x
+from-none n x (a ∷ l) w h = by-order a x
+    (λ p. from-later a x l p ∙ from-none n x l (λ b m. w b (List·Memᴰ·tail m)) (rw (next-later n a x l p) at h))
+    (λ p. absurd (omega (arith, next-first n a x l p, w a (List·Memᴰ·head refl))))
+
+-- Else what is next is the first of them, and those after it follow.
+pub from-next : (n x : ℕ) (l : List ℕ) → rising l ≡ true → nextFrom n l x < n → listedFrom x l ≡ nextFrom n l x ∷ listedFrom (nextFrom n l x + 1) l
+from-next n x [] r h = absurd (omega (arith, next-nil n x))
+from-next n x (a ∷ l) r h = by-order a x
+    (λ p.
+    let k : nextFrom n l x < n = rw (next-later n a x l p) at h in
+    let b = next-above n x l k in
+    rw (next-later n a x l p, from-later a (nextFrom n l x + 1) l (omega arith)) (from-later a x l p ∙ from-next n x l (rising-tail a l r) k))
+    (λ p.
+    let above : (b : ℕ) → List·Memᴰ b l → a + 1 ≤ b = λ b m. omega (arith, rising-first a l r b m) in
+    rw (next-first n a x l p, from-later a (a + 1) l (omega arith))
+    (from-first a x l p ∙ ap (_∷_ a) (from-all x l (λ b m. omega (arith, above b m)) ∙ sym (from-all (a + 1) l above))))
 
 -- ---- entries put together
 
