@@ -55,7 +55,7 @@ uint64_t kt_sha256(const uint8_t *message, size_t message_length,
 uint64_t kt_ladder(uint32_t version, uint8_t *versions, size_t versions_length);
 
 /*
- * Searches.
+ * Searches and monitoring.
  *
  * The limits of what a call is given, in bytes. KT_VALUE_LIMIT bytes of output are
  * always enough. A state's text has at most KT_STATE_TEXT_LENGTH bytes, and the
@@ -80,7 +80,8 @@ uint64_t kt_ladder(uint32_t version, uint8_t *versions, size_t versions_length);
 
 /*
  * The three parts of an answer: KT_ACCEPTED or the number of a refusal, and how many
- * bytes of the value and of the new state's text were written.
+ * bytes of the value and of the new state's text were written. Monitoring yields no
+ * value: its length is 0.
  */
 #define KT_NUMBER(answer) ((int)((uint64_t)(answer) & 0xff))
 #define KT_VALUE_LENGTH(answer) ((size_t)((uint64_t)(answer) >> 8 & 0xffffff))
@@ -103,7 +104,7 @@ enum {
     KT_REFUSED_REQUEST = 6,
     /* The log is empty, larger than KT_TREE_SIZE_LIMIT, or smaller than the one in the state. */
     KT_REFUSED_TREE_SIZE = 7,
-    /* The version found is above KT_GREATEST_VERSION, or older than one in the monitoring map. */
+    /* In a search, the version found is above KT_GREATEST_VERSION, or older than one in the monitoring map. */
     KT_REFUSED_TARGET = 8,
     /* Steps, commitments, entries, lookups or nodes are more, fewer or other than this call needs. */
     KT_REFUSED_SHAPE = 9,
@@ -113,13 +114,13 @@ enum {
     KT_REFUSED_TIME = 11,
     /* A lookup does not hash to the prefix root of its entry, or the other leaf that it shows cannot stand there. */
     KT_REFUSED_LOOKUP = 12,
-    /* The lookups do not show that the version found is there and is the greatest. */
+    /* The lookups do not show that the version found is there and is the greatest; in monitoring, that their versions are there. */
     KT_REFUSED_LADDER = 13,
     /* The log contradicts the one in the state: a full subtree has another value. */
     KT_REFUSED_FULL_SUBTREE = 14,
     /* The signed text is not that of this configuration, tree size and root. */
     KT_REFUSED_SIGNED_TEXT = 15,
-    /* The value is longer than the output bytes, or the monitoring map would have more than KT_MAP_LIMIT entries. */
+    /* In a search, the value is longer than the output bytes, or the monitoring map would have more than KT_MAP_LIMIT entries. */
     KT_REFUSED_ROOM = 16
 };
 
@@ -150,7 +151,7 @@ enum {
  * the caller keeps the new text in place of the old. A refusal writes nothing, and its
  * answer is its number alone: both lengths are 0, and the old text stays good.
  *
- * The time grows with the length of what is given, some 10 ns a byte at most on a
+ * The time grows with the length of what is given, some 12 ns a byte at most on a
  * common computer, and a call takes less than 48 KiB of stack (measured).
  */
 uint64_t kt_search(const uint8_t *response, size_t response_length,
@@ -162,6 +163,29 @@ uint64_t kt_search(const uint8_t *response, size_t response_length,
                    const uint8_t *signed_text, size_t signed_text_length,
                    uint8_t *output, size_t output_length,
                    uint8_t *new_state, size_t new_state_length);
+
+/*
+ * Judges a log's response to monitoring: that the versions which earlier searches found
+ * are still there, at the entries of the log since. What is given and what is owed are
+ * as for kt_search; there is no value.
+ *
+ * Accepts exactly when none of the refusals applies; KT_REFUSED_TARGET and
+ * KT_REFUSED_ROOM never do. Then it writes the new state's text to the first bytes of
+ * new_state, leaves the bytes after them as they are, and answers KT_ACCEPTED with its
+ * length; every entry of the new monitoring map stands on the frontier of the log, and
+ * there are no more of them than before. A refusal writes nothing, and its answer is
+ * its number alone.
+ *
+ * Time and stack are as for kt_search.
+ */
+uint64_t kt_monitor(const uint8_t *response, size_t response_length,
+                    const uint8_t *configuration, size_t configuration_length,
+                    const uint8_t *state, size_t state_length,
+                    const uint8_t *identifier, size_t identifier_length,
+                    uint64_t clock,
+                    const uint8_t *vrf_outputs, size_t vrf_outputs_length,
+                    const uint8_t *signed_text, size_t signed_text_length,
+                    uint8_t *new_state, size_t new_state_length);
 
 #ifdef __cplusplus
 }

@@ -1,93 +1,34 @@
--- Laws of acceptance and of refusal 16 (specs/Search.antt): the struct of the new state, and what stands in the output bytes.
+-- Laws of acceptance and of refusal 16 of a search (specs/Search.antt): the answer, and what stands in the output bytes.
 use mathlib.Core.Path.{_≡_, refl, sym, ap, ap₂, subst, _∙_}
 use mathlib.Core.Bool.{true, false, _||_, or-true}
-use mathlib.Core.List.{List, flatten}
+use mathlib.Core.List.{List}
 use mathlib.Core.Option.{none, some, Option·elim, Option·some-injective}
 use Prim.Native.Nat.{ℕ, _≤_, _<_}
 use native.Mathlib.Omega.{arith}
 use lib.Dec.{ltb}
-use lib.ListN.{length, take, length-map}
-use lib.Seq.{length-take-le}
+use lib.ListN.{length}
 use borrow.Author.Tests.{lt-ltb, le-ltb, leb-true, leb-false}
-use Rattle.lists.specs.Choice.{choose, given}
+use Rattle.lists.specs.Choice.{choose}
 use Rattle.lists.specs.Lists.{Bytes, written}
-use Rattle.lists.proofs.ListLaws.{given-some, provided-some}
-use Rattle.hash.specs.Bytes.{padded}
-use Rattle.hash.proofs.BytesLaws.{take-padded}
 use Rattle.lines.specs.Hex.{readHex}
 use Rattle.lines.specs.Writing.{placeAfter, putAt, placeAfterAny, putAny}
 use Rattle.lines.proofs.WritingLaws.{put-fits, put-over, put-some}
-use Rattle.tree.specs.LogTree.{fullValues}
-use Rattle.rules.specs.Limits.{labelLimit, mapLimit, valuesBlockLength}
-use Rattle.rules.specs.State.{MapEntry, State, positions, versions}
+use Rattle.rules.specs.Limits.{mapLimit}
+use Rattle.rules.specs.State.{MapEntry, positions, versions}
 use Rattle.rules.specs.Response.{Target, Finding, searched}
 use Rattle.rules.specs.Search.{mapAfterSearch}
-use Rattle.rules.specs.Refusals.{Call, Judgement, refused, passed, tried}
-use Rattle.rules.specs.Refusals.{validState, mapAfterBy, mapAfter, roomMissingFor, roomMissing, known, logWalk, lastTime}
+use Rattle.rules.specs.Refusals.{Call, Judgement, refused, passed, tried, mapAfterBy, mapAfter, roomMissingFor, roomMissing}
 use Rattle.rules.specs.Calls.{numberOf, nextState, valueFound, valueOf, writtenFirst, outputAfter}
-use Rattle.rules.proofs.StateLaws.{valid-was}
 use Rattle.inputs.specs.declared.state.State.{State as StateBlock}
-use Rattle.inputs.specs.State.{blockOf, stateOf, contents, roomIsZero}
-use Rattle.inputs.proofs.PairLaws.{map-made}
-use Rattle.inputs.proofs.StateBlockLaws.{Sized, valid-some, state-block}
+use Rattle.inputs.specs.State.{blockOf}
 use Rattle.inputs.proofs.FrontLaws.{place-fits, place-over}
-use Rattle.inputs.proofs.StateWriterLaws.{valid-fits}
 use Rattle.checks.specs.declared.map.Pairs.{Pairs}
-use Rattle.checks.specs.Map.{IsMap, Holds, HasPair, putVersion, pairsOf}
+use Rattle.checks.specs.Map.{Holds, HasPair, putVersion, pairsOf}
 use Rattle.checks.specs.declared.search.Checked.{Checked}
 use Rattle.checks.specs.declared.search.SearchAnswer.{SearchAnswer}
-use Rattle.checks.specs.Search.{Accepting, rules16, blockAfter, searchAnswer, IsAcceptedAnswer, AreAcceptedBytes}
-
--- ---- the state
-
--- what a struct stands for is what fills it
-pub stands-for : (b : StateBlock) (s : State) → stateOf b ≡ some s → s ≡ contents b
-unfolding stateOf
-stands-for b s e = let (_, q) = provided-some (roomIsZero b) (contents b) s e in sym q
-
--- what is known of the struct of a valid state
-pub record Struct (b : StateBlock) : Type 0 where
-  pub state : State
-  pub stands : stateOf b ≡ some state
-  pub isStruct : blockOf state ≡ b
-  pub labelShort : b .length ≤ labelLimit
-  pub labelFits : length (take (b .length) (b .label)) ≤ labelLimit
-  pub pairs : pairsOf (b .positions) (b .versions) (b .pairs) ≡ state .monitoringMap
-  pub mapVersions : versions (contents b .monitoringMap) ≡ take (b .pairs) (b .versions)
-  pub isMap : IsMap (b .positions) (b .versions) (b .pairs)
-
--- it is known, from the state that it stands for
-pub valid-struct : (b : StateBlock) → Sized b → given (validState (stateOf b)) ≡ true → Struct b
-unfolding blockOf
-valid-struct b z h =
-    let (s, q) = given-some (validState (stateOf b)) h in
-    let (o, t) = valid-some (stateOf b) s q in
-    let e = state-block b s z q in
-    let v = valid-was s t in
-    let f = valid-fits b h in
-    let m = s .monitoringMap in
-    let n : length m ≡ b .pairs = ap (λ (x : StateBlock). x .pairs) e in
-    let p : padded mapLimit (positions m) ≡ b .positions = ap (λ (x : StateBlock). x .positions) e in
-    let w : padded mapLimit (versions m) ≡ b .versions = ap (λ (x : StateBlock). x .versions) e in
-    let tp : take (b .pairs) (b .positions) ≡ positions m =
-    ap (take (b .pairs)) (sym p) ∙ take-padded mapLimit (b .pairs) (positions m) (length-map m (λ (x : MapEntry). x .position) ∙ n) in
-    let tw : take (b .pairs) (b .versions) ≡ versions m =
-    ap (take (b .pairs)) (sym w) ∙ take-padded mapLimit (b .pairs) (versions m) (length-map m (λ (x : MapEntry). x .version) ∙ n) in
-    record {
-      state = s;
-      stands = o;
-      isStruct = e;
-      labelShort = f .label;
-      labelFits = omega (arith, f .label, length-take-le (b .length) (b .label) (omega (arith, f .label, z .labelRoom)));
-      pairs = rw (tp, tw) (map-made m);
-      mapVersions = ap (λ (x : State). versions (x .monitoringMap)) (sym (stands-for b s o)) ∙ sym tw;
-      isMap = record {
-        few = f .pairs;
-        positions = sym p ∙ ap (padded mapLimit) (sym tp);
-        versions = sym w ∙ ap (padded mapLimit) (sym tw);
-        rise = rw tp (v .mapRises);
-      };
-    }
+use Rattle.checks.specs.Calls.{rules16, blockAfter}
+use Rattle.checks.specs.Search.{Accepting, searchAnswer, IsAcceptedAnswer, AreAcceptedBytes}
+use Rattle.checks.proofs.StateStructLaws.{Struct, made, made-next}
 
 -- ---- 16
 
@@ -146,32 +87,6 @@ bytes-value s c v e = rw e refl
 bytes-passed : (s : Bytes) (c : Call) (j : Judgement) (t : Target) → j ≡ passed c → c .parts .finding ≡ searched t
     → written s 0 (t .value) ≡ outputAfter s j
 bytes-passed s c j t e f = bytes-value s c (t .value) (value-found (c .parts .finding) t f) ∙ ap (outputAfter s) (sym e)
-
--- ---- the new state
-
--- the struct that is made of what was found, of the map with its new pair, and of the label
-abbrev made : StateBlock → Checked → Bytes → ℕ → Pairs → StateBlock
-made b k block size r =
-    record {
-      label = b .label;
-      length = b .length;
-      size = size;
-      time = k .time;
-      values = block;
-      positions = r .positions;
-      versions = r .versions;
-      pairs = r .count;
-    }
-
--- is that of the new state
-made-next : (b : StateBlock) (k : Checked) (block : Bytes) (size : ℕ) (r : Pairs) (c : Call) → blockOf (c .state) ≡ b → c .parts .size ≡ size → k .time ≡ lastTime c
-    → block ≡ padded valuesBlockLength (flatten (fullValues (c .parts .size) (known c) (logWalk c) (c .parts .nodes)))
-    → Holds (mapAfter c) r → made b k block size r ≡ blockOf (nextState c)
-unfolding blockOf nextState
-made-next b k block size r c e n t v h =
-    let l : b .label ≡ padded labelLimit (c .state .label) = ap (λ (x : StateBlock). x .label) (sym e) in
-    let m : b .length ≡ length (c .state .label) = ap (λ (x : StateBlock). x .length) (sym e) in
-    rw (l, m, ← n, t, v, h .positions, h .versions, h .count) refl
 
 -- ---- the ways out
 
@@ -238,7 +153,7 @@ module _ (field : Bytes) (version size : ℕ) (b : StateBlock) (k : Checked) (bl
   -- there is room for both: the call is accepted
   pub both-fit : (r : Pairs) (out out′ : Bytes) (n : ℕ) → HasPair (b .positions) (b .versions) (b .pairs) (k .position) version r → r .fits ≡ true
       → some n ≡ placeAfterAny out 0 (readHex field) → out′ ≡ putAny out 0 (readHex field)
-      → Answers out (record { number = 0; state = made b k block size r; length = n }) out′
+      → Answers out (record { number = 0; state = made b (k .time) block size r; length = n }) out′
   both-fit r out out′ n h f p w = (λ c g. answer c g, λ c g. bytes c g)
     where
       fits : (c : Call) (g : Passes (length out) c) → (length (g .target .value) ≤ length out) × (length (g .target .value) ≡ n)
@@ -251,12 +166,12 @@ module _ (field : Bytes) (version size : ℕ) (b : StateBlock) (k : Checked) (bl
           let u = le-ltb mapLimit (length (mapAfter c)) (omega (arith, ap length (map-put c (length out) g), e)) in
           room-passed c (room-known out c g ∙ ap₂ _||_ v u)
 
-      answer : (c : Call) → Passes (length out) c → record { number = 0; state = made b k block size r; length = n } ≡ searchAnswer b (tried rules16 c)
+      answer : (c : Call) → Passes (length out) c → record { number = 0; state = made b (k .time) block size r; length = n } ≡ searchAnswer b (tried rules16 c)
       answer c g =
           let e : x .state ≡ c .state = Option·some-injective (x .state) (c .state) (sym (x .stands) ∙ g .state) in
           let m : Holds (mapAfter c) r = subst (λ (es : List MapEntry). Holds es r) (sym (map-put c (length out) g)) (h .1 f) in
-          answer-passed b c (tried rules16 c) (g .target) (made b k block size r) n (go c g) (g .finding) (sym (fits c g .1))
-          (made-next b k block size r c (ap blockOf (sym e) ∙ x .isStruct) (g .size) (g .leaves .time) (g .leaves .values) m)
+          answer-passed b c (tried rules16 c) (g .target) (made b (k .time) block size r) n (go c g) (g .finding) (sym (fits c g .1))
+          (made-next b (k .time) block size r c (ap blockOf (sym e) ∙ x .isStruct) (g .size) (g .leaves .time) (g .leaves .values) m)
 
       bytes : (c : Call) → Passes (length out) c → out′ ≡ outputAfter out (tried rules16 c)
       bytes c g =

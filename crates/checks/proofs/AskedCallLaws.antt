@@ -15,13 +15,12 @@ use Rattle.lines.specs.Readings.{partOf}
 use Rattle.tree.specs.Ladder.{ladder}
 use Rattle.tree.specs.SearchTree.{frontier, frontierCapacity}
 use Rattle.tree.specs.LogTree.{walkOf, nodeCount}
-use Rattle.tree.specs.LogHead.{levelLimit, positions, knownIn, isWalkable, nodesAsked}
-use Rattle.tree.proofs.DecisionLaws.{ones-limit}
-use Rattle.tree.proofs.FrontierLaws.{frontier-length, frontier-rising, frontier-below}
+use Rattle.tree.specs.LogHead.{positions, knownIn, isWalkable, nodesAsked}
+use Rattle.tree.proofs.FrontierLaws.{frontier-rising, frontier-below}
 use Rattle.rules.specs.Limits.{treeSizeLimit}
 use Rattle.rules.specs.VrfOutputs.{readOutputs, hasOutput}
-use Rattle.rules.specs.Response.{Target, searched, Lookup, Entry, Parts, stepVersions, lookupVersions, entryPositions, logEntry}
-use Rattle.rules.specs.Search.{askedBySearch}
+use Rattle.rules.specs.Response.{Target, Finding, searched, Lookup, Entry, Parts, stepVersions, lookupVersions, entryPositions, logEntry}
+use Rattle.rules.specs.Search.{askedBySearch, Asked as AskedEntry}
 use Rattle.rules.specs.Refusals.{Call, askedBy, asked, stepsAskedBy, commitmentAsked, lookupsAsked, entriesAsked, logWalk, notAsAsked, outputMissing}
 use Rattle.rules.proofs.NextStateLaws.{positions-asked, marked-positions, frontier-shown}
 use Rattle.inputs.specs.declared.response.Response.{Response}
@@ -30,7 +29,8 @@ use Rattle.inputs.specs.Response.{stepsIn, entriesIn, partsIn, Counted}
 use Rattle.checks.specs.Steps.{versionsOf, CommitmentsAt, AreStepsAsked, AreOutputsThere}
 use Rattle.checks.specs.Entries.{askedAt, AreEntriesAsked, EntriesStand}
 use Rattle.checks.specs.Lookups.{lookupsWanted, allWanted}
-use Rattle.checks.specs.Search.{stepsText, entriesText, IsAskedNumber, AskedStand}
+use Rattle.checks.specs.Calls.{stepsText, entriesText}
+use Rattle.checks.specs.Search.{IsAskedNumber, AskedStand}
 use Rattle.checks.specs.declared.asked.Asked.{Asked}
 use Rattle.checks.proofs.TrialLaws.{number-first, number-next, number-none}
 use Rattle.checks.proofs.TargetLaws.{targetIn, search-found, call-found}
@@ -75,7 +75,8 @@ module _ (t : Target) (wanted : List ℕ) where
   entries-wanted [] (e ∷ es) h = absurd (false≢true h)
   entries-wanted (p ∷ ps) [] h = absurd (false≢true h)
   entries-wanted (p ∷ ps) (e ∷ es) h =
-      let (a, b) = and-holds (eqb (e .position) p && lookupsAsked (searched t) wanted (lookupVersions e)) (entriesAsked (searched t) (askedAt ps wanted) es) h in
+      let (a, b) = and-holds (eqb (e .position) p && lookupsAsked (searched t) wanted (lookupVersions e))
+      (entriesAsked (searched t) (askedAt ps wanted) es) h in
       let (_, l) = and-holds (eqb (e .position) p) (lookupsAsked (searched t) wanted (lookupVersions e)) a in
       let (_, v) = and-holds (ltb 0 (length (lookupVersions e))) (begins (lookupVersions e) wanted) l in
       holds-and (lookupsWanted wanted (e .lookups)) (allWanted wanted es) (begins-wanted (e .lookups) wanted v) (entries-wanted ps es b)
@@ -84,46 +85,61 @@ module _ (t : Target) (wanted : List ℕ) where
 frontier-within : (n : ℕ) → all (λ (p : ℕ). ltb p n) (frontier n) ≡ true
 frontier-within n = at-all (λ (p : ℕ). ltb p n) (frontier n) (λ p i. lt-ltb p n (frontier-below n p i))
 
--- a frontier fills no more than its array
-pub frontier-short : (n : ℕ) → n ≤ treeSizeLimit → length (frontier n) ≤ frontierCapacity
-frontier-short n h = omega (arith, frontier-length n, ones-limit levelLimit n (omega arith) h)
-
--- ---- what is asked of a search for a version, with a kept size
+-- ---- what is asked of a response, with a kept size
 
 -- its steps, their commitments, its entries and the number of its nodes are as asked
-pub record AsAsked (p : Parts) (size t : ℕ) : Type 0 where
-  pub steps : stepVersions p ≡ ladder t
+pub record AreAsked (p : Parts) (size : ℕ) (versions : List ℕ) (wanted : List AskedEntry) : Type 0 where
+  pub steps : stepVersions p ≡ versions
   pub commitments : all (commitmentAsked (p .finding)) (p .steps) ≡ true
-  pub entries : entriesAsked (p .finding) (askedAt (frontier (p .size)) (ladder t)) (p .entries) ≡ true
+  pub entries : entriesAsked (p .finding) wanted (p .entries) ≡ true
   pub nodes : length (p .nodes) ≡ nodeCount (walkOf (p .size) size (entryPositions p))
 
-module _ (c : Call) (t : Target) (found : c .parts .finding ≡ searched t) where
-  -- rule 9, of a search
-  asked-search : notAsAsked c
+module _ (c : Call) (f : Finding) (found : c .parts .finding ≡ f) where
+  -- what a call asks for, by what was found
+  abbrev wantedBy : List AskedEntry
+  wantedBy = askedBy f (c .parts .size) (c .state .monitoringMap)
+
+  -- rule 9
+  nine-known : notAsAsked c
       ≡ not
       (every
-      (same (stepVersions (c .parts)) (ladder (t .version))
+      (same (stepVersions (c .parts)) (stepsAskedBy f wantedBy)
       ∷ all (commitmentAsked (c .parts .finding)) (c .parts .steps)
-      ∷ entriesAsked (c .parts .finding) (askedAt (frontier (c .parts .size)) (ladder (t .version))) (c .parts .entries)
+      ∷ entriesAsked (c .parts .finding) wantedBy (c .parts .entries)
       ∷ eqb (length (c .parts .nodes)) (nodeCount (logWalk c))
       ∷ []))
-  unfolding notAsAsked asked askedBy stepsAskedBy askedBySearch
-  asked-search = rw found refl
+  unfolding notAsAsked asked
+  nine-known = rw found refl
 
-  -- a search to which 9 does not apply is as asked
-  pub as-asked : notAsAsked c ≡ false → AsAsked (c .parts) (c .state .size) (t .version)
+  -- a call to which 9 does not apply is as asked
+  pub asked-was : notAsAsked c ≡ false → AreAsked (c .parts) (c .state .size) (stepsAskedBy f wantedBy) wantedBy
   unfolding logWalk
-  as-asked h =
-      let (a, h2) = every-cons _ _ (not-false _ (sym asked-search ∙ h)) in
+  asked-was h =
+      let (a, h2) = every-cons _ _ (not-false _ (sym nine-known ∙ h)) in
       let (b, h3) = every-cons _ _ h2 in
       let (e, h4) = every-cons _ _ h3 in
       let (n, _) = every-cons _ _ h4 in
       record { steps = same-true _ _ a; commitments = b; entries = e; nodes = eqb-true _ _ n }
 
   -- and the other way
-  asked-as : AsAsked (c .parts) (c .state .size) (t .version) → notAsAsked c ≡ false
+  pub asked-is : AreAsked (c .parts) (c .state .size) (stepsAskedBy f wantedBy) wantedBy → notAsAsked c ≡ false
   unfolding logWalk every
-  asked-as h = asked-search ∙ rw (equal-same _ _ (h .steps), h .commitments, h .entries, eq-eqb _ _ (h .nodes)) refl
+  asked-is h = nine-known ∙ rw (equal-same _ _ (h .steps), h .commitments, h .entries, eq-eqb _ _ (h .nodes)) refl
+
+-- what is asked of a search for a version
+abbrev AsAsked : Parts → ℕ → ℕ → Type 0
+AsAsked p size t = AreAsked p size (ladder t) (askedAt (frontier (p .size)) (ladder t))
+
+module _ (c : Call) (t : Target) (found : c .parts .finding ≡ searched t) where
+  -- a search to which 9 does not apply is as asked
+  pub as-asked : notAsAsked c ≡ false → AsAsked (c .parts) (c .state .size) (t .version)
+  unfolding askedBy stepsAskedBy askedBySearch
+  as-asked = asked-was c (searched t) found
+
+  -- and the other way
+  asked-as : AsAsked (c .parts) (c .state .size) (t .version) → notAsAsked c ≡ false
+  unfolding askedBy stepsAskedBy askedBySearch
+  asked-as = asked-is c (searched t) found
 
   -- a search that is not as asked is refused
   not-asked : (AsAsked (c .parts) (c .state .size) (t .version) → ⊥) → notAsAsked c ≡ true
@@ -156,7 +172,7 @@ module _ (s : Bytes) (places : List ℕ) (es : List Entry) (stand : EntriesStand
   stand-walkable a b d r l = rw (lt-ltb 0 n a, le-leb n treeSizeLimit b, le-leb m n d, stand, logged-positions es, r, l) refl
 
   -- and then the number of nodes asked is that of the walk
-  stand-nodes : isWalkable n (knownIn s places m block) ≡ true
+  pub stand-nodes : isWalkable n (knownIn s places m block) ≡ true
       → nodesAsked n (knownIn s places m block) ≡ nodeCount (walkOf n m (map (λ (e : Entry). e .position) es))
   unfolding nodesAsked knownIn
   stand-nodes w = choose-true _ _ _ w ∙ ap (λ (ps : List ℕ). nodeCount (walkOf n m ps)) (ap positions stand ∙ logged-positions es)

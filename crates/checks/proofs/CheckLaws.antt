@@ -9,7 +9,7 @@ use lib.ListN.{length, take}
 use borrow.Author.Tests.{ne-eqb, le-ltb}
 use Rattle.lists.specs.Lists.{Bytes, all, lastOr, rising}
 use Rattle.hash.specs.Bytes.{padded}
-use Rattle.hash.proofs.BytesLaws.{length-padded, take-padded}
+use Rattle.hash.proofs.BytesLaws.{filled-front}
 use Rattle.tree.specs.Ladder.{ladder, ladderWithin, ladderCapacity}
 use Rattle.tree.proofs.LadderFillLaws.{ladder-fits, within-some}
 use Rattle.rules.specs.Limits.{treeSizeLimit, greatestVersion}
@@ -18,8 +18,8 @@ use Rattle.rules.specs.Refusals.{Call, sizeWrong, lastTime, notAsAsked}
 use Rattle.inputs.specs.declared.response_lines.Kind.the-variants.{Search}
 use Rattle.inputs.specs.declared.response.Response.{Response}
 use Rattle.inputs.specs.Response.{stepsIn, entriesIn, partsIn}
-use Rattle.checks.specs.Search.{stepsText, entriesText, rules9, rules11, rules14, Shows, rules9to13}
-use Rattle.checks.specs.Search.{IsAskedNumber, IsShownNumber, IsShownTime, IsShownPosition, IsSectionsNumber, AreFound, IsHead, IsChecked}
+use Rattle.checks.specs.Calls.{stepsText, entriesText, rules9, rules11, rules14, rules9to13, IsHead}
+use Rattle.checks.specs.Search.{IsAskedNumber, IsShownNumber, IsShownTime, IsShownPosition, IsSectionsNumber, AreFound, IsChecked}
 use Rattle.checks.specs.Steps.{CommitmentsAt}
 use Rattle.checks.specs.Entries.{EntriesStand}
 use Rattle.checks.specs.declared.shown.Shown.{Shown}
@@ -51,19 +51,11 @@ pub ladder-held : (t count : ℕ) (vs : List ℕ) → (vs ≡ padded ladderCapac
     → Ladders t count vs
 ladder-held t count vs (e, f) h =
     let w = within-some t (omega arith) in
-    let l : length (ladder t) ≤ ladderCapacity = ladder-fits t (omega arith) in
-    let g : count ≡ length (ladder t) = f ∙ ap length w in
-    let v : vs ≡ padded ladderCapacity (ladder t) = e ∙ ap (padded ladderCapacity) w in
-    let k : take count vs ≡ ladder t = ap (take count) v ∙ take-padded ladderCapacity count (ladder t) (sym g) in
-    record {
-      wanted = k;
-      within = omega (arith, g, l, ap length v, length-padded ladderCapacity (ladder t) l);
-      all = g ∙ ap length (sym k);
-      few = omega (arith, ap length k, l);
-    }
+    let (k, l, a) = filled-front ladderCapacity count vs (ladder t) (e ∙ ap (padded ladderCapacity) w, f ∙ ap length w) in
+    record { wanted = k; within = l; all = a; few = omega (arith, ap length k, ladder-fits t (omega arith)) }
 
 -- the entries of a call rise, and are in its log
-abbrev pub OnFrontier : Call → Type 0
+abbrev OnFrontier : Call → Type 0
 OnFrontier c = (rising (entryPositions (c .parts)) ≡ true) × (all (λ (p : ℕ). ltb p (c .parts .size)) (entryPositions (c .parts)) ≡ true)
 
 -- they do where 9 does not apply to a search
@@ -75,25 +67,21 @@ on-frontier text r k c p h =
 -- ---- the parts
 
 -- no rule of 9 and 10 has the number 0
-numbered9 : Numbered rules9
+pub numbered9 : Numbered rules9
 numbered9 = (omega arith, (omega arith, tt))
 
 -- nor one of 9 to 13
-numbered9to13 : Numbered rules9to13
+pub numbered9to13 : Numbered rules9to13
 numbered9to13 = (omega arith, (omega arith, (omega arith, (omega arith, (omega arith, tt)))))
 
 module _ (text : Bytes) (r : Response) (label : Bytes) (size time clock ahead behind : ℕ) (outputs : Bytes) where
-  -- the arguments of 9 to 13 are those of a call
-  abbrev Shown9 : Call → Type 0
-  Shown9 c = Shows c text r label size time clock ahead behind outputs
-
   -- the number of 9 to 13
   abbrev Number : ℕ → Type 0
   Number n = IsSectionsNumber text r label size time clock ahead behind outputs n
 
   -- refused with 9 or 10
   pub asked-refused : (n : ℕ) → IsAskedNumber text r size outputs n → (n ≡ 0 → ⊥) → Number n
-  asked-refused n h z c st = number-front rules9 rules11 c n (h c (st .parts) (st .size) (st .outputs)) z
+  asked-refused n h z c st = number-front rules9 rules11 c n (h c (st .given .parts) (st .given .size) (st .given .outputs)) z
 
   -- what is left after them is the second part's
   pub shown-told : (n count count′ : ℕ) (steps places : List ℕ) → count ≡ count′ → IsAskedNumber text r size outputs n → n ≡ 0
@@ -101,12 +89,13 @@ module _ (text : Bytes) (r : Response) (label : Bytes) (size time clock ahead be
       → EntriesStand (entriesText text r) places (entriesIn (entriesText text r))
       → (m : ℕ) → IsShownNumber text r label size time clock ahead behind outputs (take count steps) places m → Number m
   shown-told n count count′ steps places same-count h z x y m g c st =
-      let (u, (v, t)) = none-applies rules9 c numbered9 (sym z ∙ h c (st .parts) (st .size) (st .outputs)) in
-      g c (st .parts) (st .label) (st .size) (st .time) (st .clock) (st .ahead) (st .behind) (st .outputs) u v (rw same-count x) y
+      let (u, (v, t)) = none-applies rules9 c numbered9 (sym z ∙ h c (st .given .parts) (st .given .size) (st .given .outputs)) in
+      g c st u v (rw same-count x) y
       ∙ number-rest rules9 rules11 c (u, (v, t))
 
 -- what is found where none of them applies
-pub found-shown : (text : Bytes) (r : Response) (s : Sections) (shown : Shown) (places wanted : List ℕ) → s .number ≡ shown .number → s .position ≡ shown .position
+pub found-shown : (text : Bytes) (r : Response) (s : Sections) (shown : Shown) (places wanted : List ℕ) → s .number ≡ shown .number
+    → s .position ≡ shown .position
     → s .time ≡ shown .time → take (s .count) (s .places) ≡ places → EntriesStand (entriesText text r) places (entriesIn (entriesText text r))
     → IsShownTime text r places shown → IsShownPosition text r wanted shown → wanted ≡ ladder (r .target .version) → AreFound text r s
 found-shown text r s shown places wanted en ep et ec y ht hp hw z =
@@ -133,9 +122,9 @@ module _ (text : Bytes) (r : Response) (label : Bytes) (size time : ℕ) (kept :
       → k .number ≡ m → k .position ≡ s .position → k .time ≡ s .time → Told k block
   unfolding partsIn lastTime
   head-told s m block k hs w hf hh right frontier en ep et c st =
-      let g = st .shows in
+      let g = st .shows .given in
       let f = hf w in
-      let ms = none-applies rules9to13 c numbered9to13 (sym w ∙ hs c g) in
+      let ms = none-applies rules9to13 c numbered9to13 (sym w ∙ hs c (st .shows)) in
       let (rise, below) = frontier c (g .parts) (ms .0) in
       let (nh, vh) = hh c (g .parts) (g .size) (st .values) (st .configuration) (st .signed) (right c (g .parts) (g .size)) rise below (f .stand) in
       let es : c .parts .entries ≡ entriesIn (entriesText text r) = ap (λ (p : Parts). p .entries) (g .parts) in (

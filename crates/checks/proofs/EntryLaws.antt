@@ -1,15 +1,17 @@
--- Laws of the entries of a search (specs/Entries.antt): the lookups of an entry against the ladder, one after the other, and the entries likewise.
+-- Laws of the entries of a search (specs/Entries.antt): the lookups of an entry against the versions wanted, one after the other, and the entries likewise.
 use mathlib.Core.Path.{_≡_, refl, sym, _∙_, ap, subst}
-use mathlib.Core.Bool.{Bool, true, false, _&&_, and-true, and-false, false≢true}
+use mathlib.Core.Bool.{Bool, true, false, _&&_, and-true, and-false, and-assoc}
 use mathlib.Core.List.{List, [], _∷_, _++_, append-assoc, append-nil, map-append, cons-ne-nil}
 use Prim.Native.Nat.{ℕ, _+_, _-_, _≤_, _<_}
 use native.Mathlib.Numerals.{add-one}
 use native.Mathlib.Omega.{arith}
 use lib.Dec.{eqb, ltb}
-use lib.ListN.{length, take, drop, getD, set}
+use lib.ListN.{length, take, drop, getD, set, length-map}
 use lib.Seq.{take-suc-set}
-use borrow.Author.Tests.{eq-eqb, ne-eqb, eqb-true, eqb-false}
+use borrow.Author.Tests.{eq-eqb, ne-eqb, eqb-true, eqb-false, lt-ltb}
 use Rattle.lists.specs.Lists.{Bytes, begins}
+use Rattle.lists.proofs.ListLaws.{holds-and}
+use Rattle.lists.proofs.SameLaws.{begins-none, begins-next}
 use Rattle.lines.specs.Line.{endedLines, leading}
 use Rattle.lines.proofs.PlaceLaws.{at-cons, at-end}
 use Rattle.tree.specs.LogTree.{LogEntry}
@@ -27,42 +29,16 @@ use Rattle.checks.specs.Sections.{EntryLines, entryWord, withLookups, Is
 use Rattle.checks.specs.Entries.{versionsOf, beginsLadder, askedAt, EntriesStand}
 use Rattle.checks.proofs.LineStepLaws.{some-line, no-item-end}
 
--- ---- the front of a list
-
--- every list begins with none
-begins-none : (ys : List ℕ) → begins [] ys ≡ true
-unfolding begins
-begins-none ys = refl
-
-module _ (x : ℕ) (xs ys : List ℕ) (i : ℕ) where
-  -- elements are compared one after the other
-  pub begins-at : i < length ys → begins (x ∷ xs) (drop i ys) ≡ (eqb x (getD ys i 0) && begins xs (drop (i + 1) ys))
-  unfolding begins
-  begins-at h = rw (at-cons ys i h) refl
-
-  -- no list begins with more than it has
-  pub begins-end : length ys ≤ i → begins (x ∷ xs) (drop i ys) ≡ false
-  unfolding begins
-  begins-end h = rw (at-end ys i h) refl
-
-  -- the element at a place is the same
-  begins-same : i < length ys → x ≡ getD ys i 0 → begins (x ∷ xs) (drop i ys) ≡ begins xs (drop (i + 1) ys)
-  begins-same h e = begins-at h ∙ rw (eq-eqb x (getD ys i 0) e) refl
-
-  -- it is another
-  begins-other : i < length ys → (x ≡ getD ys i 0 → ⊥) → begins (x ∷ xs) (drop i ys) ≡ false
-  begins-other h n = begins-at h ∙ rw (ne-eqb x (getD ys i 0) n) refl
-
 -- ---- the lookups of an entry
 
--- the lookups from a place to another were compared with the ladder: as long as they are as asked, they are counted
-pub record Compared (s : Bytes) (from : ℕ) (wanted : List ℕ) (at count : ℕ) (asked : Bool) : Type 0 where
+-- the lookups from a place to another were compared with the versions wanted, and counted
+pub record Compared (s : Bytes) (from : ℕ) (wanted : List ℕ) (at count : ℕ) (begin : Bool) : Type 0 where
   pub entries : entriesIn (drop at s) ≡ entriesIn (drop from s)
   pub lines : EntryLines (drop at s)
-  pub forward : from ≤ at
+  pub forward : count + from ≤ at
   pub within : at ≤ length s
-  pub begun : begins (versionsOf (looseIn (drop from s))) wanted ≡ (asked && begins (versionsOf (looseIn (drop at s))) (drop count wanted))
-  pub counted : asked ≡ true → length (versionsOf (looseIn (drop from s))) ≡ count + length (versionsOf (looseIn (drop at s)))
+  pub begun : begins (versionsOf (looseIn (drop from s))) wanted ≡ (begin && begins (versionsOf (looseIn (drop at s))) (drop count wanted))
+  pub counted : length (looseIn (drop from s)) ≡ count + length (looseIn (drop at s))
 
 -- what is known of the lookup at a place, once one was found
 pub lookup-found : (s : Bytes) (at : ℕ) (r : NextLookup) (stop next : ℕ) → r ≡ LookupAt stop next → IsNextLookup s at r → IsNextLookup s at (LookupAt stop next)
@@ -75,76 +51,60 @@ lookup-missing s at r e h = subst (λ (n : NextLookup). IsNextLookup s at n) e h
 module _ (s : Bytes) (from : ℕ) (wanted : List ℕ) where
   -- at first none was compared
   pub compared-start : EntryLines (drop from s) → from ≤ length s → Compared s from wanted from 0 true
-  compared-start l w = record { entries = refl; lines = l; forward = omega arith; within = w; begun = refl; counted = λ _. omega arith }
+  compared-start l w = record { entries = refl; lines = l; forward = omega arith; within = w; begun = refl; counted = omega arith }
 
-  module _ (at count : ℕ) (asked : Bool) (c : Compared s from wanted at count asked) where
-    module _ (stop next : ℕ) (h : IsNextLookup s at (LookupAt stop next)) where
-      -- the versions from there on are that of the lookup there and those after it
-      versions-here : versionsOf (looseIn (drop at s)) ≡ h .0 .version ∷ versionsOf (looseIn (drop next s))
-      versions-here = ap versionsOf (h .2)
+  module _ (at count : ℕ) (begin : Bool) (c : Compared s from wanted at count begin) where
+    -- the lookup at the place is compared too
+    pub compared-next : (stop next : ℕ) → IsNextLookup s at (LookupAt stop next)
+        → (v : ℕ) → OfLookup (take (stop - at) (drop at s)) (λ (l : Lookup). l .version) v
+        → (stands : Bool) → stands ≡ begins (v ∷ []) (drop count wanted) → Compared s from wanted next (count + 1) (begin && stands)
+    compared-next stop next (l, read, loose, entries, lines, f, g, w) v o stands e =
+        let rest = begins (versionsOf (looseIn (drop next s))) (drop (count + 1) wanted) in
+        let z = c .forward in
+        record {
+          entries = sym entries ∙ c .entries;
+          lines = lines;
+          forward = omega arith;
+          within = w;
+          begun =
+              c .begun
+              ∙ ap (λ (ls : List Lookup). begin && begins (versionsOf ls) (drop count wanted)) loose
+              ∙ ap (λ (b : Bool). begin && b) (begins-next (l .version) (versionsOf (looseIn (drop next s))) wanted count)
+              ∙ ap (λ (u : ℕ). begin && (begins (u ∷ []) (drop count wanted) && rest)) (sym (o l read))
+              ∙ ap (λ (b : Bool). begin && (b && rest)) (sym e)
+              ∙ sym (and-assoc begin stands rest);
+          counted = let k = c .counted in let m = ap length loose in omega arith;
+        }
 
-      -- a lookup that is not as asked
-      fails : begins (versionsOf (looseIn (drop at s))) (drop count wanted) ≡ false → Compared s from wanted next count false
-      fails e =
-          let (l, read, loose, entries, lines, f, g, w) = h in
-          let z = c .forward in
-          record {
-            entries = sym entries ∙ c .entries;
-            lines = lines;
-            forward = omega arith;
-            within = w;
-            begun = c .begun ∙ ap (λ (b : Bool). asked && b) e ∙ and-false asked;
-            counted = λ i. absurd (false≢true i);
-          }
+    -- where none is left, all were
+    pub compared-all : looseIn (drop at s) ≡ []
+        → (begin ≡ begins (versionsOf (looseIn (drop from s))) wanted) × (count ≡ length (looseIn (drop from s))) × AfterLookups s from at
+    compared-all h =
+        let z = c .forward in
+        let k = c .counted in
+        let m = ap length h in (
+          sym (c .begun ∙ rw (h, begins-none (drop count wanted)) (and-true begin)),
+          omega arith,
+          record { entries = c .entries; loose = h; lines = c .lines; forward = omega arith; within = c .within },
+        )
 
-      -- it is one more than the ladder has
-      pub compared-past : length wanted ≤ count → Compared s from wanted next count false
-      compared-past p = fails (rw versions-here (begins-end (h .0 .version) (versionsOf (looseIn (drop next s))) wanted count p))
+-- lookups that were compared with a ladder, and counted
+module _ (wanted : List ℕ) (ls : List Lookup) (begin : Bool) (count : ℕ) (b : begin ≡ begins (versionsOf ls) wanted) (k : count ≡ length ls) where
+  -- they begin the ladder where there are some and none is of another version
+  ladder-by : (ltb 0 count && begin) ≡ beginsLadder wanted (versionsOf ls)
+  ladder-by = rw (length-map ls (λ (l : Lookup). l .version), k, b) refl
 
-      module _ (v : ℕ) (o : OfLookup (take (stop - at) (drop at s)) (λ (l : Lookup). l .version) v) (p : count < length wanted) where
-        -- it is of another version
-        pub compared-other : (v ≡ getD wanted count 0 → ⊥) → Compared s from wanted next count false
-        compared-other n =
-            let q : v ≡ h .0 .version = o (h .0) (h .1) in
-            fails (rw versions-here (begins-other (h .0 .version) (versionsOf (looseIn (drop next s))) wanted count p (λ e. n (q ∙ e))))
+  -- one is of another version
+  ladder-other : begin ≡ false → false ≡ beginsLadder wanted (versionsOf ls)
+  ladder-other e = sym (ap (λ (c : Bool). ltb 0 count && c) e ∙ and-false (ltb 0 count)) ∙ ladder-by
 
-        -- it is of the version wanted
-        pub compared-same : v ≡ getD wanted count 0 → Compared s from wanted next (count + 1) asked
-        compared-same e =
-            let (l, read, loose, entries, lines, f, g, w) = h in
-            let q : v ≡ l .version = o l read in
-            let vs = versionsOf (looseIn (drop next s)) in
-            let z = c .forward in
-            let b : begins (versionsOf (looseIn (drop at s))) (drop count wanted) ≡ begins vs (drop (count + 1) wanted) =
-            rw versions-here (begins-same (l .version) vs wanted count p (sym q ∙ e)) in
-            record {
-              entries = sym entries ∙ c .entries;
-              lines = lines;
-              forward = omega arith;
-              within = w;
-              begun = c .begun ∙ ap (λ (b : Bool). asked && b) b;
-              counted = λ i. let k = c .counted i in let m = ap length versions-here in omega arith;
-            }
+  -- there is none
+  ladder-none : count ≡ 0 → false ≡ beginsLadder wanted (versionsOf ls)
+  ladder-none e = ap (λ (n : ℕ). ltb 0 n && begin) (sym e) ∙ ladder-by
 
-    module _ (h : looseIn (drop at s) ≡ []) where
-      -- at the end all of them were compared
-      all-begun : begins (versionsOf (looseIn (drop from s))) wanted ≡ asked
-      all-begun = c .begun ∙ rw (h, begins-none (drop count wanted)) (and-true asked)
-
-      -- and the next place follows them
-      pub compared-after : AfterLookups s from at
-      compared-after = record { entries = c .entries; loose = h; lines = c .lines; forward = c .forward; within = c .within }
-
-      -- they are as asked where none failed and there was one
-      pub compared-asked : asked ≡ true → ltb 0 count ≡ beginsLadder wanted (versionsOf (looseIn (drop from s)))
-      compared-asked e =
-          let k : length (versionsOf (looseIn (drop from s))) ≡ count =
-          let m = ap (λ (ls : List Lookup). length (versionsOf ls)) h in let n = c .counted e in omega arith in
-          rw (all-begun ∙ e, k) (sym (and-true (ltb 0 count)))
-
-      -- and not where one failed
-      pub compared-not : asked ≡ false → asked ≡ beginsLadder wanted (versionsOf (looseIn (drop from s)))
-      compared-not e = e ∙ sym (rw (all-begun ∙ e) (and-false (ltb 0 (length (versionsOf (looseIn (drop from s)))))))
+  -- there are some, and none is of another version
+  ladder-begun : begin ≡ true → (count ≡ 0 → ⊥) → true ≡ beginsLadder wanted (versionsOf ls)
+  ladder-begun e n = sym (holds-and (ltb 0 count) begin (lt-ltb 0 count (omega (arith, n))) e) ∙ ladder-by
 
 -- ---- lines that are all read
 
@@ -156,7 +116,7 @@ no-items (lookupItem l ∷ xs) e f = absurd (cons-ne-nil l (grouped xs .0) e)
 no-items (entryItem x ∷ xs) e f = absurd (cons-ne-nil (withLookups x (grouped xs .0)) (grouped xs .1) f)
 
 -- before the end there is an entry, where no lookup stands before it
-some-entries : (s : Bytes) (at : ℕ) → EntryLines (drop at s) → looseIn (drop at s) ≡ [] → at < length s → entriesIn (drop at s) ≡ [] → ⊥
+pub some-entries : (s : Bytes) (at : ℕ) → EntryLines (drop at s) → looseIn (drop at s) ≡ [] → at < length s → entriesIn (drop at s) ≡ [] → ⊥
 unfolding entriesIn looseIn
 some-entries s at l e h f = some-line readItem s at l h (no-items (leading readItem (endedLines (drop at s)) .0) e f)
 
@@ -164,23 +124,23 @@ some-entries s at l e h f = some-line readItem s at l h (no-items (leading readI
 
 module _ (f : Finding) where
   -- nothing was asked, and nothing is there
-  asked-none : entriesAsked f [] [] ≡ true
+  pub asked-none : entriesAsked f [] [] ≡ true
   unfolding entriesAsked
   asked-none = refl
 
   -- an entry more than asked
-  asked-over : (es : List Entry) → (es ≡ [] → ⊥) → entriesAsked f [] es ≡ false
+  pub asked-over : (es : List Entry) → (es ≡ [] → ⊥) → entriesAsked f [] es ≡ false
   unfolding entriesAsked
   asked-over [] n = absurd (n refl)
   asked-over (e ∷ es) n = refl
 
   -- an entry less than asked
-  asked-short : (a : Asked) (rest : List Asked) → entriesAsked f (a ∷ rest) [] ≡ false
+  pub asked-short : (a : Asked) (rest : List Asked) → entriesAsked f (a ∷ rest) [] ≡ false
   unfolding entriesAsked
   asked-short a rest = refl
 
   -- the first entry, and those after it
-  asked-first : (a : Asked) (rest : List Asked) (e : Entry) (es : List Entry)
+  pub asked-first : (a : Asked) (rest : List Asked) (e : Entry) (es : List Entry)
       → entriesAsked f (a ∷ rest) (e ∷ es) ≡ (eqb (e .position) (a .position) && lookupsAsked f (a .versions) (lookupVersions e) && entriesAsked f rest es)
   unfolding entriesAsked
   asked-first a rest e es = refl
@@ -200,12 +160,12 @@ unfolding logEntry withLookups
 log-entry e ls = refl
 
 -- a position is that of the log's entry
-log-position : (e : Entry) → logEntry e .position ≡ e .position
+pub log-position : (e : Entry) → logEntry e .position ≡ e .position
 unfolding logEntry
 log-position e = refl
 
 -- one more entry stands at one more place
-stand-more : (s : Bytes) (ps : List ℕ) (es : List Entry) (p : ℕ) (e : Entry) (ls : List Lookup) → EntriesStand s ps es → entryIn (drop p s) ≡ logEntry e
+pub stand-more : (s : Bytes) (ps : List ℕ) (es : List Entry) (p : ℕ) (e : Entry) (ls : List Lookup) → EntriesStand s ps es → entryIn (drop p s) ≡ logEntry e
     → EntriesStand s (ps ++ p ∷ []) (es ++ withLookups e ls ∷ [])
 unfolding entriesAt
 stand-more s ps es p e ls h i =
@@ -218,7 +178,8 @@ pub record Passed (s : Bytes) (positions wanted places : List ℕ) (at i : ℕ) 
   pub lines : EntryLines (drop at s)
   pub loose : looseIn (drop at s) ≡ []
   pub asked : (t : Target)
-      → entriesAsked (searched t) (askedAt positions wanted) (entriesIn s) ≡ entriesAsked (searched t) (askedAt (drop i positions) wanted) (entriesIn (drop at s))
+      → entriesAsked (searched t) (askedAt positions wanted) (entriesIn s)
+      ≡ entriesAsked (searched t) (askedAt (drop i positions) wanted) (entriesIn (drop at s))
   pub done : List Entry
   pub whole : entriesIn s ≡ done ++ entriesIn (drop at s)
   pub stand : EntriesStand s (take i places) done
@@ -239,7 +200,8 @@ module _ (s : Bytes) (positions wanted places : List ℕ) where
 
   module _ (at i : ℕ) (c : Passed s positions wanted places at i) where
     -- an entry that is not there
-    pub passed-missing : i < length positions → entriesIn (drop at s) ≡ [] → (t : Target) → false ≡ entriesAsked (searched t) (askedAt positions wanted) (entriesIn s)
+    pub passed-missing : i < length positions → entriesIn (drop at s) ≡ []
+        → (t : Target) → false ≡ entriesAsked (searched t) (askedAt positions wanted) (entriesIn s)
     passed-missing h e t =
         sym (c .asked t ∙ rw (at-cons positions i h, e)
         (asked-short (searched t) (record { position = getD positions i 0; versions = wanted }) (askedAt (drop (i + 1) positions) wanted)))
@@ -268,23 +230,35 @@ module _ (s : Bytes) (positions wanted places : List ℕ) where
           position-same = eq-eqb (n .0 .position) (getD positions i 0) (sym position-read ∙ e)
 
           -- it has other lookups
-          pub passed-unasked : false ≡ beginsLadder wanted (versionsOf (looseIn (drop next s)))
+          unasked : false ≡ beginsLadder wanted (versionsOf (looseIn (drop next s)))
               → (t : Target) → false ≡ entriesAsked (searched t) (askedAt positions wanted) (entriesIn s)
-          passed-unasked b t = sym (next-asked t ∙ rw (position-same, ← b) refl)
+          unasked b t = sym (next-asked t ∙ rw (position-same, ← b) refl)
 
-          -- it is as asked
-          pub passed-next : true ≡ beginsLadder wanted (versionsOf (looseIn (drop next s))) → (after : ℕ) → AfterLookups s next after → i < length places
-              → Passed s positions wanted (set places i (at + entryWord)) after (i + 1)
-          passed-next b after a k =
-              record {
-                lines = a .lines;
-                loose = a .loose;
-                asked = λ t. next-asked t ∙ rw (position-same, ← b, a .entries) refl;
-                done = c .done ++ withLookups (n .0) (looseIn (drop next s)) ∷ [];
-                whole = c .whole ∙ rw (n .1, a .entries) (sym (append-assoc (c .done) (withLookups (n .0) (looseIn (drop next s)) ∷ []) (entriesIn (drop next s))));
-                stand = rw (add-one i, take-suc-set places i (at + entryWord) k)
-                    (stand-more s (take i places) (c .done) (at + entryWord) (n .0) (looseIn (drop next s)) (c .stand) (n .2));
-              }
+          module _ (begin : Bool) (count : ℕ) (b : begin ≡ begins (versionsOf (looseIn (drop next s))) wanted)
+              (k : count ≡ length (looseIn (drop next s))) where
+            -- a lookup is of another version
+            pub passed-other : begin ≡ false → (t : Target) → false ≡ entriesAsked (searched t) (askedAt positions wanted) (entriesIn s)
+            passed-other f = unasked (ladder-other wanted (looseIn (drop next s)) begin count b k f)
+
+            -- there is no lookup
+            pub passed-none : count ≡ 0 → (t : Target) → false ≡ entriesAsked (searched t) (askedAt positions wanted) (entriesIn s)
+            passed-none z = unasked (ladder-none wanted (looseIn (drop next s)) begin count b k z)
+
+            -- it is as asked
+            pub passed-next : begin ≡ true → (count ≡ 0 → ⊥) → (after : ℕ) → AfterLookups s next after → i < length places
+                → Passed s positions wanted (set places i (at + entryWord)) after (i + 1)
+            passed-next f z after a l =
+                let ls = looseIn (drop next s) in
+                let y = ladder-begun wanted ls begin count b k f z in
+                record {
+                  lines = a .lines;
+                  loose = a .loose;
+                  asked = λ t. next-asked t ∙ rw (position-same, ← y, a .entries) refl;
+                  done = c .done ++ withLookups (n .0) ls ∷ [];
+                  whole = c .whole ∙ rw (n .1, a .entries) (sym (append-assoc (c .done) (withLookups (n .0) ls ∷ []) (entriesIn (drop next s))));
+                  stand = rw (add-one i, take-suc-set places i (at + entryWord) l)
+                      (stand-more s (take i places) (c .done) (at + entryWord) (n .0) ls (c .stand) (n .2));
+                }
 
     module _ (h : length positions ≤ i) (w : at ≤ length s) where
       -- at the end all are as asked where the text ends too

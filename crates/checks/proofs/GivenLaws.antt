@@ -1,17 +1,17 @@
--- Laws of what is tried of a search before its steps, entries and nodes are looked at (specs/Search.antt): 1 and 6 to 8, test by test.
-use mathlib.Core.Path.{_≡_, refl, sym, _∙_, ap}
+-- Laws of what is tried of a response before its steps, entries and nodes are looked at (specs/Calls.antt): 6 to 8, test by test.
+use mathlib.Core.Path.{_≡_, refl, sym, _∙_, ap, subst}
 use mathlib.Core.Bool.{Bool, true, false, not, _||_, false≢true, Bool·not-not}
-use mathlib.Core.List.{List}
+use mathlib.Core.List.{List, [], _∷_}
 use mathlib.Core.Option.{Option, Option·elim, none, some, Option·none-ne-some}
 use Prim.Native.Nat.{ℕ, _+_, _≤_, _<_}
 use native.Mathlib.Decide.{decLt}
 use native.Mathlib.Omega.{arith}
 use lib.Dec.{eqb, leb, ltb}
 use lib.ListN.{length, take, drop, getD, replicate, length-replicate}
-use borrow.Author.Tests.{lt-ltb, le-ltb, lt-leb, le-leb, eq-eqb, ne-eqb, not-true, not-false}
+use borrow.Author.Tests.{lt-ltb, le-ltb, ltb-false, lt-leb, le-leb, eq-eqb, ne-eqb, not-true, not-false}
 use Rattle.lists.specs.Choice.{given}
 use Rattle.lists.specs.Lists.{Bytes, any, same}
-use Rattle.lists.proofs.ListLaws.{given-some, differ-same}
+use Rattle.lists.proofs.ListLaws.{given-some, differ-same, or-fails}
 use Rattle.hash.proofs.BytesLaws.{take-padded}
 use Rattle.lines.specs.Hex.{readHex}
 use Rattle.lines.specs.Readings.{partOf}
@@ -20,16 +20,19 @@ use Rattle.lines.proofs.PlaceLaws.{at-cons, at-end}
 use Rattle.lines.proofs.WritingLaws.{put-some, put-none}
 use Rattle.rules.specs.Limits.{treeSizeLimit, greatestVersion}
 use Rattle.rules.specs.State.{versions}
-use Rattle.rules.specs.Response.{kindOf, search as searchKind}
-use Rattle.rules.specs.Refusals.{Call, kindAsked, sameKind, foreign, sizeWrong, targetWrong, targetWrongIn}
+use Rattle.rules.specs.Response.{Parts, kindOf}
+use Rattle.rules.specs.Refusals.{Call, rule, kindAsked, sameKind, foreign, sizeWrong, targetWrong, targetWrongIn}
+use Rattle.rules.proofs.NextStateLaws.{own-was}
 use Rattle.inputs.specs.declared.response_lines.Kind.{Kind}
 use Rattle.inputs.specs.declared.response_lines.Kind.the-variants.{Search, Monitor}
 use Rattle.inputs.specs.declared.response.Response.{Response}
+use Rattle.inputs.specs.declared.response_lines.Target.{Target}
 use Rattle.inputs.specs.ResponseLines.{spelled}
 use Rattle.inputs.specs.Response.{findingIn, partsIn, Fields}
 use Rattle.inputs.proofs.FrontLaws.{put-first, place-fits, place-over}
-use Rattle.checks.specs.Search.{IsOwn, IsFirstNumber}
+use Rattle.checks.specs.Calls.{numberTried, rules6, kindIn, IsOwn, FoundKind, FitsTarget, IsFirstNumber}
 use Rattle.checks.proofs.TrialLaws.{number-first, number-next, number-none}
+use Rattle.checks.proofs.TargetLaws.{call-found}
 
 -- ---- 6: a field spells certain bytes
 
@@ -70,38 +73,55 @@ spelled-same : (field f bytes : Bytes) → field ≡ f → given (readHex f) ≡
 unfolding spelled Option·elim
 spelled-same field f bytes w g = let (b, e) = given-some (readHex f) g in rw (w, e) refl
 
--- ---- 6: the response is that of the search
+-- ---- 6: the response is that of the call
 
-module _ (text : Bytes) (r : Response) (identifier label : Bytes) where
-  -- that of monitoring is not
-  pub monitor-foreign : r .kind ≡ Monitor → IsOwn text r identifier label false
-  unfolding foreign kindAsked sameKind kindOf partsIn findingIn Option·elim
-  monitor-foreign k c p q i l = rw (q, p, k) refl
+-- two kinds are the same where the test says so
+same-kinds : (k asked : Kind) → sameKind (kindIn k) (kindIn asked) ≡ true → k ≡ asked
+unfolding sameKind kindIn
+same-kinds Search Search e = refl
+same-kinds Search Monitor e = absurd (false≢true e)
+same-kinds Monitor Search e = absurd (false≢true e)
+same-kinds Monitor Monitor e = refl
 
-  module _ (f : Fields text r) (k : r .kind ≡ Search) (field : Bytes) (w : field ≡ partOf text (r .identifier)) where
-    -- nor is that of a search with another identifier
-    pub identifier-foreign : Option·elim (readHex field) false (λ (b : Bytes). same b identifier) ≡ false → IsOwn text r identifier label false
-    unfolding foreign kindAsked sameKind kindOf partsIn findingIn Option·elim
+-- what was found is of the kind of the response
+found-kind : (text : Bytes) (k : Kind) (t : Target) → kindOf (findingIn text k t) ≡ kindIn k
+unfolding kindOf kindIn findingIn
+found-kind text Search t = refl
+found-kind text Monitor t = refl
+
+module _ (text : Bytes) (r : Response) (asked : Kind) (c : Call) (p : c .parts ≡ partsIn text r) (q : c .inputs .kind ≡ some (kindIn asked)) where
+  -- it is the kind asked for where the two are the same
+  kind-test : kindAsked c ≡ sameKind (kindIn (r .kind)) (kindIn asked)
+  unfolding kindAsked partsIn Option·elim
+  kind-test = rw (q, p, found-kind text (r .kind) (r .target)) refl
+
+  -- a response that is that of the call is of the kind asked for
+  pub own-kind : foreign c ≡ false → r .kind ≡ asked
+  own-kind e = same-kinds (r .kind) asked (sym kind-test ∙ own-was c e .0)
+
+module _ (text : Bytes) (r : Response) (asked : Kind) (identifier label : Bytes) where
+  -- one of another kind is not
+  pub kind-foreign : sameKind (kindIn (r .kind)) (kindIn asked) ≡ false → IsOwn text r asked identifier label false
+  unfolding foreign
+  kind-foreign e c p q i l = rw (kind-test text r asked c p q ∙ e) refl
+
+  module _ (f : Fields text r) (k : sameKind (kindIn (r .kind)) (kindIn asked) ≡ true) (field : Bytes) (w : field ≡ partOf text (r .identifier)) where
+    -- nor is one with another identifier
+    pub identifier-foreign : Option·elim (readHex field) false (λ (b : Bytes). same b identifier) ≡ false → IsOwn text r asked identifier label false
+    unfolding foreign partsIn
     identifier-foreign e c p q i l =
         let z : same (spelled (partOf text (r .identifier))) identifier ≡ false = sym (spelled-same field _ identifier w (f .identifier)) ∙ e in
-        rw (q, p, k, i, z) refl
+        rw (kind-test text r asked c p q ∙ k, p, i, z) refl
 
     -- with the same identifier, the label decides
     pub label-decides : Option·elim (readHex field) false (λ (b : Bytes). same b identifier) ≡ true
-        → (t : Bool) (g : Bytes) → g ≡ partOf text (r .label) → t ≡ Option·elim (readHex g) false (λ (b : Bytes). same b label) → IsOwn text r identifier label t
-    unfolding foreign kindAsked sameKind kindOf partsIn findingIn Option·elim
+        → (t : Bool) (g : Bytes) → g ≡ partOf text (r .label) → t ≡ Option·elim (readHex g) false (λ (b : Bytes). same b label)
+        → IsOwn text r asked identifier label t
+    unfolding foreign partsIn
     label-decides e t g v d c p q i l =
         let z : same (spelled (partOf text (r .identifier))) identifier ≡ true = sym (spelled-same field _ identifier w (f .identifier)) ∙ e in
         let y : same (spelled (partOf text (r .label))) label ≡ t = sym (spelled-same g _ label v (f .label)) ∙ sym d in
-        rw (q, p, k, i, l, z, y) (sym (Bool·not-not t))
-
--- one that is that of the search is of its kind
-pub own-search : (text : Bytes) (r : Response) (c : Call) → c .parts ≡ partsIn text r → c .inputs .kind ≡ some searchKind → foreign c ≡ false → r .kind ≡ Search
-own-search text r c p q e = go (r .kind) refl
-  where
-    go : (k : Kind) → r .kind ≡ k → k ≡ Search
-    go Search m = refl
-    go Monitor m = absurd (false≢true (monitor-foreign text r (c .inputs .identifier) (c .state .label) m c p q refl refl ∙ ap not e))
+        rw (kind-test text r asked c p q ∙ k, p, i, l, z, y) (sym (Bool·not-not t))
 
 -- ---- 7: the size
 
@@ -130,11 +150,42 @@ module _ (size kept : ℕ) where
 
 -- ---- 8: the version
 
--- the version that was searched for decides, and those of the map
-pub version-test : (text : Bytes) (r : Response) (map : List ℕ) (c : Call) → c .parts ≡ partsIn text r → versions (c .state .monitoringMap) ≡ map → r .kind ≡ Search
-    → targetWrong c ≡ (ltb greatestVersion (r .target .version) || any (λ (v : ℕ). ltb (r .target .version) v) map)
-unfolding targetWrong targetWrongIn partsIn findingIn
-version-test text r map c p m k = rw (p, k, m) refl
+-- what was found is of the kind of the response, with its version
+found-target : (text : Bytes) (k : Kind) (t : Target) → FoundKind k (t .version) (findingIn text k t)
+unfolding findingIn
+found-target text Search t = (_, refl, refl)
+found-target text Monitor t = refl
+
+-- so what fits it fits the call
+target-test : (text : Bytes) (r : Response) (map : List ℕ) (b : Bool) (c : Call) → FitsTarget (r .kind) (r .target .version) map b → c .parts ≡ partsIn text r
+    → versions (c .state .monitoringMap) ≡ map → b ≡ not (targetWrong c)
+unfolding targetWrong partsIn
+target-test text r map b c h p m =
+    h (c .parts .finding) (c .state .monitoringMap)
+    (subst (λ (x : Parts). FoundKind (r .kind) (r .target .version) (x .finding)) (sym p) (found-target text (r .kind) (r .target))) m
+
+module _ (kind : Kind) (version : ℕ) (map : List ℕ) where
+  -- in a search the version decides, and those of the map
+  pub search-fits : kind ≡ Search → (b : Bool) → b ≡ not (ltb greatestVersion version || any (λ (v : ℕ). ltb version v) map) → FitsTarget kind version map b
+  unfolding targetWrongIn
+  search-fits k b e f entries g m =
+      let (t, q, v) : FoundKind Search version f = subst (λ (x : Kind). FoundKind x version f) k g in
+      e ∙ rw (q, v, m) refl
+
+  -- monitoring has none
+  pub monitor-fits : kind ≡ Monitor → FitsTarget kind version map true
+  unfolding targetWrongIn
+  monitor-fits k f entries g m =
+      let q : FoundKind Monitor version f = subst (λ (x : Kind). FoundKind x version f) k g in
+      rw q refl
+
+-- the version of a search to which 8 does not apply is one that can be searched for
+pub version-possible : (text : Bytes) (r : Response) (c : Call) → c .parts ≡ partsIn text r → targetWrong c ≡ false → r .kind ≡ Search
+    → r .target .version ≤ greatestVersion
+unfolding targetWrong targetWrongIn
+version-possible text r c p e k =
+    let (t, _) = or-fails _ _ (sym (ap (targetWrongIn (c .state .monitoringMap)) (call-found text r k c p)) ∙ e) in
+    ltb-false greatestVersion (r .target .version) t
 
 module _ (f : ℕ → Bool) (xs : List ℕ) (i : ℕ) where
   -- an element of which a test does not hold is passed over
@@ -164,33 +215,35 @@ module _ (version : ℕ) (vs : List ℕ) where
 
 -- ---- the first number
 
-module _ (text : Bytes) (r : Response) (identifier label : Bytes) (size : ℕ) (map : List ℕ) where
-  -- a response that is not that of the search
-  pub first-foreign : IsOwn text r identifier label false → IsFirstNumber text r identifier label size map 6
+module _ (text : Bytes) (r : Response) (asked : Kind) (identifier label : Bytes) (size : ℕ) (map : List ℕ) where
+  -- a number is that of the call
+  abbrev First : ℕ → Type 0
+  First n = IsFirstNumber text r asked identifier label size map n
+
+  -- a response that is not that of the call
+  pub first-foreign : IsOwn text r asked identifier label false → First 6
   first-foreign o c p q i l s m = number-first 6 foreign _ c (not-false _ (sym (o c p q i l)))
 
-  module _ (o : IsOwn text r identifier label true) where
+  module _ (o : IsOwn text r asked identifier label true) where
     -- one with a wrong size
-    pub first-size : false ≡ not (eqb (r .size) 0 || ltb treeSizeLimit (r .size) || ltb (r .size) size) → IsFirstNumber text r identifier label size map 7
+    pub first-size : false ≡ not (eqb (r .size) 0 || ltb treeSizeLimit (r .size) || ltb (r .size) size) → First 7
     first-size w c p q i l s m =
         number-first 7 sizeWrong _ c (size-test text r size c p s ∙ not-false _ (sym w)) ∙ number-next 6 foreign _ c (not-true _ (sym (o c p q i l)))
 
     module _ (w : true ≡ not (eqb (r .size) 0 || ltb treeSizeLimit (r .size) || ltb (r .size) size)) where
+      -- of others the target decides
+      target-first : (c : Call) → c .parts ≡ partsIn text r
+          → c .inputs .kind ≡ some (kindIn asked) → c .inputs .identifier ≡ identifier → c .state .label ≡ label → c .state .size ≡ size
+          → numberTried (rule 8 targetWrong ∷ []) c ≡ numberTried rules6 c
+      target-first c p q i l s =
+          number-next 7 sizeWrong _ c (size-test text r size c p s ∙ not-true _ (sym w)) ∙ number-next 6 foreign _ c (not-true _ (sym (o c p q i l)))
+
       -- one with a wrong version
-      pub first-version : false ≡ not (ltb greatestVersion (r .target .version) || any (λ (v : ℕ). ltb (r .target .version) v) map)
-          → IsFirstNumber text r identifier label size map 8
+      pub first-version : FitsTarget (r .kind) (r .target .version) map false → First 8
       first-version v c p q i l s m =
-          let f = not-true _ (sym (o c p q i l)) in
-          number-first 8 targetWrong _ c (version-test text r map c p m (own-search text r c p q f) ∙ not-false _ (sym v))
-          ∙ number-next 7 sizeWrong _ c (size-test text r size c p s ∙ not-true _ (sym w))
-          ∙ number-next 6 foreign _ c f
+          number-first 8 targetWrong _ c (not-false _ (sym (target-test text r map false c v p m))) ∙ target-first c p q i l s
 
       -- one to which none of the three applies
-      pub first-none : true ≡ not (ltb greatestVersion (r .target .version) || any (λ (v : ℕ). ltb (r .target .version) v) map)
-          → IsFirstNumber text r identifier label size map 0
+      pub first-none : FitsTarget (r .kind) (r .target .version) map true → First 0
       first-none v c p q i l s m =
-          let f = not-true _ (sym (o c p q i l)) in
-          number-none c
-          ∙ number-next 8 targetWrong _ c (version-test text r map c p m (own-search text r c p q f) ∙ not-true _ (sym v))
-          ∙ number-next 7 sizeWrong _ c (size-test text r size c p s ∙ not-true _ (sym w))
-          ∙ number-next 6 foreign _ c f
+          number-none c ∙ number-next 8 targetWrong _ c (not-true _ (sym (target-test text r map true c v p m))) ∙ target-first c p q i l s

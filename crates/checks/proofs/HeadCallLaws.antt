@@ -26,7 +26,7 @@ use Rattle.rules.proofs.NextStateLaws.{size-was}
 use Rattle.inputs.specs.declared.response.Response.{Response}
 use Rattle.inputs.specs.Response.{entriesIn, nodesIn, partsIn, AllRead}
 use Rattle.checks.specs.Entries.{EntriesStand}
-use Rattle.checks.specs.Search.{numberTried, rules14, entriesText, IsHead}
+use Rattle.checks.specs.Calls.{numberTried, rules14, entriesText, IsHead}
 use Rattle.checks.proofs.TrialLaws.{number-first, number-next, number-none}
 use Rattle.checks.proofs.AskedCallLaws.{logged-positions, stand-walkable}
 

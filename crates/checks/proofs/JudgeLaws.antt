@@ -7,11 +7,12 @@ use mathlib.Core.Option.{some, bind}
 use Prim.Native.Nat.{ℕ, _+_, _-_, _≤_, _<_}
 use native.Mathlib.Omega.{arith}
 use lib.Dec.{eqb, leb, ltb}
-use lib.ListN.{length, take, drop, getD, drop-of-length-le}
+use lib.ListN.{length, take, drop, drop-of-length-le}
 use borrow.Author.Tests.{eq-eqb, ne-eqb, eqb-true, lt-ltb, le-ltb}
 use Rattle.lists.specs.Choice.{choose, given}
 use Rattle.lists.specs.Lists.{Bytes, all, any, first, same, begins}
 use Rattle.lists.proofs.ListLaws.{and-holds, choose-true, choose-false, all-cons, all-at, any-at, or-holds, first-here, first-later}
+use Rattle.lists.proofs.SameLaws.{begins-within, same-next}
 use Rattle.lines.proofs.PlaceLaws.{at-cons}
 use Rattle.tree.specs.LogTree.{LogEntry}
 use Rattle.tree.specs.LogText.{entryIn}
@@ -28,31 +29,13 @@ use Rattle.inputs.proofs.VrfOutputLaws.{found-output}
 use Rattle.checks.specs.declared.sections.NextLookup.the-variants.{Lookup as LookupAt, NoLookup}
 use Rattle.checks.specs.declared.sections.NextEntry.the-variants.{Entry as EntryAt, NoEntry}
 use Rattle.checks.specs.Sections.{EntryLines, entryWord, withLookups, IsNextEntry, readLookup, IsNextLookup, AfterLookups, OfLookup}
-use Rattle.checks.specs.Steps.{IsStepCommitment}
-use Rattle.checks.specs.Steps.{versionsOf as stepVersions}
+use Rattle.checks.specs.Steps.{IsStepCommitment, versionsOf as stepVersions}
 use Rattle.checks.specs.Entries.{versionsOf}
-use Rattle.checks.specs.Lookups.{terminalWith, reaches, Sought, passes, lookupsWanted, Passes, AllPass, completeLadder, allWanted, AllHold, IsFirstComplete}
+use Rattle.checks.specs.Lookups.{terminalWith, reaches, Sought, passes, lookupsWanted, Passes, AllPass, completeLadder, allWanted, AllHold}
+use Rattle.checks.specs.Lookups.{IsFirstComplete}
 use Rattle.checks.proofs.SearchStepLaws.{isOf, stepOf, commitmentIn, commitment-was}
-use Rattle.checks.proofs.EntryLaws.{begins-at, begins-end}
 
 -- ---- ladders
-
--- two lists are the same where the second begins with the first element of the first one, and the rest is the same
-same-next : (v : ℕ) (vs ws : List ℕ) (i : ℕ) → same (v ∷ vs) (drop i ws) ≡ (begins (v ∷ []) (drop i ws) && same vs (drop (i + 1) ws))
-unfolding same begins
-same-next v vs ws i = by-order i (length ws) here (λ h. rw (drop-of-length-le ws h) refl)
-  where
-    here : i < length ws → same (v ∷ vs) (drop i ws) ≡ (begins (v ∷ []) (drop i ws) && same vs (drop (i + 1) ws))
-    here h = rw (at-cons ws i h) (ap (λ (b : Bool). b && same vs (drop (i + 1) ws)) (sym (and-true (eqb v (getD ws i 0)))))
-
--- one number begins what stands at a place where it is the number there
-pub begins-here : (v : ℕ) (ws : List ℕ) (i : ℕ) → i < length ws → eqb v (getD ws i 0) ≡ begins (v ∷ []) (drop i ws)
-unfolding begins
-begins-here v ws i h = sym (begins-at v [] ws i h ∙ and-true (eqb v (getD ws i 0)))
-
--- what begins with something at a place goes on there
-begins-within : (v : ℕ) (ws : List ℕ) (i : ℕ) → begins (v ∷ []) (drop i ws) ≡ true → i + 1 ≤ length ws
-begins-within v ws i e = by-order i (length ws) (λ h. omega arith) (λ h. absurd (false≢true (sym (begins-end v [] ws i h) ∙ e)))
 
 -- nothing is the same as what follows a place, where that is the end
 nothing-left : (ws : List ℕ) (i : ℕ) → i ≤ length ws → same [] (drop i ws) ≡ eqb i (length ws)
@@ -72,7 +55,7 @@ terminal-by c v commitment absent h = refl
 terminal-by c v commitment (otherLeaf output other) h = refl
 
 -- a lookup reaches its root where it holds
-reaches-holds : (c : Call) (root output commitment : Bytes) (l : Lookup) → output ≡ outputOf (c .outputs) (l .version)
+pub reaches-holds : (c : Call) (root output commitment : Bytes) (l : Lookup) → output ≡ outputOf (c .outputs) (l .version)
     → (isIncluded (l .result) ≡ true → commitment ≡ commitmentOf c (l .version)) → reaches output commitment root l ≡ lookupHolds c root l
 unfolding reaches lookupHolds
 reaches-holds c root output commitment l e h =
@@ -91,7 +74,8 @@ commitment-given target v (x ∷ xs) h a w =
     go : commitmentAsked (searched target) x ≡ true → (b : Bool) → eqb (x .version) v ≡ b
         → (any (eqb v) (stepVersions xs) ≡ true → given (commitmentIn (stepOf xs v)) ≡ true)
         → given (commitmentIn (stepOf (x ∷ xs) v)) ≡ true
-    go p true e f = rw (first-here (isOf v) x xs e) (commitment-was target x p ∙ lt-ltb (x .version) (target .version) (omega (arith, eqb-true (x .version) v e)))
+    go p true e f = rw (first-here (isOf v) x xs e)
+        (commitment-was target x p ∙ lt-ltb (x .version) (target .version) (omega (arith, eqb-true (x .version) v e)))
     go p false e f = rw (first-later (isOf v) x xs e) (f (later (or-holds (eqb v (x .version)) (any (eqb v) (stepVersions xs)) w)))
       where
         later : (eqb v (x .version) ≡ true) ⊎ (any (eqb v) (stepVersions xs) ≡ true) → any (eqb v) (stepVersions xs) ≡ true
@@ -115,7 +99,7 @@ module _ (c : Call) (outputs steps : Bytes) (places wanted : List ℕ) (t : ℕ)
   output-found v w r f e a =
       let (u, m, q) = any-at (eqb w) wanted a in
       let h : hasOutput (c .outputs) v ≡ true = ap (hasOutput (c .outputs)) (e ∙ eqb-true w u q) ∙ all-at (hasOutput (c .outputs)) wanted u (s .there) m in
-      ap (λ (x : FoundOutput). x .output) (f (c .outputs) (s .outputs)) ∙ found-output (c .outputs) v h ∙ ap (outputOf (c .outputs)) e
+      ap (λ (x : FoundOutput). x .output) (f (c .outputs) (s .outputs)) ∙ found-output (c .outputs) _ v h ∙ ap (outputOf (c .outputs)) e
 
   -- the commitment of a version, in a search
   commitment-by : (v : ℕ) → commitmentOf c v ≡ choose (eqb v t) (λ _. own) (λ _. stepCommitment (c .parts .steps) v)
@@ -150,7 +134,8 @@ module _ (line root outputs steps : Bytes) (places wanted : List ℕ) (t : ℕ) 
   passes-by commitment r f h c l s q w =
       let (u, k) = h c l s q w in
       f l q
-      ∙ reaches-holds c root (found .output) commitment l (output-found c outputs steps places wanted t own s v (l .version) found outputTold (versionTold l q) w) k
+      ∙ reaches-holds c root (found .output) commitment l
+      (output-found c outputs steps places wanted t own s v (l .version) found outputTold (versionTold l q) w) k
       ∙ tried-passes c outputs steps places wanted t own s root l (untried-by c outputs steps places wanted t own s l ∙ u)
 
   -- one that says that its version is not there is tried without a commitment
@@ -195,7 +180,7 @@ module _ (line root outputs steps : Bytes) (places wanted : List ℕ) (t : ℕ) 
 -- ---- the lookups of an entry, one after the other
 
 -- where all versions are wanted, those that are left are, and all lookups pass where those before them and those that are left do
-abbrev pub Passing : List Lookup → List Lookup → Bytes → Bytes → Bytes → List ℕ → List ℕ → ℕ → Bytes → Bool → Type 0
+abbrev Passing : List Lookup → List Lookup → Bytes → Bytes → Bytes → List ℕ → List ℕ → ℕ → Bytes → Bool → Type 0
 Passing whole left root outputs steps places wanted t own holds =
     (c : Call) → Sought c outputs steps places wanted t own → lookupsWanted wanted whole ≡ true
     → (lookupsWanted wanted left ≡ true) × (all (passes c root) whole ≡ (holds && all (passes c root) left))
@@ -217,7 +202,7 @@ fits-by t l = go (isIncluded (l .result)) (leb (l .version) t)
     go false false = refl
 
 -- what is known of a ladder from its lookups so far and those that are left
-pub record Laddered (wanted : List ℕ) (t : ℕ) (whole left : List Lookup) (count : ℕ) (matching fits early : Bool) : Type 0 where
+record Laddered (wanted : List ℕ) (t : ℕ) (whole left : List Lookup) (count : ℕ) (matching fits early : Bool) : Type 0 where
   matched : same (versionsOf whole) wanted ≡ (matching && same (versionsOf left) (drop count wanted))
   counted : matching ≡ true → count ≤ length wanted
   fitted : all (resultFits t) whole ≡ (fits && all (resultFits t) left)
@@ -244,7 +229,7 @@ module _ (wanted : List ℕ) (t : ℕ) where
         matched =
             h .matched ∙ ap (λ (x : Bool). m && x) (same-next (l .version) (versionsOf ls) wanted count)
             ∙ sym (and-assoc m b (same (versionsOf ls) (drop (count + 1) wanted)));
-        counted = λ q. begins-within (l .version) wanted count (and-holds m b q .1);
+        counted = λ q. omega (arith, begins-within (l .version) wanted count (and-holds m b q .1));
         fitted = h .fitted ∙ sym (and-assoc f (resultFits t l) (all (resultFits t) ls));
         ended = h .ended ∙ go ls;
       }
@@ -283,7 +268,8 @@ module _ (s : Bytes) (from : ℕ) (root outputs steps : Bytes) (places wanted : 
         laddered = laddered-start wanted t (looseIn (drop from s));
       }
 
-  module _ (at count : ℕ) (holds matching fits early : Bool) (h : LookupsJudged s from root outputs steps places wanted t own at count holds matching fits early) where
+  module _ (at count : ℕ) (holds matching fits early : Bool)
+      (h : LookupsJudged s from root outputs steps places wanted t own at count holds matching fits early) where
     -- the lookup at the place is judged too
     pub judged-next : (stop next v : ℕ) (there passed stands : Bool) → IsNextLookup s at (LookupAt stop next)
         → OfLookup (take (stop - at) (drop at s)) (λ (l : Lookup). l .version) v
@@ -342,13 +328,13 @@ module _ (s : Bytes) (from : ℕ) (root outputs steps : Bytes) (places wanted : 
 -- ---- the entries, one after the other
 
 -- where all versions are wanted, those that are left are, and the lookups of all entries pass where those of the entries before and of those that are left do
-abbrev pub Holding : List Entry → List Entry → Bytes → Bytes → List ℕ → List ℕ → ℕ → Bytes → Bool → Type 0
+abbrev Holding : List Entry → List Entry → Bytes → Bytes → List ℕ → List ℕ → ℕ → Bytes → Bool → Type 0
 Holding whole left outputs steps places wanted t own holds =
     (c : Call) → Sought c outputs steps places wanted t own → allWanted wanted whole ≡ true
     → (allWanted wanted left ≡ true) × (all (lookupsHold c) whole ≡ (holds && all (lookupsHold c) left))
 
 -- what is known of the ladders of entries, from whether a complete one was found, and the entries that are left
-pub record Found (wanted : List ℕ) (t : ℕ) (whole left : List Entry) (fits found : Bool) (position : ℕ) : Type 0 where
+record Found (wanted : List ℕ) (t : ℕ) (whole left : List Entry) (fits found : Bool) (position : ℕ) : Type 0 where
   judged : earlyThenComplete wanted t whole
       ≡ (fits && choose found (λ _. all (isComplete wanted t) left) (λ _. earlyThenComplete wanted t left))
   before : found ≡ true → (e : Entry) × (first (isComplete wanted t) whole ≡ some e) × (e .position ≡ position)
@@ -413,7 +399,8 @@ module _ (wanted : List ℕ) (t : ℕ) where
             judged =
                 judged-so
                 ∙ ap (λ (b : Bool). fits && b)
-                (choose-true (isComplete wanted t (withLookups e ls)) (λ _. all (isComplete wanted t) es) (λ _. endsEarly t ls && earlyThenComplete wanted t es) c);
+                (choose-true (isComplete wanted t (withLookups e ls)) (λ _. all (isComplete wanted t) es)
+                (λ _. endsEarly t ls && earlyThenComplete wanted t es) c);
             before = λ _. (withLookups e ls, h .later n ∙ first-here (isComplete wanted t) (withLookups e ls) es c, sym r);
             later = λ i. absurd (false≢true (sym i));
           }
@@ -438,7 +425,8 @@ module _ (wanted : List ℕ) (t : ℕ) where
           }
 
 -- what is known of the entries, once those before a place are judged
-pub record EntriesJudged (s outputs steps : Bytes) (places wanted : List ℕ) (t : ℕ) (own : Bytes) (at : ℕ) (holds fits found : Bool) (position : ℕ) : Type 0 where
+pub record EntriesJudged (s outputs steps : Bytes) (places wanted : List ℕ) (t : ℕ) (own : Bytes) (at : ℕ)
+    (holds fits found : Bool) (position : ℕ) : Type 0 where
   pub lines : EntryLines (drop at s)
   pub loose : looseIn (drop at s) ≡ []
   holding : Holding (entriesIn s) (entriesIn (drop at s)) outputs steps places wanted t own holds

@@ -44,7 +44,8 @@ module _ (l w : Bytes) where
   -- such a line is read from the place after its word on
   fields-after : (fs : List Field) (vs : Values fs) → readLine (wordForm w fs) l ≡ some vs → readFields fs (fieldsFrom l (length w + 1)) ≡ some vs
   fields-after fs vs e =
-      let (at, p, q) = bind-some (wordAt w l 0) (λ (n : ℕ). readAfter [] fs (fieldsFrom l n)) vs (sym (read-form l (wordForm w fs) ∙ read-word l w [] fs 0) ∙ e) in
+      let (at, p, q) = bind-some (wordAt w l 0) (λ (n : ℕ). readAfter [] fs (fieldsFrom l n)) vs
+      (sym (read-form l (wordForm w fs) ∙ read-word l w [] fs 0) ∙ e) in
       let (t, i) = provided-some _ (0 + length (fieldAt l 0) + 1) at (sym (word-here l w 0 (omega arith)) ∙ p) in
       let n : at ≡ length w + 1 = let k = ap length (same-true (fieldAt l 0) w t) in omega arith in
       ap (λ (n : ℕ). readFields fs (fieldsFrom l n)) (sym n) ∙ sym (words-over l fs at) ∙ q
@@ -59,7 +60,8 @@ module _ (l w : Bytes) where
       at : ℕ
       at = length w + 1
 
-      go : (x : ℕ × ℕ) → readAt (readField (number bound)) l at ≡ some x → withRest (number bound) fs (x .0) (readFields fs (fieldsFrom l (x .1))) ≡ some (v, vs)
+      go : (x : ℕ × ℕ) → readAt (readField (number bound)) l at ≡ some x
+          → withRest (number bound) fs (x .0) (readFields fs (fieldsFrom l (x .1))) ≡ some (v, vs)
           → readAt (readNumber bound) l at ≡ some (v, at + length (decimal v) + 1)
       go x p q =
           let (us, _, u) = bind-some (readFields fs (fieldsFrom l (x .1))) (λ (us : Values fs). some (x .0, us)) (v, vs) q in
@@ -192,7 +194,8 @@ step-field v c rest =
     let n : 5 + length (decimal v) + 1 ≡ length (ascii "step" ++ tab ∷ (decimal v ++ tab ∷ [])) = omega (arith, length-append (decimal v) (tab ∷ [])) in
     ap (λ (k : ℕ). drop k (stepText v c ++ rest)) n
     ∙ ap (drop (length (ascii "step" ++ tab ∷ (decimal v ++ tab ∷ []))))
-    (ap (λ (t : Bytes). ascii "step" ++ tab ∷ t) (append-assoc (decimal v) (tab ∷ hexField c) rest ∙ sym (append-assoc (decimal v) (tab ∷ []) (hexField c ++ rest))))
+    (ap (λ (t : Bytes). ascii "step" ++ tab ∷ t)
+    (append-assoc (decimal v) (tab ∷ hexField c) rest ∙ sym (append-assoc (decimal v) (tab ∷ []) (hexField c ++ rest))))
     ∙ drop-append-seam (ascii "step" ++ tab ∷ (decimal v ++ tab ∷ [])) (hexField c ++ rest)
 
 -- a commitment has the length of a hash
@@ -240,7 +243,8 @@ module _ (s : Bytes) (at : ℕ) (a : StepLines (drop at s)) where
         let n : field ≡ 5 + length (decimal (x .version)) + 1 = ap (λ (y : ℕ × ℕ). y .1) p in
         let t : l ≡ stepText (x .version) c = step-text l (x .version) c w in
         let d : drop (at + field) s ≡ hexField c ++ newline ∷ drop next s =
-        sym (drop-drop field at s) ∙ ap₂ drop n (h .text ∙ ap (λ (u : Bytes). u ++ newline ∷ drop next s) t) ∙ step-field (x .version) c (newline ∷ drop next s) in
+        sym (drop-drop field at s) ∙ ap₂ drop n (h .text ∙ ap (λ (u : Bytes). u ++ newline ∷ drop next s) t)
+        ∙ step-field (x .version) c (newline ∷ drop next s) in
         let m : length l ≡ field + length (hexField c) = ap length t ∙ omega (arith, length-append (decimal (x .version)) (tab ∷ hexField c)) in
         let z = line-length s at stop next h in
         let hf = h .forward in
@@ -338,8 +342,14 @@ module _ (s : Bytes) (at : ℕ) (a : EntryLines (drop at s)) where
             let z = line-length s at stop next h in
             let hf = h .forward in
             let hw = h .within in
-            let hn = h .nextIs in
-            (x, entry-grouped s at next x v .1, ap entryIn (sym (drop-drop entryWord at s) ∙ ap (drop entryWord) (h .text)) ∙ p, f .others, omega arith, omega arith)
+            let hn = h .nextIs in (
+              x,
+              entry-grouped s at next x v .1,
+              ap entryIn (sym (drop-drop entryWord at s) ∙ ap (drop entryWord) (h .text)) ∙ p,
+              f .others,
+              omega arith,
+              omega arith,
+            )
 
     -- where the byte at a place does not begin an entry line, the line is that of the next lookup
     pub lookup-next : (getD s at 0 ≡ 101 → ⊥) → IsNextLookup s at (LookupAt stop next)

@@ -48,17 +48,17 @@ secondLetter absent = 111
 secondLetter (otherLeaf output commitment) = 108
 
 -- two letters, a tab, a version, a tab and more
-abbrev pub lettered : ℕ → ℕ → ℕ → Bytes → Bytes
+abbrev lettered : ℕ → ℕ → ℕ → Bytes → Bytes
 lettered a b version rest = a ∷ b ∷ tab ∷ (decimal version ++ tab ∷ rest)
 
 -- what follows the version, from the result and the siblings joined
-abbrev pub afterVersion : Result → Bytes → Bytes
+abbrev afterVersion : Result → Bytes → Bytes
 afterVersion included s = hexField s
 afterVersion absent s = hexField s
 afterVersion (otherLeaf output commitment) s = hexField output ++ tab ∷ (hexField commitment ++ tab ∷ hexField s)
 
 -- another leaf has values
-abbrev pub HasValues : Result → Type 0
+abbrev HasValues : Result → Type 0
 HasValues included = Unit {0}
 HasValues absent = Unit {0}
 HasValues (otherLeaf output commitment) = IsValue output × IsValue commitment
@@ -125,7 +125,7 @@ abbrev pub versionPlace : ℕ
 versionPlace = 3
 
 -- the place after it and the tab that follows it
-abbrev pub afterPlace : ℕ → ℕ
+abbrev afterPlace : ℕ → ℕ
 afterPlace version = versionPlace + length (decimal version) + 1
 
 module _ (a b version : ℕ) (rest : Bytes) where
@@ -134,7 +134,8 @@ module _ (a b version : ℕ) (rest : Bytes) where
   unfolding fieldAt
   front-version h =
       let k : Lacks tab (decimal version) = all-lacks isPlain tab (decimal version) refl (decimal-plain version) in
-      read-some (readNumber versionBound) (lettered a b version rest) versionPlace (decimal version) (sym (before-lacks tab (decimal version) rest k)) (omega arith)
+      read-some (readNumber versionBound) (lettered a b version rest) versionPlace (decimal version)
+      (sym (before-lacks tab (decimal version) rest k)) (omega arith)
       version (read-decimal versionBound version h)
 
   -- what stands from there on is what follows it
@@ -218,7 +219,8 @@ module _ (output root : Bytes) (t : Terminal) (s : Bytes) where
   leads-not e = rw (length-siblings s, e) refl
 
   -- what fits leads to the root, if that is the root of the lookup
-  pub leads-same : terminalFits output t (length s / valueDigits) ≡ true → (v : Bytes) → v ≡ lookupRoot output t (valuesIn s) → same v root ≡ leadsTo output t root s
+  pub leads-same : terminalFits output t (length s / valueDigits) ≡ true → (v : Bytes) → v ≡ lookupRoot output t (valuesIn s)
+      → same v root ≡ leadsTo output t root s
   unfolding leadsTo
   leads-same e v i = rw (length-siblings s, e, i) refl
 

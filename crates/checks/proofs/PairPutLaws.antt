@@ -53,7 +53,8 @@ put-again : (x : MapEntry) (xs : List MapEntry) → rising (positions (x ∷ xs)
 unfolding rising
 put-again x [] h = put-none (x .position) (x .version)
 put-again x (y ∷ ys) h =
-    put-below (x .position) (x .version) y ys (ltb-true (x .position) (y .position) (and-holds (ltb (x .position) (y .position)) (rising (positions (y ∷ ys))) h .0))
+    put-below (x .position) (x .version) y ys
+    (ltb-true (x .position) (y .position) (and-holds (ltb (x .position) (y .position)) (rising (positions (y ∷ ys))) h .0))
 
 -- ---- the positions or the versions of pairs, with zeros after them
 
@@ -108,7 +109,7 @@ pub record Carrying (whole : List MapEntry) (count : ℕ) (ps vs : List ℕ) (p 
   put : done ++ putVersion p v left ≡ whole
 
 -- so many elements stand before the zeros
-filled : (count : ℕ) (s : List ℕ) → count ≤ mapLimit → s ≡ padded mapLimit (take count s) → length (take count s) ≡ count
+pub filled : (count : ℕ) (s : List ℕ) → count ≤ mapLimit → s ≡ padded mapLimit (take count s) → length (take count s) ≡ count
 filled count s h e =
     let l : length s ≡ mapLimit = ap length e ∙ length-padded mapLimit (take count s) (omega (arith, length-take count s)) in
     length-take-le count s (omega arith)

@@ -23,7 +23,7 @@ use Rattle.rules.specs.Refusals.{commitmentAsked, stepCommitment}
 use Rattle.inputs.specs.declared.vrf_outputs.FoundOutput.{FoundOutput}
 use Rattle.inputs.specs.VrfOutputs.{IsRecordOf}
 use Rattle.inputs.specs.Response.{stepsIn}
-use Rattle.inputs.proofs.VrfOutputLaws.{found-has}
+use Rattle.inputs.proofs.VrfOutputLaws.{found-is}
 use Rattle.checks.specs.declared.sections.NextStep.the-variants.{Step as StepAt}
 use Rattle.checks.specs.Sections.{StepLines, CommitmentAt, IsNextStep}
 use Rattle.checks.specs.Steps.{versionsOf, CommitmentsAt, AreStepsAsked, AreCommitmentsAt, IsStepCommitment, AreOutputsThere}
@@ -80,7 +80,7 @@ pub record StepsRead (s : Bytes) (wanted : List ℕ) (version : ℕ) (places : L
   pub lines : StepLines (drop at s)
 
 -- what is answered of the steps: whether they are as asked, and the places
-abbrev pub Answered : Bytes → List ℕ → ℕ → Bool → List ℕ → Type 0
+abbrev Answered : Bytes → List ℕ → ℕ → Bool → List ℕ → Type 0
 Answered s wanted version asked places = AreStepsAsked s wanted version asked × AreCommitmentsAt s (length wanted) places asked
 
 -- steps are not as asked where it is absurd that they are
@@ -225,7 +225,7 @@ abbrev pub commitmentIn : Option Step → Option Bytes
 commitmentIn o = bind o (λ x. x .commitment)
 
 -- a commitment that stands at a place is the value there
-value-there : (s : Bytes) (p : ℕ) (o : Option Bytes) → given o ≡ true → CommitmentAt s p o → valueIn (take valueDigits (drop p s)) ≡ Option·getD o []
+pub value-there : (s : Bytes) (p : ℕ) (o : Option Bytes) → given o ≡ true → CommitmentAt s p o → valueIn (take valueDigits (drop p s)) ≡ Option·getD o []
 unfolding given
 value-there s p none g h = absurd (false≢true g)
 value-there s p (some c) g h = h
@@ -283,18 +283,18 @@ Having s wanted i = (xs : List VrfOutput) → readOutputs s ≡ some xs → all 
 
 module _ (s : Bytes) (wanted : List ℕ) (i : ℕ) (r : FoundOutput) (h : Having s wanted i) (l : i < length wanted) (f : IsRecordOf s (getD wanted i 0) r) where
   -- whether an output was found tells whether there is one
-  found-is : (xs : List VrfOutput) → readOutputs s ≡ some xs → hasOutput xs (getD wanted i 0) ≡ r .found
-  found-is xs e = sym (found-has xs (getD wanted i 0)) ∙ ap (λ (r : FoundOutput). r .found) (sym (f xs e))
+  has : (xs : List VrfOutput) → readOutputs s ≡ some xs → hasOutput xs (getD wanted i 0) ≡ r .found
+  has = found-is s (getD wanted i 0) r f
 
   -- where one has an output, those after it decide
   pub outputs-next : r .found ≡ true → Having s wanted (i + 1)
   unfolding all
-  outputs-next t xs e = sym (ap (all (hasOutput xs)) (at-cons wanted i l) ∙ rw (found-is xs e ∙ t) refl) ∙ h xs e
+  outputs-next t xs e = sym (ap (all (hasOutput xs)) (at-cons wanted i l) ∙ rw (has xs e ∙ t) refl) ∙ h xs e
 
   -- where one has none, not all have
   pub outputs-missing : r .found ≡ false → AreOutputsThere s wanted false
   unfolding all
-  outputs-missing t xs e = sym (ap (all (hasOutput xs)) (at-cons wanted i l) ∙ rw (found-is xs e ∙ t) refl) ∙ h xs e
+  outputs-missing t xs e = sym (ap (all (hasOutput xs)) (at-cons wanted i l) ∙ rw (has xs e ∙ t) refl) ∙ h xs e
 
 -- after the last one all have
 pub outputs-all : (s : Bytes) (wanted : List ℕ) (i : ℕ) → Having s wanted i → length wanted ≤ i → AreOutputsThere s wanted true

@@ -2,14 +2,13 @@
 use mathlib.Core.Path.{_≡_, refl, sym, ap, _∙_, subst}
 use mathlib.Core.Bool.{Bool, true, false, _&&_, not}
 use mathlib.Core.List.{List, [], _∷_, map}
-use mathlib.Core.Option.{some}
 use Prim.Native.Nat.{ℕ, _<_}
 use native.Mathlib.Omega.{arith}
 use borrow.Author.Tests.{not-false}
 use Rattle.lists.specs.Lists.{Bytes, all, every, lastOr}
 use Rattle.lines.specs.Readings.{partOf}
 use Rattle.tree.specs.Ladder.{ladder}
-use Rattle.rules.specs.VrfOutputs.{readOutputs, hasOutput}
+use Rattle.rules.specs.VrfOutputs.{hasOutput}
 use Rattle.rules.specs.Response.{Entry, Parts}
 use Rattle.rules.specs.Search.{earlyThenComplete}
 use Rattle.rules.specs.Commitment.{commitmentTo}
@@ -21,7 +20,8 @@ use Rattle.inputs.specs.Response.{stepsIn, entriesIn, partsIn}
 use Rattle.checks.specs.Steps.{CommitmentsAt}
 use Rattle.checks.specs.Entries.{EntriesStand, AreTimesFit, IsLastTime, nearClock}
 use Rattle.checks.specs.Lookups.{allWanted, AllHold}
-use Rattle.checks.specs.Search.{numberTried, rules11, stepsText, entriesText, IsShownNumber, IsShownTime, IsShownPosition, IsJudgedRight}
+use Rattle.checks.specs.Calls.{numberTried, rules11, stepsText, entriesText, IsGiven}
+use Rattle.checks.specs.Search.{IsShownNumber, IsShownTime, IsShownPosition, IsJudgedRight, Shows}
 use Rattle.checks.specs.declared.shown.Shown.{Shown}
 use Rattle.checks.proofs.TrialLaws.{number-first, number-next, number-none}
 use Rattle.checks.proofs.TargetLaws.{targetIn, call-found}
@@ -64,6 +64,28 @@ every-four true true false e = refl
 every-four true false d e = refl
 every-four false b d e = refl
 
+module _ {c : Call} {text : Bytes} {r : Response} {size time clock ahead behind : ℕ} {outputs : Bytes}
+    (g : IsGiven c text r size time clock ahead behind outputs) {s : Bytes} (isEntries : s ≡ entriesText text r) where
+  -- the entries of a call are those of its section
+  pub entries-given : c .parts .entries ≡ entriesIn s
+  unfolding partsIn
+  entries-given = ap (λ (p : Parts). p .entries) (g .parts) ∙ ap entriesIn (sym isEntries)
+
+  -- whether 11 applies to the call, from what is found at the places of its entries
+  pub times-known : (places : List ℕ) (last : ℕ) (fit : Bool) → EntriesStand (entriesText text r) places (entriesIn (entriesText text r))
+      → IsLastTime s places last → AreTimesFit s places size time fit → timesWrong c ≡ not (fit && nearClock last clock ahead behind)
+  unfolding timesWrong lastTime
+  times-known places last fit stand isLast isFit =
+      let here : EntriesStand s places (c .parts .entries) = rw (entries-given, isEntries) stand in
+      ap not (every-four _ _ _ _)
+      ∙ rw (isFit (c .state) (c .parts .entries) (g .size) (g .time) here, isLast (c .parts .entries) here, g .clock, g .ahead, g .behind) refl
+
+-- the time of the last entry of a section is told
+pub last-shown : (text : Bytes) (r : Response) (s : Bytes) (places : List ℕ) (last : ℕ) → s ≡ entriesText text r → IsLastTime s places last
+    → EntriesStand (entriesText text r) places (entriesIn (entriesText text r))
+    → last ≡ lastOr 0 (map (λ (e : Entry). e .time) (entriesIn (entriesText text r)))
+last-shown text r s places last isEntries isLast stand = isLast (entriesIn (entriesText text r)) (rw isEntries stand)
+
 -- what a search is tried with
 pub record ShownGiven : Type 0 where
   pub text : Bytes
@@ -94,38 +116,16 @@ abbrev entriesOf : ShownGiven → Bytes
 entriesOf x = entriesText (x .text) (x .response)
 
 -- a call is that search, and shows what is asked
-record Shows (x : ShownGiven) (c : Call) : Type 0 where
-  parts : c .parts ≡ partsIn (x .text) (x .response)
-  label : c .parts .label ≡ x .label
-  size : c .state .size ≡ x .size
-  time : c .state .time ≡ x .time
-  clock : c .inputs .clock ≡ x .clock
-  ahead : c .configuration .maxAhead ≡ x .ahead
-  behind : c .configuration .maxBehind ≡ x .behind
-  outputs : readOutputs (x .outputs) ≡ some (c .outputs)
+record Showing (x : ShownGiven) (c : Call) : Type 0 where
+  shows : Shows c (x .text) (x .response) (x .label) (x .size) (x .time) (x .clock) (x .ahead) (x .behind) (x .outputs)
   asked : notAsAsked c ≡ false
   there : outputMissing c ≡ false
   commitmentsStand : CommitmentsAt (stepsOf x) (x .commitments) (stepsIn (stepsOf x))
   entriesStand : EntriesStand (entriesOf x) (x .places) (entriesIn (entriesOf x))
 
 -- a number that is right for each such call is the right one
-of-each : (x : ShownGiven) (k : ℕ) → ((c : Call) → Shows x c → k ≡ numberTried rules11 c) → IsNumber x k
-of-each x k h c e l m t i a b o n j g s =
-    h c
-    (record {
-      parts = e;
-      label = l;
-      size = m;
-      time = t;
-      clock = i;
-      ahead = a;
-      behind = b;
-      outputs = o;
-      asked = n;
-      there = j;
-      commitmentsStand = g;
-      entriesStand = s;
-    })
+of-each : (x : ShownGiven) (k : ℕ) → ((c : Call) → Showing x c → k ≡ numberTried rules11 c) → IsNumber x k
+of-each x k h c g n j q s = h c (record { shows = g; asked = n; there = j; commitmentsStand = q; entriesStand = s })
 
 -- a refusal tells neither a time nor a position
 pub refused-shown : (x : ShownGiven) (s : Shown) (k : ℕ) → s .number ≡ k → 0 < k → IsNumber x k
@@ -133,21 +133,11 @@ pub refused-shown : (x : ShownGiven) (s : Shown) (k : ℕ) → s .number ≡ k �
 refused-shown x s k e p h =
     (subst (IsNumber x) (sym e) h, ((λ z _. absurd (omega (arith, e, p, z))), λ z. absurd (omega (arith, e, p, z))))
 
--- the time of the last entry is told
-pub last-shown : (x : ShownGiven) (s : Bytes) (last : ℕ) → s ≡ entriesOf x → IsLastTime s (x .places) last
-    → EntriesStand (entriesOf x) (x .places) (entriesIn (entriesOf x)) → last ≡ lastOr 0 (map (λ (e : Entry). e .time) (entriesIn (entriesOf x)))
-last-shown x s last isEntries isLast stand = isLast (entriesIn (entriesOf x)) (rw isEntries stand)
-
 module _ (x : ShownGiven) (s : Bytes) (isEntries : s ≡ entriesOf x) (last : ℕ) (isLast : IsLastTime s (x .places) last)
     (fit : Bool) (isFit : AreTimesFit s (x .places) (x .size) (x .time) fit) where
   -- whether 11 applies
-  eleven-known : (c : Call) → Shows x c → timesWrong c ≡ not (fit && nearClock last (x .clock) (x .ahead) (x .behind))
-  unfolding timesWrong lastTime partsIn
-  eleven-known c h =
-      let e : entriesIn (entriesOf x) ≡ c .parts .entries = ap (λ (p : Parts). p .entries) (sym (h .parts)) in
-      let stand : EntriesStand s (x .places) (c .parts .entries) = rw (isEntries, ← e) (h .entriesStand) in
-      ap not (every-four _ _ _ _)
-      ∙ rw (isFit (c .state) (c .parts .entries) (h .size) (h .time) stand, isLast (c .parts .entries) stand, h .clock, h .ahead, h .behind) refl
+  eleven-known : (c : Call) → Showing x c → timesWrong c ≡ not (fit && nearClock last (x .clock) (x .ahead) (x .behind))
+  eleven-known c h = times-known (h .shows .given) isEntries (x .places) last fit (h .entriesStand) isLast isFit
 
   -- the times do not fit
   pub times-refused : fit ≡ false → IsNumber x 11
@@ -161,37 +151,39 @@ module _ (x : ShownGiven) (s : Bytes) (isEntries : s ≡ entriesOf x) (last : �
     module _ (timely : near ≡ true) (holds : Bool)
         (isHeld : IsJudgedRight (x .text) (x .response) (x .label) (x .outputs) (x .commitments) (x .wanted) holds) where
       -- 11 does not apply
-      eleven-not : (c : Call) → Shows x c → timesWrong c ≡ false
+      eleven-not : (c : Call) → Showing x c → timesWrong c ≡ false
       eleven-not c h = eleven-known c h ∙ rw (isRight, ← isNear, timely) refl
 
       -- whether 12 does
-      twelve-known : (c : Call) → Shows x c → lookupFails c ≡ not holds
+      twelve-known : (c : Call) → Showing x c → lookupFails c ≡ not holds
       unfolding lookupFails outputMissing
       twelve-known c h =
           let t = targetIn (x .text) (x .response) in
-          let found = call-found (x .text) (x .response) (x .isSearch) c (h .parts) in
+          let found = call-found (x .text) (x .response) (x .isSearch) c (h .shows .given .parts) in
           let asked = as-asked c t found (h .asked) in
           let versions = asked .steps ∙ sym (x .isLadder) in
           let there : all (hasOutput (c .outputs)) (x .wanted) ≡ true = sym (ap (all (hasOutput (c .outputs))) versions) ∙ not-false _ (h .there) in
           let looked : allWanted (x .wanted) (c .parts .entries) ≡ true = rw (x .isLadder) (shown-wanted c t found (h .asked)) in
-          ap not (sym (isHeld c (h .parts) (h .label) (h .outputs) versions (asked .commitments) there looked (h .commitmentsStand)))
+          let g = h .shows .given in
+          ap not (sym (isHeld c (g .parts) (h .shows .label) (g .outputs) versions (asked .commitments) there looked (h .commitmentsStand)))
 
       -- a lookup fails
       pub lookups-refused : holds ≡ false → IsNumber x 12
       lookups-refused f = of-each x 12 λ c h.
           number-first 12 lookupFails _ c (twelve-known c h ∙ ap not f) ∙ number-next 11 timesWrong _ c (eleven-not c h)
 
-      module _ (held : holds ≡ true) (fits : Bool) (isFits : fits ≡ earlyThenComplete (x .wanted) (x .response .target .version) (entriesIn (entriesOf x))) where
+      module _ (held : holds ≡ true) (fits : Bool)
+          (isFits : fits ≡ earlyThenComplete (x .wanted) (x .response .target .version) (entriesIn (entriesOf x))) where
         -- 12 does not apply
-        twelve-not : (c : Call) → Shows x c → lookupFails c ≡ false
+        twelve-not : (c : Call) → Showing x c → lookupFails c ≡ false
         twelve-not c h = twelve-known c h ∙ ap not held
 
         -- whether 13 does
-        thirteen-known : (c : Call) → Shows x c → resultsWrong c ≡ not fits
-        unfolding resultsWrong resultsWrongIn partsIn
+        thirteen-known : (c : Call) → Showing x c → resultsWrong c ≡ not fits
+        unfolding resultsWrong resultsWrongIn
         thirteen-known c h =
-            let e : c .parts .entries ≡ entriesIn (entriesOf x) = ap (λ (p : Parts). p .entries) (h .parts) in
-            rw (call-found (x .text) (x .response) (x .isSearch) c (h .parts), e, ← x .isLadder, isFits) refl
+            let g = h .shows .given in
+            rw (call-found (x .text) (x .response) (x .isSearch) c (g .parts), entries-given g refl, ← x .isLadder, isFits) refl
 
         -- a ladder is neither complete nor ends early as it should
         pub results-refused : fits ≡ false → IsNumber x 13

@@ -1,6 +1,6 @@
 -- Laws of the times of entries that stand at some places of a text (specs/Entries.antt).
 use mathlib.Core.Path.{_≡_, refl, sym, _∙_, ap, ap₂}
-use mathlib.Core.Bool.{Bool, true, false, _&&_}
+use mathlib.Core.Bool.{Bool, true, false, _&&_, and-false}
 use mathlib.Core.List.{List, [], _∷_, map, map-map}
 use Prim.Native.Nat.{ℕ, suc, _+_, _-_, _≤_, _<_}
 use native.Mathlib.Omega.{arith}
@@ -42,11 +42,7 @@ module _ (size time latest : ℕ) (e : LogEntry) (es : List LogEntry) where
   -- nor does one that does not fit the kept size and time
   fit-not : fitsKept (e .position) (e .time) size time ≡ false → fitAfter size time latest (e ∷ es) ≡ false
   unfolding fitAfter unfalling all
-  fit-not k = rw k (false-after (leb latest (e .time) && unfalling (e .time ∷ map (λ (e : LogEntry). e .time) es)))
-    where
-      false-after : (t : Bool) → (t && false) ≡ false
-      false-after true = refl
-      false-after false = refl
+  fit-not k = rw k (and-false (leb latest (e .time) && unfalling (e .time ∷ map (λ (e : LogEntry). e .time) es)))
 
 -- where there is no entry, all fit
 fit-none : (s : Bytes) (size time latest : ℕ) → fitAt s size time latest [] ≡ true

@@ -34,7 +34,8 @@ module _ (s a t : List ℕ) where
   -- one that begins with it
   same-front : same (take (length a) s) a ≡ true → same (drop (length a) s) t ≡ same s (a ++ t)
   same-front h =
-      let e : a ++ drop (length a) s ≡ s = ap (λ (x : List ℕ). x ++ drop (length a) s) (sym (same-true (take (length a) s) a h)) ∙ take-append-drop (length a) s in
+      let e : a ++ drop (length a) s ≡ s = ap (λ (x : List ℕ). x ++ drop (length a) s) (sym (same-true (take (length a) s) a h))
+      ∙ take-append-drop (length a) s in
       sym (same-behind a (drop (length a) s) t) ∙ ap (λ (x : List ℕ). same x (a ++ t)) e
 
 -- ---- a text against a tree head

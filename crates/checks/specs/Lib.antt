@@ -3,4 +3,7 @@ pub mod Steps
 pub mod Entries
 pub mod Lookups
 pub mod Map
+pub mod Calls
 pub mod Search
+pub mod MonitoredVersions
+pub mod Monitoring

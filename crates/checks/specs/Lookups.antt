@@ -16,8 +16,7 @@ use Rattle.rules.specs.Commitment.{commitmentTo}
 use Rattle.rules.specs.Search.{resultFits, isComplete}
 use Rattle.rules.specs.Refusals.{Call, commitmentAsked, untried, lookupHolds, lookupsHold}
 use Rattle.checks.specs.Sections.{readLookup}
-use Rattle.checks.specs.Steps.{CommitmentsAt}
-use Rattle.checks.specs.Steps.{versionsOf as stepVersions}
+use Rattle.checks.specs.Steps.{CommitmentsAt, versionsOf as stepVersions}
 use Rattle.checks.specs.Entries.{versionsOf}
 
 -- ---- one lookup

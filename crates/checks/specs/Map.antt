@@ -2,14 +2,14 @@
 use mathlib.Core.Path.{_≡_}
 use mathlib.Core.Bool.{true}
 use mathlib.Core.List.{List}
+use mathlib.Core.Option.{Option·elim}
 use Prim.Native.Nat.{ℕ, _≤_}
-use lib.Dec.{leb}
+use lib.Dec.{eqb, leb}
 use lib.ListN.{length, take}
-use Rattle.lists.specs.Lists.{rising}
+use Rattle.lists.specs.Lists.{first, rising}
 use Rattle.hash.specs.Bytes.{padded}
 use Rattle.rules.specs.Limits.{mapLimit}
-use Rattle.rules.specs.State.{MapEntry}
-use Rattle.rules.specs.State.{positions as positionsOf, versions as versionsOf}
+use Rattle.rules.specs.State.{MapEntry, positions as positionsOf, versions as versionsOf}
 use Rattle.rules.specs.Search.{putEntry}
 use Rattle.inputs.specs.State.{mapOf}
 use Rattle.checks.specs.declared.map.Pairs.{Pairs}
@@ -40,3 +40,7 @@ abbrev pub HasPair : List ℕ → List ℕ → ℕ → ℕ → ℕ → Pairs →
 HasPair ps vs count p v r =
     (r .fits ≡ leb (length (putVersion p v (pairsOf ps vs count))) mapLimit)
     × (r .fits ≡ true → Holds (putVersion p v (pairsOf ps vs count)) r)
+
+-- the version at a position, 0 where no pair stands there
+unfoldable pub versionAt : ℕ → List MapEntry → ℕ
+versionAt p es = Option·elim (first (λ (e : MapEntry). eqb (e .position) p) es) 0 (λ e. e .version)

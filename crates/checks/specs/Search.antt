@@ -1,31 +1,32 @@
--- A search as the library calls it (paper 01, Sixteen numbers): how its arguments, its answer and the bytes lent stand for those of the rules.
+-- A search as the library makes it (paper 01, Sixteen numbers): how its answer stands for that of the rules.
 use mathlib.Core.Path.{_≡_}
-use mathlib.Core.Bool.{Bool, true, false, not}
-use mathlib.Core.List.{List, [], _∷_, _++_, map, flatten}
+use mathlib.Core.Bool.{Bool, true, false}
+use mathlib.Core.List.{List, [], _++_, map, flatten}
 use mathlib.Core.Option.{some, Option·getD}
-use Prim.Native.Nat.{ℕ}
+use Prim.Native.Nat.{ℕ, _≤_, _<_}
 use lib.Count.{ones}
-use lib.Dec.{eqb, leb, ltb}
 use lib.ListN.{length, take}
-use Rattle.lists.specs.Lists.{Bytes, all, every, first, lastOr, rising, runs}
+use Rattle.lists.specs.Lists.{Bytes, all, first, lastOr, runs}
 use Rattle.hash.specs.Bytes.{padded}
 use Rattle.tree.specs.Ladder.{ladder}
 use Rattle.tree.specs.LogTree.{fullValues}
 use Rattle.lines.specs.Hex.{readHex}
 use Rattle.lines.specs.Readings.{partOf}
-use Rattle.rules.specs.Limits.{responseLimit, configurationLimit, signedTextLimit, vrfOutputsLimit, identifierLength, hashLength, valuesBlockLength}
+use Rattle.rules.specs.Limits.{responseLimit, treeSizeLimit, greatestVersion, labelLimit, openingLength, valueLimit, hashLength, valuesBlockLength}
 use Rattle.rules.specs.VrfOutputs.{readOutputs, hasOutput}
-use Rattle.rules.specs.State.{versions}
-use Rattle.rules.specs.Response.{search, Target, searched, Entry, stepVersions, entryPositions}
+use Rattle.rules.specs.Response.{search, Target, searched, Entry, stepVersions}
 use Rattle.rules.specs.Search.{isComplete}
-use Rattle.rules.specs.Refusals.{Call, Judgement, refused, passed, Rule, rule, tried, known, logWalk, lastTime, commitmentAsked, lookupsHold}
-use Rattle.rules.specs.Refusals.{foreign, sizeWrong, targetWrong, notAsAsked, outputMissing, timesWrong, lookupFails, resultsWrong, historyDiffers, headDiffers, roomMissing, checks, lastChecks}
-use Rattle.rules.specs.Calls.{Arguments, libraryInputs, numberOf, nextState, valueOf, outputAfter}
+use Rattle.rules.specs.Refusals.{Call, Judgement, tried, known, logWalk, lastTime, commitmentAsked, lookupsHold, notAsAsked, outputMissing, checks, lastChecks}
+use Rattle.rules.specs.Calls.{numberOf, valueOf, outputAfter}
 use Rattle.inputs.specs.declared.state.State.{State as StateBlock}
-use Rattle.inputs.specs.State.{blockOf, stateOf}
+use Rattle.inputs.specs.State.{stateOf}
+use Rattle.inputs.specs.ResponseLines.{spelled}
+use Rattle.inputs.specs.declared.response_lines.Kind.the-variants.{Search}
 use Rattle.inputs.specs.declared.response.Response.{Response}
-use Rattle.inputs.specs.Response.{stepsIn, entriesIn, partsIn}
+use Rattle.inputs.specs.declared.response.ReadResponse.the-variants.{Read}
+use Rattle.inputs.specs.Response.{stepsIn, entriesIn, partsIn, Places}
 use Rattle.checks.specs.declared.search.SearchAnswer.{SearchAnswer}
+use Rattle.checks.specs.Calls.{blockAfter, numberTried, stepsText, entriesText, rules9, rules11, rules9to13, rules9to15, rules16, IsCall, IsGiven}
 use Rattle.checks.specs.Steps.{CommitmentsAt}
 use Rattle.checks.specs.Entries.{EntriesStand}
 use Rattle.checks.specs.Lookups.{allWanted}
@@ -34,73 +35,29 @@ use Rattle.checks.specs.declared.shown.Shown.{Shown}
 use Rattle.checks.specs.declared.search.Sections.{Sections}
 use Rattle.checks.specs.declared.search.Checked.{Checked}
 
--- what a search is given besides the state, the signed text and the output bytes
-unfoldable pub argumentsOf : Bytes → Bytes → Bytes → ℕ → Bytes → Arguments
-argumentsOf response configuration identifier clock outputs =
-    record { response = response; configuration = configuration; identifier = identifier; clock = clock; vrfOutputs = outputs }
-
--- the struct of the state afterwards: a refusal returns it as given
-unfoldable pub blockAfter : StateBlock → Judgement → StateBlock
-blockAfter b (refused k) = b
-blockAfter b (passed c) = blockOf (nextState c)
-
 -- the number, the state, and how many bytes the value fills
 unfoldable pub searchAnswer : StateBlock → Judgement → SearchAnswer
 searchAnswer b j = record { number = numberOf j; state = blockAfter b j; length = length (Option·getD (valueOf j) []) }
 
 -- ==== for contracts of private functions alone
 
--- 1
-abbrev pub areLengthsFit : Bytes → Bytes → Bytes → Bytes → Bytes → Bool
-areLengthsFit response configuration signed outputs identifier =
-    every
-    (leb (length response) responseLimit
-    ∷ leb (length configuration) configurationLimit
-    ∷ leb (length signed) signedTextLimit
-    ∷ leb (length outputs) vrfOutputsLimit
-    ∷ eqb (length identifier) identifierLength
-    ∷ [])
-
--- the number of the first rule of some that applies, or 0
-abbrev pub numberTried : List Rule → Call → ℕ
-numberTried rs c = numberOf (tried rs c)
-
--- the rules, by the functions that try them
-abbrev pub rules6 : List Rule
-rules6 = rule 6 foreign ∷ rule 7 sizeWrong ∷ rule 8 targetWrong ∷ []
-
-abbrev pub rules9 : List Rule
-rules9 = rule 9 notAsAsked ∷ rule 10 outputMissing ∷ []
-
-abbrev pub rules11 : List Rule
-rules11 = rule 11 timesWrong ∷ rule 12 lookupFails ∷ rule 13 resultsWrong ∷ []
-
-abbrev pub rules14 : List Rule
-rules14 = rule 14 historyDiffers ∷ rule 15 headDiffers ∷ []
-
--- 6
-abbrev pub IsOwn : Bytes → Response → Bytes → Bytes → Bool → Type 0
-IsOwn text r identifier label b =
-    (c : Call) → c .parts ≡ partsIn text r → c .inputs .kind ≡ some search → c .inputs .identifier ≡ identifier → c .state .label ≡ label
-    → b ≡ not (foreign c)
-
--- 6 to 8
-abbrev pub IsFirstNumber : Bytes → Response → Bytes → Bytes → ℕ → List ℕ → ℕ → Type 0
-IsFirstNumber text r identifier label size map n =
-    (c : Call) → c .parts ≡ partsIn text r → c .inputs .kind ≡ some search → c .inputs .identifier ≡ identifier → c .state .label ≡ label
-    → c .state .size ≡ size → versions (c .state .monitoringMap) ≡ map → n ≡ numberTried rules6 c
+-- a search's response that was read, to which none of 1 to 8 applies, for a state's size and label
+pub record Searchable (text : Bytes) (r : Response) (size : ℕ) (label′ : Bytes) : Type 0 where
+  pub places : Places text (Read r)
+  pub kind : r .kind ≡ Search
+  pub short : length text ≤ responseLimit
+  pub nonempty : 0 < r .size
+  pub largest : r .size ≤ treeSizeLimit
+  pub grown : size ≤ r .size
+  pub version : r .target .version ≤ greatestVersion
+  pub label : length label′ ≤ labelLimit
+  pub opening : length (spelled (partOf text (r .target .opening))) ≡ openingLength
+  pub value : length (spelled (partOf text (r .target .value))) ≤ valueLimit
 
 -- 9 and 10
 abbrev pub IsAskedNumber : Bytes → Response → ℕ → Bytes → ℕ → Type 0
 IsAskedNumber text r size outputs n =
     (c : Call) → c .parts ≡ partsIn text r → c .state .size ≡ size → readOutputs outputs ≡ some (c .outputs) → n ≡ numberTried rules9 c
-
--- the steps and the entries of a response, from its text
-abbrev pub stepsText : Bytes → Response → Bytes
-stepsText text r = partOf text (r .steps .part)
-
-abbrev pub entriesText : Bytes → Response → Bytes
-entriesText text r = partOf text (r .entries .part)
 
 -- where neither applies, commitments and entries stand at the places
 abbrev pub AskedStand : Bytes → Response → ℕ → Asked → Type 0
@@ -109,12 +66,15 @@ AskedStand text r count a =
     → CommitmentsAt (stepsText text r) (take count (a .steps)) (stepsIn (stepsText text r))
     × EntriesStand (entriesText text r) (take (a .count) (a .entries)) (entriesIn (entriesText text r))
 
+-- the arguments of 9 to 13 are those of a call
+pub record Shows (c : Call) (text : Bytes) (r : Response) (label′ : Bytes) (size time clock ahead behind : ℕ) (outputs : Bytes) : Type 0 where
+  pub given : IsGiven c text r size time clock ahead behind outputs
+  pub label : c .parts .label ≡ label′
+
 -- 11 to 13, of a call to which neither 9 nor 10 applies
 abbrev pub IsShownNumber : Bytes → Response → Bytes → ℕ → ℕ → ℕ → ℕ → ℕ → Bytes → List ℕ → List ℕ → ℕ → Type 0
 IsShownNumber text r label size time clock ahead behind outputs commitments places n =
-    (c : Call) → c .parts ≡ partsIn text r → c .parts .label ≡ label → c .state .size ≡ size → c .state .time ≡ time → c .inputs .clock ≡ clock
-    → c .configuration .maxAhead ≡ ahead → c .configuration .maxBehind ≡ behind → readOutputs outputs ≡ some (c .outputs)
-    → notAsAsked c ≡ false → outputMissing c ≡ false
+    (c : Call) → Shows c text r label size time clock ahead behind outputs → notAsAsked c ≡ false → outputMissing c ≡ false
     → CommitmentsAt (stepsText text r) commitments (stepsIn (stepsText text r))
     → EntriesStand (entriesText text r) places (entriesIn (entriesText text r))
     → n ≡ numberTried rules11 c
@@ -140,30 +100,6 @@ IsJudgedRight text r label outputs commitments wanted b =
     → CommitmentsAt (stepsText text r) commitments (stepsIn (stepsText text r))
     → b ≡ all (lookupsHold c) (c .parts .entries)
 
--- 14 and 15, of a call to which 7 does not apply, and whose entries rise and are in the log; the values of the full subtrees
-abbrev pub IsHead : Bytes → Response → List ℕ → ℕ → Bytes → Bytes → Bytes → ℕ → Bytes → Type 0
-IsHead text r places size kept configuration signed n values =
-    (c : Call) → c .parts ≡ partsIn text r → c .state .size ≡ size → c .state .values ≡ runs (ones size) hashLength kept
-    → c .inputs .configuration ≡ configuration → c .inputs .signedText ≡ signed → sizeWrong c ≡ false
-    → rising (entryPositions (c .parts)) ≡ true → all (λ (p : ℕ). ltb p (c .parts .size)) (entryPositions (c .parts)) ≡ true
-    → EntriesStand (entriesText text r) places (entriesIn (entriesText text r))
-    → (n ≡ numberTried rules14 c)
-    × (values ≡ padded valuesBlockLength (flatten (fullValues (c .parts .size) (known c) (logWalk c) (c .parts .nodes))))
-
--- what the arguments of 9 to 13 are of a call
-pub record Shows (c : Call) (text : Bytes) (r : Response) (label′ : Bytes) (size′ time′ clock′ ahead′ behind′ : ℕ) (outputs′ : Bytes) : Type 0 where
-  pub parts : c .parts ≡ partsIn text r
-  pub label : c .parts .label ≡ label′
-  pub size : c .state .size ≡ size′
-  pub time : c .state .time ≡ time′
-  pub clock : c .inputs .clock ≡ clock′
-  pub ahead : c .configuration .maxAhead ≡ ahead′
-  pub behind : c .configuration .maxBehind ≡ behind′
-  pub outputs : readOutputs outputs′ ≡ some (c .outputs)
-
-abbrev pub rules9to13 : List Rule
-rules9to13 = rules9 ++ rules11
-
 -- 9 to 13, of a call to which none of 6 to 8 applies
 abbrev pub IsSectionsNumber : Bytes → Response → Bytes → ℕ → ℕ → ℕ → ℕ → ℕ → Bytes → ℕ → Type 0
 IsSectionsNumber text r label size time clock ahead behind outputs n =
@@ -187,9 +123,6 @@ pub record Stands (c : Call) (text : Bytes) (r : Response) (label′ : Bytes) (s
   pub values : c .state .values ≡ runs (ones size′) hashLength kept
   pub configuration : c .inputs .configuration ≡ configuration′
   pub signed : c .inputs .signedText ≡ signed′
-
-abbrev pub rules9to15 : List Rule
-rules9to15 = rules9to13 ++ rules14
 
 -- what comes of a call that passes them: the position of the first complete entry, the time of the last, the values of the full subtrees
 pub record Leaves (c : Call) (t : ℕ) (k : Checked) (block : Bytes) : Type 0 where
@@ -216,9 +149,6 @@ pub record Accepting (c : Call) (field : Bytes) (version size′ : ℕ) (b : Sta
   pub leaves : Leaves c version k block
   pub isRoom : c .inputs .room ≡ room
 
-abbrev pub rules16 : List Rule
-rules16 = rule 16 roomMissing ∷ []
-
 abbrev pub IsAcceptedAnswer : Bytes → ℕ → ℕ → StateBlock → Checked → Bytes → ℕ → SearchAnswer → Type 0
 IsAcceptedAnswer field version size b k block room a = (c : Call) → Accepting c field version size b k block room → a ≡ searchAnswer b (tried rules16 c)
 
@@ -227,20 +157,12 @@ AreAcceptedBytes field version size b k block output output′ =
     (c : Call) → Accepting c field version size b k block (length output) → output′ ≡ outputAfter output (tried rules16 c)
 
 -- 6 to 16, of a call that was read
-pub record IsCall (c : Call) (text : Bytes) (r : Response) (configuration′ : Bytes) (ahead′ behind′ : ℕ) (b : StateBlock)
-    (identifier : Bytes) (clock : ℕ) (outputs′ signed : Bytes) (room : ℕ) : Type 0 where
-  pub parts : c .parts ≡ partsIn text r
-  pub inputs : c .inputs ≡ libraryInputs (some search) (argumentsOf text configuration′ identifier clock outputs′) signed room
-  pub ahead : c .configuration .maxAhead ≡ ahead′
-  pub behind : c .configuration .maxBehind ≡ behind′
-  pub state : stateOf b ≡ some (c .state)
-  pub outputs : readOutputs outputs′ ≡ some (c .outputs)
-
 abbrev pub IsReadAnswer : Bytes → Response → Bytes → ℕ → ℕ → StateBlock → Bytes → ℕ → Bytes → Bytes → ℕ → SearchAnswer → Type 0
 IsReadAnswer text r configuration ahead behind b identifier clock outputs signed room a =
-    (c : Call) → IsCall c text r configuration ahead behind b identifier clock outputs signed room → a ≡ searchAnswer b (tried (checks ++ lastChecks) c)
+    (c : Call) → IsCall c (some search) (stateOf b) text r configuration ahead behind identifier clock outputs signed room
+    → a ≡ searchAnswer b (tried (checks ++ lastChecks) c)
 
 abbrev pub AreReadBytes : Bytes → Response → Bytes → ℕ → ℕ → StateBlock → Bytes → ℕ → Bytes → Bytes → Bytes → Bytes → Type 0
 AreReadBytes text r configuration ahead behind b identifier clock outputs signed output output′ =
-    (c : Call) → IsCall c text r configuration ahead behind b identifier clock outputs signed (length output)
+    (c : Call) → IsCall c (some search) (stateOf b) text r configuration ahead behind identifier clock outputs signed (length output)
     → output′ ≡ outputAfter output (tried (checks ++ lastChecks) c)

@@ -1,13 +1,14 @@
 // The entries of a search (paper 01, Ladder, search, monitoring): whether they are as asked, and where they stand.
 ghost use mathlib.Core.Path.{_≡_};
-ghost use mathlib.Core.List.{[]};
+ghost use mathlib.Core.List.{[], _∷_};
 ghost use Prim.Native.Nat.{_≤_};
 ghost use lib.ListN.{length, drop};
+ghost use Rattle.lists.specs.Lists.{begins};
 ghost use Rattle.tree.specs.SearchTree.{frontierCapacity};
 ghost use Rattle.rules.specs.Limits.{responseLimit};
 ghost use Rattle.inputs.specs.Response.{looseIn};
 ghost use Rattle.checks.specs.Sections.{EntryLines, AfterLookups};
-ghost use Rattle.checks.specs.Entries.{versionsOf, beginsLadder, AreEntriesAsked, AreEntriesAt};
+ghost use Rattle.checks.specs.Entries.{versionsOf, AreEntriesAsked, AreEntriesAt};
 use crate::sections::ENTRY_WORD;
 use crate::sections::NextEntry;
 use crate::sections::NextLookup;
@@ -23,10 +24,11 @@ pub(crate) struct EntriesAsked {
     pub places: [u32; Frontier::CAPACITY],
 }
 
-// Whether the lookups at a place are as asked, and the place after them.
-struct LookupsAsked {
-    asked: bool,
-    next: usize,
+// The lookups at a place: whether their versions are from the front of those wanted, and how many they are; the place after them.
+pub(crate) struct LookupsShown {
+    pub begin: bool,
+    pub count: usize,
+    pub next: usize,
 }
 
 // The entries of a search: those at some positions, in each of which the ladder that is wanted, or a beginning of it, is looked up.
@@ -55,8 +57,14 @@ pub(crate) fn entries_asked(entries: &[u8], positions: &[u64], wanted: &[u32]) -
                 places,
             };
         }
-        let lookups = lookups_asked(entries, first, wanted);
-        if !lookups.asked {
+        let lookups = lookups_shown(entries, first, wanted);
+        if !lookups.begin {
+            return EntriesAsked {
+                asked: false,
+                places,
+            };
+        }
+        if lookups.count == 0 {
             return EntriesAsked {
                 asked: false,
                 places,
@@ -72,36 +80,41 @@ pub(crate) fn entries_asked(entries: &[u8], positions: &[u64], wanted: &[u32]) -
     }
 }
 
-// The lookups at a place: one or more, of versions from the front of the ladder.
-fn lookups_asked(entries: &[u8], from: usize, wanted: &[u32]) -> LookupsAsked
+// The lookups at a place, whose versions are compared with those wanted.
+pub(crate) fn lookups_shown(entries: &[u8], from: usize, wanted: &[u32]) -> LookupsShown
     requires lines { ⌜ EntryLines (drop from (now entries)) ⌝ }
     requires within { ⌜ from ≤ length (now entries) ⌝ }
-    ensures asked { λ r. ⌜ r .asked ≡ beginsLadder (now (wanted .entry)) (versionsOf (looseIn (drop from (now (entries .entry))))) ⌝ }
+    ensures begin { λ r. ⌜ r .begin ≡ begins (versionsOf (looseIn (drop from (now (entries .entry))))) (now (wanted .entry)) ⌝ }
+    ensures count { λ r. ⌜ r .count ≡ length (looseIn (drop from (now (entries .entry)))) ⌝ }
     ensures next { λ r. ⌜ AfterLookups (now (entries .entry)) from (r .next) ⌝ }
 {
     let mut at = from;
     let mut count: usize = 0;
-    let mut asked = true;
+    let mut begin = true;
     loop {
         match next_lookup(entries, at) {
             NextLookup::Lookup { stop, next } => {
-                if wanted.len() <= count {
-                    asked = false;
-                } else {
-                    if lookup_version(&entries[at..stop]) == wanted[count] {
-                        count += 1;
-                    } else {
-                        asked = false;
-                    }
-                }
+                begin &= is_at(wanted, count, lookup_version(&entries[at..stop]));
+                count += 1;
                 at = next;
             }
             NextLookup::NoLookup => {
-                return LookupsAsked {
-                    asked: asked && 0 < count,
+                return LookupsShown {
+                    begin,
+                    count,
                     next: at,
                 };
             }
         }
     }
+}
+
+// Whether a version stands at a place among those wanted.
+pub(crate) fn is_at(wanted: &[u32], i: usize, version: u32) -> bool
+    ensures { λ r. ⌜ r ≡ begins (version ∷ []) (drop i (now (wanted .entry))) ⌝ }
+{
+    if wanted.len() <= i {
+        return false;
+    }
+    version == wanted[i]
 }

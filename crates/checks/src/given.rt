@@ -9,7 +9,8 @@ ghost use Rattle.lists.specs.Lists.{Bytes, any, same};
 ghost use Rattle.lines.specs.Hex.{readHex};
 ghost use Rattle.rules.specs.Limits.{labelLimit, treeSizeLimit, greatestVersion};
 ghost use Rattle.inputs.specs.Response.{Fields};
-ghost use Rattle.checks.specs.Search.{areLengthsFit, IsOwn, IsFirstNumber};
+ghost use Rattle.rules.specs.Refusals.{sameKind};
+ghost use Rattle.checks.specs.Calls.{areLengthsFit, kindIn, IsOwn, FitsTarget, IsFirstNumber};
 use inputs::response::Response;
 use inputs::response_lines::Kind;
 use inputs::response_lines::KtLine;
@@ -53,10 +54,12 @@ pub(crate) fn lengths_fit(
     identifier.len() == KtLine::IDENTIFIER
 }
 
-// The number of the first refusal from 6 to 8 that applies to a search, or 0: given the identifier sent, the label, the size and the versions of the state.
+// The number of the first refusal from 6 to 8 that applies, or 0: given the kind asked for, the identifier sent, the label, the size and the versions of the
+// state.
 pub(crate) fn first_number(
     text: &[u8],
     r: Response,
+    asked: Kind,
     identifier: &[u8],
     label: &[u8],
     size: u64,
@@ -65,36 +68,51 @@ pub(crate) fn first_number(
     requires fields { ⌜ Fields (now text) r ⌝ }
     requires identifier { ⌜ length (now identifier) ≤ labelLimit ⌝ }
     requires label { ⌜ length (now label) ≤ labelLimit ⌝ }
-    ensures { λ n. ⌜ IsFirstNumber (now (text .entry)) r (now (identifier .entry)) (now (label .entry)) size (now (versions .entry)) n ⌝ }
+    ensures { λ n. ⌜ IsFirstNumber (now (text .entry)) r asked (now (identifier .entry)) (now (label .entry)) size (now (versions .entry)) n ⌝ }
 {
-    if !is_own(text, r, identifier, label) {
+    if !is_own(text, r, asked, identifier, label) {
         return 6;
     }
     if !size_fits(r.size, size) {
         return 7;
     }
-    if !version_fits(r.target.version, versions) {
+    let kind = r.kind;
+    if !target_fits(kind, r.target.version, versions) {
         return 8;
     }
     0
 }
 
-// Whether a response is that of a search with the identifier sent and the label.
-fn is_own(text: &[u8], r: Response, identifier: &[u8], label: &[u8]) -> bool
+// Whether a response is of the kind asked for, with the identifier sent and the label.
+fn is_own(text: &[u8], r: Response, asked: Kind, identifier: &[u8], label: &[u8]) -> bool
     requires fields { ⌜ Fields (now text) r ⌝ }
     requires identifier { ⌜ length (now identifier) ≤ labelLimit ⌝ }
     requires label { ⌜ length (now label) ≤ labelLimit ⌝ }
-    ensures { λ b. ⌜ IsOwn (now (text .entry)) r (now (identifier .entry)) (now (label .entry)) b ⌝ }
+    ensures { λ b. ⌜ IsOwn (now (text .entry)) r asked (now (identifier .entry)) (now (label .entry)) b ⌝ }
 {
     let kind = r.kind;
+    if !same_kind(kind, asked) {
+        return false;
+    }
+    if !spells(r.identifier.of(text), identifier) {
+        return false;
+    }
+    spells(r.label.of(text), label)
+}
+
+// Whether two kinds are the same.
+fn same_kind(kind: Kind, asked: Kind) -> bool
+    ensures { λ r. ⌜ r ≡ sameKind (kindIn kind) (kindIn asked) ⌝ }
+{
     match kind {
-        Kind::Search => {
-            if !spells(r.identifier.of(text), identifier) {
-                return false;
-            }
-            spells(r.label.of(text), label)
-        }
-        Kind::Monitor => false,
+        Kind::Search => match asked {
+            Kind::Search => true,
+            Kind::Monitor => false,
+        },
+        Kind::Monitor => match asked {
+            Kind::Search => false,
+            Kind::Monitor => true,
+        },
     }
 }
 
@@ -109,6 +127,16 @@ pub(crate) fn size_fits(size: u64, kept_size: u64) -> bool
         return false;
     }
     kept_size <= size
+}
+
+// Whether a search's version is one that can be searched for, and not below one in the map.
+fn target_fits(kind: Kind, version: u32, versions: &[u32]) -> bool
+    ensures { λ r. ⌜ FitsTarget kind version (now (versions .entry)) r ⌝ }
+{
+    match kind {
+        Kind::Search => version_fits(version, versions),
+        Kind::Monitor => true,
+    }
 }
 
 // Whether a version is one that can be searched for, and not below one in the map.

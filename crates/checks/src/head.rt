@@ -1,7 +1,7 @@
 // The head of the log that a response shows (paper 01, Sixteen numbers: 14 and 15).
 ghost use Rattle.inputs.specs.declared.response.ReadResponse.the-variants.{Read};
 ghost use Rattle.inputs.specs.Response.{Places};
-ghost use Rattle.checks.specs.Search.{IsHead};
+ghost use Rattle.checks.specs.Calls.{IsHead};
 use crate::tree_head::is_tree_head;
 use inputs::response::Response;
 use tree::log_head::LogHead;

@@ -1,15 +1,15 @@
 // The lookups of a search (paper 01, Sixteen numbers: 12 and 13): whether they reach the prefix roots, and whether the ladders are complete or end early.
 ghost use mathlib.Core.Path.{_≡_};
-ghost use mathlib.Core.List.{[], _∷_};
+ghost use mathlib.Core.List.{[]};
 ghost use Prim.Native.Nat.{_≤_};
 ghost use lib.ListN.{length, drop};
-ghost use Rattle.lists.specs.Lists.{begins};
 ghost use Rattle.tree.specs.Lookups.{terminalOf};
 ghost use Rattle.rules.specs.Limits.{responseLimit};
 ghost use Rattle.rules.specs.Search.{endsEarly, earlyThenComplete};
 ghost use Rattle.inputs.specs.Response.{entriesIn, looseIn};
 ghost use Rattle.checks.specs.Sections.{EntryLines, AfterLookups, OfLookup};
 ghost use Rattle.checks.specs.Lookups.{leadsTo, leafReaches, reaches, Passes, AllPass, completeLadder, AllHold, IsFirstComplete};
+use crate::entries::is_at;
 use crate::sections::DIGITS;
 use crate::sections::ENTRY_WORD;
 use crate::sections::LOOKUP_WORD;
@@ -172,16 +172,6 @@ fn lookups_judged(
             }
         }
     }
-}
-
-// Whether a version stands at a place of a ladder.
-fn is_at(wanted: &[u32], i: usize, version: u32) -> bool
-    ensures { λ r. ⌜ r ≡ begins (version ∷ []) (drop i (now (wanted .entry))) ⌝ }
-{
-    if wanted.len() <= i {
-        return false;
-    }
-    version == wanted[i]
 }
 
 // Whether a lookup line reaches a prefix root, from what it is tried with. In a search there is no commitment with which one that is there above the version

@@ -1,35 +1,25 @@
 // A search (paper 01): whether its response is accepted, and what comes of it.
 ghost use mathlib.Core.Path.{_≡_};
 ghost use mathlib.Core.Bool.{true};
-ghost use mathlib.Core.Option.{some};
-ghost use Prim.Native.Nat.{_≤_, _<_};
+ghost use Prim.Native.Nat.{_≤_};
 ghost use lib.ListN.{length, take};
-ghost use Rattle.lines.specs.Readings.{partOf};
-ghost use Rattle.tree.specs.SearchTree.{frontierCapacity};
-ghost use Rattle.rules.specs.Limits.{responseLimit, labelLimit, identifierLength, treeSizeLimit, greatestVersion, valueLimit, openingLength};
 ghost use Rattle.lists.specs.Choice.{given};
-ghost use Rattle.rules.specs.ResponseText.{readResponse};
+ghost use Rattle.tree.specs.SearchTree.{frontierCapacity};
 ghost use Rattle.rules.specs.Refusals.{validState};
 ghost use Rattle.rules.specs.Calls.{judgeSearch, outputAfter};
-ghost use Rattle.inputs.specs.ResponseLines.{spelled};
-ghost use Rattle.inputs.specs.declared.response_lines.Kind.the-variants.{Search};
-ghost use Rattle.inputs.specs.declared.response.ReadResponse.the-variants.{Read};
-ghost use Rattle.inputs.specs.Response.{Places, partsIn};
 ghost use Rattle.inputs.specs.State.{stateOf};
-ghost use Rattle.checks.specs.Search.{argumentsOf, searchAnswer, IsSectionsNumber, AreFound, IsChecked, IsAcceptedAnswer, AreAcceptedBytes, IsReadAnswer, AreReadBytes};
+ghost use Rattle.checks.specs.Calls.{argumentsOf, Readable};
+ghost use Rattle.checks.specs.Search.{searchAnswer, Searchable, IsSectionsNumber, AreFound, IsChecked, IsAcceptedAnswer, AreAcceptedBytes, IsReadAnswer, AreReadBytes};
 use crate::asked::check_asked;
 use crate::given::first_number;
-use crate::given::lengths_fit;
 use crate::head::check_head;
 use crate::map::with_pair;
+use crate::readings::ReadInputs;
+use crate::readings::read_inputs;
 use crate::shown::check_shown;
-use inputs::configuration::ReadConfiguration;
-use inputs::configuration::read_configuration;
-use inputs::response::ReadResponse;
 use inputs::response::Response;
-use inputs::response::read_response;
+use inputs::response_lines::Kind;
 use inputs::state::State;
-use inputs::vrf_outputs::outputs_rise;
 use lines::writing::Put;
 use lines::writing::put_spelled;
 use tree::ladder::Ladder;
@@ -79,34 +69,27 @@ pub fn search(
         (argumentsOf (now (response .entry)) (now (configuration .entry)) (now (identifier .entry)) clock (now (outputs .entry)))
         (now (signed .entry)) (now (output .entry))) ⌝ }
 {
-    if !lengths_fit(response, configuration, signed, outputs, identifier) {
-        return refused(1, state);
+    let valid = state.is_valid();
+    match read_inputs(response, configuration, valid, identifier, outputs, signed) {
+        ReadInputs::Taken {
+            ahead,
+            behind,
+            response: r,
+        } => searched(
+            response,
+            r,
+            configuration,
+            ahead,
+            behind,
+            state,
+            identifier,
+            clock,
+            outputs,
+            signed,
+            output,
+        ),
+        ReadInputs::Refused(number) => refused(number, state),
     }
-    let ReadConfiguration::Read(settings) = read_configuration(configuration) else {
-        return refused(2, state);
-    };
-    if !state.is_valid() {
-        return refused(3, state);
-    }
-    if !outputs_rise(outputs) {
-        return refused(4, state);
-    }
-    let ReadResponse::Read(r) = read_response(response) else {
-        return refused(5, state);
-    };
-    searched(
-        response,
-        r,
-        configuration,
-        settings.ahead,
-        settings.behind,
-        state,
-        identifier,
-        clock,
-        outputs,
-        signed,
-        output,
-    )
 }
 
 // The value of an accepted search: the part of the output bytes that it fills.
@@ -144,11 +127,7 @@ fn searched(
     signed: &[u8],
     output: &mut [u8],
 ) -> SearchAnswer
-    requires places { ⌜ Places (now text) (Read r) ⌝ }
-    requires read { ⌜ readResponse (now text) ≡ some (partsIn (now text) r) ⌝ }
-    requires short { ⌜ length (now text) ≤ responseLimit ⌝ }
-    requires identifier { ⌜ length (now identifier) ≡ identifierLength ⌝ }
-    requires valid { ⌜ given (validState (stateOf state)) ≡ true ⌝ }
+    requires { ⌜ Readable (stateOf state) (now text) r (now identifier) (now outputs) ⌝ }
     ensures answer { λ a. ⌜ IsReadAnswer (now (text .entry)) r (now (configuration .entry)) ahead behind state (now (identifier .entry)) clock (now (outputs .entry)) (now (signed .entry)) (length (now (output .entry))) a ⌝ }
     ensures bytes { λ a. ⌜ AreReadBytes (now (text .entry)) r (now (configuration .entry)) ahead behind state (now (identifier .entry)) clock (now (outputs .entry)) (now (signed .entry)) (now (output .entry)) (now (output .exit)) ⌝ }
 {
@@ -161,6 +140,7 @@ fn searched(
     let first = first_number(
         text,
         r,
+        Kind::Search,
         identifier,
         &label[..length],
         state.size,
@@ -214,16 +194,7 @@ fn check(
     signed: &[u8],
     values: &mut [u8; LogHead::BLOCK],
 ) -> Checked
-    requires places { ⌜ Places (now text) (Read r) ⌝ }
-    requires kind { ⌜ r .kind ≡ Search ⌝ }
-    requires short { ⌜ length (now text) ≤ responseLimit ⌝ }
-    requires some { ⌜ 0 < r .size ⌝ }
-    requires many { ⌜ r .size ≤ treeSizeLimit ⌝ }
-    requires grown { ⌜ size ≤ r .size ⌝ }
-    requires version { ⌜ r .target .version ≤ greatestVersion ⌝ }
-    requires label { ⌜ length (now label) ≤ labelLimit ⌝ }
-    requires opening { ⌜ length (spelled (partOf (now text) (r .target .opening))) ≡ openingLength ⌝ }
-    requires value { ⌜ length (spelled (partOf (now text) (r .target .value))) ≤ valueLimit ⌝ }
+    requires { ⌜ Searchable (now text) r size (now label) ⌝ }
     ensures { λ k. ⌜ IsChecked (now (text .entry)) r (now (label .entry)) size time (now (kept .entry)) clock ahead behind (now (configuration .entry)) (now (outputs .entry)) (now (signed .entry)) k (now (values .exit)) ⌝ }
 {
     let sections = check_sections(text, r, label, size, time, clock, ahead, behind, outputs);
@@ -271,16 +242,7 @@ fn check_sections(
     behind: u64,
     outputs: &[u8],
 ) -> Sections
-    requires places { ⌜ Places (now text) (Read r) ⌝ }
-    requires kind { ⌜ r .kind ≡ Search ⌝ }
-    requires short { ⌜ length (now text) ≤ responseLimit ⌝ }
-    requires some { ⌜ 0 < r .size ⌝ }
-    requires many { ⌜ r .size ≤ treeSizeLimit ⌝ }
-    requires grown { ⌜ size ≤ r .size ⌝ }
-    requires version { ⌜ r .target .version ≤ greatestVersion ⌝ }
-    requires label { ⌜ length (now label) ≤ labelLimit ⌝ }
-    requires opening { ⌜ length (spelled (partOf (now text) (r .target .opening))) ≡ openingLength ⌝ }
-    requires value { ⌜ length (spelled (partOf (now text) (r .target .value))) ≤ valueLimit ⌝ }
+    requires { ⌜ Searchable (now text) r size (now label) ⌝ }
     ensures number { λ s. ⌜ IsSectionsNumber (now (text .entry)) r (now (label .entry)) size time clock ahead behind (now (outputs .entry)) (s .number) ⌝ }
     ensures found { λ s. ⌜ AreFound (now (text .entry)) r s ⌝ }
     ensures few { λ s. ⌜ s .count ≤ frontierCapacity ⌝ }

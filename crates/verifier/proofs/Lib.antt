@@ -1,2 +1,4 @@
 pub mod ExportLaws
+pub mod CallExportLaws
 pub mod SearchExportLaws
+pub mod MonitorExportLaws

@@ -6,10 +6,11 @@ ghost use lib.Seq.{sets};
 ghost use Rattle.hash.specs.Bytes.{bigEndian};
 ghost use Rattle.rules.specs.Limits.{stateTextLimit};
 ghost use Rattle.rules.specs.StateText.{readState};
-ghost use Rattle.rules.specs.Calls.{outputAfter, ktSearch, textAfter, answerWord};
+ghost use Rattle.rules.specs.Calls.{outputAfter, ktSearch, ktMonitor, textAfter, answerWord};
 ghost use Rattle.inputs.specs.State.{stateOf};
-ghost use Rattle.checks.specs.Search.{argumentsOf};
+ghost use Rattle.checks.specs.Calls.{argumentsOf};
 ghost use Rattle.verifier.specs.Exports.{sha256Answer, sha256Output, versionLength, ladderAnswer, ladderOutput};
+use checks::monitoring::monitor;
 use checks::search::search;
 use inputs::state::State;
 use inputs::state_reader::read_state;
@@ -91,7 +92,7 @@ pub extern "C" fn kt_search(
         return TOO_LONG;
     }
     let held = state_in(state);
-    let answer = search(
+    let found = search(
         response,
         configuration,
         held,
@@ -101,13 +102,56 @@ pub extern "C" fn kt_search(
         signed_text,
         output,
     );
+    if found.number != 0 {
+        return found.number;
+    }
+    let value = found.length as u64;
+    let new = found.state;
+    let text = write_state(new, new_state) as u64;
+    value * VALUE_UNIT + text * TEXT_UNIT
+}
+
+// Checks a response to monitoring and answers what came of it: as kt_search, without a value.
+#[no_mangle]
+pub extern "C" fn kt_monitor(
+    response: &[u8],
+    configuration: &[u8],
+    state: &[u8],
+    identifier: &[u8],
+    clock: u64,
+    vrf_outputs: &[u8],
+    signed_text: &[u8],
+    new_state: &mut [u8],
+) -> u64
+    ensures answer { λ r. ⌜ r ≡ answerWord (ktMonitor (now (state .entry))
+        (argumentsOf (now (response .entry)) (now (configuration .entry)) (now (identifier .entry)) clock (now («vrf_outputs» .entry)))
+        (now («signed_text» .entry)) (now («new_state» .entry))) ⌝ }
+    ensures state { λ r. ⌜ now («new_state» .exit) ≡ textAfter (now («new_state» .entry)) (ktMonitor (now (state .entry))
+        (argumentsOf (now (response .entry)) (now (configuration .entry)) (now (identifier .entry)) clock (now («vrf_outputs» .entry)))
+        (now («signed_text» .entry)) (now («new_state» .entry))) ⌝ }
+{
+    if State::TEXT < state.len() {
+        return TOO_LONG;
+    }
+    if new_state.len() < State::TEXT {
+        return TOO_LONG;
+    }
+    let held = state_in(state);
+    let answer = monitor(
+        response,
+        configuration,
+        held,
+        identifier,
+        clock,
+        vrf_outputs,
+        signed_text,
+    );
     if answer.number != 0 {
         return answer.number;
     }
-    let value = answer.length as u64;
     let new = answer.state;
     let text = write_state(new, new_state) as u64;
-    value * VALUE_UNIT + text * TEXT_UNIT
+    text * TEXT_UNIT
 }
 
 // The struct of the state that a text says; where it says none, one that stands for none.

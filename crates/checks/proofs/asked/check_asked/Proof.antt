@@ -1,15 +1,16 @@
 -- `checks::asked::check_asked` meets its contract: what 9 and 10 ask is tried section by section.
-use mathlib.Core.Path.{_≡_, sym, ap, _∙_, subst}
-use Prim.Native.Nat.{ℕ}
+use mathlib.Core.Path.{_≡_, sym, subst}
+use Prim.Native.Nat.{ℕ, _≤_}
 use native.Mathlib.Omega.{arith}
 use lib.ListN.{length, take}
 use borrow.Author.Tests.{not-true, not-false}
-use Rattle.hash.proofs.BytesLaws.{take-padded, part-count}
+use Rattle.hash.proofs.BytesLaws.{filled-front, part-count}
 use Rattle.tree.specs.SearchTree.{frontier, frontierCapacity}
+use Rattle.tree.proofs.FrontierFillLaws.{frontier-fits}
 use Rattle.inputs.specs.Response.{entriesIn}
 use Rattle.checks.specs.Entries.{EntriesStand}
-use Rattle.checks.proofs.AskedCallLaws.{part-short, frontier-short, AskedGiven, IsAsAsked, AreEntriesRight, steps-refused, steps-right}
-use Rattle.checks.proofs.AskedCallLaws.{entries-refused, entries-right, nodes-refused, nodes-right, outputs-refused, asked-passes, answer-stands, refused-answer}
+use Rattle.checks.proofs.AskedCallLaws.{part-short, AskedGiven, IsAsAsked, AreEntriesRight, steps-refused, steps-right, entries-refused, entries-right}
+use Rattle.checks.proofs.AskedCallLaws.{nodes-refused, nodes-right, outputs-refused, asked-passes, answer-stands, refused-answer}
 use borrow.Author.Needs.{needs}
 use Rattle.checks.proofs.asked.check_asked.Statement.{statement}
 use Rattle.checks.proofs.asked.check_asked.Tie as tie
@@ -43,6 +44,10 @@ before-entries E = E .before .before .before .before .before .before .before
 abbrev before-nodes : tie.Else3 → tie.Else2
 before-nodes N = N .before .before .before .before .before
 
+-- the frontier has room
+room : (S : tie.Start) → length (frontier (S .args .r .size)) ≤ frontierCapacity
+room S = frontier-fits (S .args .r .size) (omega (arith, given S .many))
+
 of-requires : tie.Need-of-requires
 of-requires c κs = search needs
 
@@ -69,18 +74,12 @@ of-requires-3 : tie.Need-of-requires-3
 of-requires-3 c κs = search needs
 
 array-share-prefix-positions : tie.Need-array-share-prefix-positions
-array-share-prefix-positions c =
-    let e : length (c .before .before .of2 .result .positions) ≡ frontierCapacity = search needs in
-    let x = given (start (c .before .before .before)) in
-    omega (arith, frontier-short (x .response .size) (x .many), c .before .before .of2 .ensures .1)
+array-share-prefix-positions c = filled-front _ _ _ _ (c .before .before .of2 .ensures) .1
 
 -- the positions asked are those of the frontier
 asked-frontier : (P : tie.After-positions2) → let F = P .before .before .before in
     take (F .of2 .result .length) (F .of2 .result .positions) ≡ frontier (start (F .before) .args .r .size)
-asked-frontier P =
-    let F = P .before .before .before in
-    let (e, l) = F .of2 .ensures in
-    ap (take (F .of2 .result .length)) e ∙ take-padded frontierCapacity _ (frontier (start (F .before) .args .r .size)) (sym l)
+asked-frontier P = filled-front _ _ _ _ (P .before .before .before .of2 .ensures) .0
 
 -- past the entries they are as asked
 entries-as-asked : (E : tie.Else2) → AreEntriesRight (given (start (before-entries E)))
@@ -92,12 +91,14 @@ entries-as-asked E =
 -- and stand at the places found
 entries-stand : (E : tie.Else2)
     → let s = E .before .before .before .before .of3 .result .now in
-    EntriesStand s (take (E .before .before .before .before .before .before .of2 .result .length) (E .before .before .entries-asked .result .places)) (entriesIn s)
+    EntriesStand s (take (E .before .before .before .before .before .before .of2 .result .length) (E .before .before .entries-asked .result .places))
+    (entriesIn s)
 entries-stand E =
     let A = E .before .before in
     let s = A .before .before .of3 .result .now in
     let l = part-count _ _ (array-share-prefix-positions (A .before .before)) in
-    subst (λ (k : ℕ). EntriesStand s (take k (A .entries-asked .result .places)) (entriesIn s)) (sym l) (A .entries-asked .ensures .1 (not-false _ (E .if2 .left)))
+    subst (λ (k : ℕ). EntriesStand s (take k (A .entries-asked .result .places)) (entriesIn s)) (sym l)
+    (A .entries-asked .ensures .1 (not-false _ (E .if2 .left)))
 
 -- past the nodes everything is as asked, but for outputs
 all-as-asked : (N : tie.Else3) → IsAsAsked (given (start (before-entries (before-nodes N))))
@@ -116,10 +117,10 @@ slice-aggregate-entries-asked c = part-count _ _ (array-share-prefix-positions (
 entries-asked-requires : tie.Need-entries-asked-requires
 entries-asked-requires c κs =
     let S = start (c .before .before .before .before) in
-    let (places, (_, (short, (_, (many, _))))) = S .pre in
+    let (places, (_, (short, _))) = S .pre in
     let e = c .before .of3 .ensures in
     let l = part-short (S .args .text .now) (S .args .r .entries .part) _ short in
-    (rw e (places .3 .entries), (rw e (places .3 .noneLoose), (rw (asked-frontier c) (frontier-short (S .args .r .size) many), rw e l)))
+    (rw e (places .3 .entries), (rw e (places .3 .noneLoose), (rw (asked-frontier c) (room S), rw e l)))
 
 not-asked-requires-2 : tie.Need-not-asked-requires-2
 not-asked-requires-2 c κs = search needs
@@ -135,8 +136,7 @@ array-share-prefix-places : tie.Need-array-share-prefix-places
 array-share-prefix-places c =
     let e : length (c .before .before .before .before .entries-asked .result .places) ≡ frontierCapacity = search needs in
     let F = c .before .before .before .before .before .before .before .before in
-    let x = given (start (F .before)) in
-    omega (arith, frontier-short (x .response .size) (x .many), F .of2 .ensures .1)
+    omega (arith, room (start (F .before)), F .of2 .ensures .1)
 
 slice-aggregate-nodes-asked : tie.Need-slice-aggregate-nodes-asked
 slice-aggregate-nodes-asked c = part-count _ _ (array-share-prefix-places (c .before))
@@ -175,7 +175,7 @@ returns-5 c =
     let P = before-entries E in
     let x = given (start P) in
     let s = P .before .before .steps-asked .ensures .1 (not-false _ (P .if1 .left)) in
-    let l = frontier-short (x .response .size) (x .many) in (
+    let l = room (start P) in (
       asked-passes x (all-as-asked N) _ (c .before .outputs-there .ensures) (not-false _ (c .if4 .left)),
       (
         (λ _. answer-stands x _ _ _ _ (P .before .before .before .of .ensures) (E .before .before .before .before .of3 .ensures) s (entries-stand E)),

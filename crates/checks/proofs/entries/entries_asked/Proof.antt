@@ -1,5 +1,5 @@
 -- `checks::entries::entries_asked` meets its contract: the entries passed so far are as asked and stand at the places stored.
-use mathlib.Core.Path.{_≡_, refl, sym, _∙_}
+use mathlib.Core.Path.{_≡_, refl}
 use mathlib.Core.Bool.{false≢true}
 use Prim.Native.Nat.{_-_, _≤_}
 use native.Mathlib.Omega.{arith}
@@ -7,8 +7,8 @@ use lib.ListN.{length, length-set}
 use Rattle.tree.specs.SearchTree.{frontierCapacity}
 use Rattle.checks.specs.declared.sections.NextEntry.the-variants.{Entry as EntryAt}
 use Rattle.checks.specs.Sections.{IsNextEntry}
-use Rattle.checks.proofs.EntryLaws.{entry-found, entry-missing, Passed, passed-start, passed-missing, passed-elsewhere, passed-unasked, passed-next}
-use Rattle.checks.proofs.EntryLaws.{passed-end, passed-places}
+use Rattle.checks.proofs.EntryLaws.{entry-found, entry-missing, Passed, passed-start, passed-missing, passed-elsewhere, passed-other, passed-none}
+use Rattle.checks.proofs.EntryLaws.{passed-next, passed-end, passed-places}
 use borrow.Author.Needs.{needs}
 use borrow.Author.Tests.{not-true, not-false}
 use Rattle.checks.proofs.entries.entries_asked.Statement.{statement}
@@ -67,16 +67,28 @@ returns-2 c =
     let p = c .before .before .position-at in
     (passed-elsewhere _ _ _ _ _ _ i (omega arith) _ (found P) _ (p .ensures) (c .if1 .taken), λ e. absurd (false≢true e))
 
-lookups-asked-requires : tie.Need-lookups-asked-requires Inv-loop μ-loop
-lookups-asked-requires c κs = let n = found (c .before .before .before) in (n .3, n .5)
+lookups-shown-requires : tie.Need-lookups-shown-requires Inv-loop μ-loop
+lookups-shown-requires c κs = let n = found (c .before .before .before) in (n .3, n .5)
 
 returns-3 : tie.Need-returns-3 Inv-loop μ-loop
 returns-3 c =
-    let P = c .before .before .before .before .before .before in
+    let l = c .before .before in
+    let P = l .before .before .before .before in
     let i = P .before .before .before .before .before .loop .inv .3 in
-    let p = c .before .before .before .before .before .position-at in
-    let n = sym (not-true _ (c .if2 .taken)) ∙ c .before .before .lookups-asked .ensures .0 in
-    (passed-unasked _ _ _ _ _ _ i (omega arith) _ (found P) _ (p .ensures) (c .before .before .before .if1 .left) n, λ e. absurd (false≢true e))
+    let p = l .before .before .before .position-at in
+    let (begin, (count, _)) = l .lookups-shown .ensures in
+    let f = not-true _ (c .if2 .taken) in
+    (passed-other _ _ _ _ _ _ i (omega arith) _ (found P) _ (p .ensures) (l .before .if1 .left) _ _ begin count f, λ e. absurd (false≢true e))
+
+returns-4 : tie.Need-returns-4 Inv-loop μ-loop
+returns-4 c =
+    let l = c .before .before .before .before in
+    let P = l .before .before .before .before in
+    let i = P .before .before .before .before .before .loop .inv .3 in
+    let p = l .before .before .before .position-at in
+    let (begin, (count, _)) = l .lookups-shown .ensures in
+    let z = c .if3 .taken in
+    (passed-none _ _ _ _ _ _ i (omega arith) _ (found P) _ (p .ensures) (l .before .if1 .left) _ _ begin count z, λ e. absurd (false≢true e))
 
 mul-places : tie.Need-mul-places Inv-loop μ-loop
 mul-places c = search needs
@@ -92,18 +104,21 @@ loop-less c = search needs
 
 loop-again : tie.Need-loop-again Inv-loop μ-loop
 loop-again c =
-    let P = c .before .before .before .before .before .before in
+    let l = c .before .before .before .before in
+    let P = l .before .before .before .before in
     let L = P .before .before .before .before .before in
     let (within, few, all, i) = L .loop .inv in
     let room = L .before .before .before .before .pre .1 .1 .0 in
-    let p = c .before .before .before .before .before .position-at in
-    let (asked, after) = c .before .before .lookups-asked .ensures in
-    let b = sym (not-false _ (c .if2 .left)) ∙ asked in
-    let next = passed-next _ _ _ _ _ _ i (omega arith) _ (found P) _ (p .ensures) (c .before .before .before .if1 .left) b _ after (omega arith) in
+    let p = l .before .before .before .position-at in
+    let (begin, (count, after)) = l .lookups-shown .ensures in
+    let f = not-false _ (c .before .before .if2 .left) in
+    let z = c .if3 .left in
+    let next =
+    passed-next _ _ _ _ _ _ i (omega arith) _ (found P) _ (p .ensures) (l .before .if1 .left) _ _ begin count f z _ after (omega arith) in
     (after .within, omega arith, simp length-set all, next)
 
-returns-4 : tie.Need-returns-4 Inv-loop μ-loop
-returns-4 c =
+returns-5 : tie.Need-returns-5 Inv-loop μ-loop
+returns-5 c =
     let (within, few, all, i) = c .before .loop .inv in
     (passed-end _ _ _ _ _ _ i (omega arith) within, passed-places _ _ _ _ _ _ i (omega arith) within few)
 
@@ -124,11 +139,12 @@ entries-asked-spec =
     mul-if1
     shared-slice-read-if1
     returns-2
-    lookups-asked-requires
+    lookups-shown-requires
     returns-3
+    returns-4
     mul-places
     array-write-places
     add-i
     loop-less
     loop-again
-    returns-4)
+    returns-5)

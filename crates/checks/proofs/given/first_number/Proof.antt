@@ -12,33 +12,37 @@ is-own-requires c κs = search needs
 returns : tie.Need-returns
 returns c =
     let o = c .before .is-own .ensures in
-    first-foreign _ _ _ _ _ _ (λ d p q i l. sym (not-true _ (c .if1 .taken)) ∙ o d p q i l)
+    first-foreign _ _ _ _ _ _ _ (λ d p q i l. sym (not-true _ (c .if1 .taken)) ∙ o d p q i l)
 
 size-fits-requires : tie.Need-size-fits-requires
 size-fits-requires c κs = search needs
 
 returns-2 : tie.Need-returns-2
 returns-2 c =
-    let o = c .before .before .before .is-own .ensures in
-    first-size _ _ _ _ _ _ (λ d p q i l. sym (not-false _ (c .before .before .if1 .left)) ∙ o d p q i l)
-    (sym (not-true _ (c .if2 .taken)) ∙ c .before .size-fits .ensures)
+    let E = c .before .before in
+    let o = E .before .is-own .ensures in
+    first-size _ _ _ _ _ _ _ (λ d p q i l. sym (not-false _ (E .if1 .left)) ∙ o d p q i l) (sym (not-true _ (c .if2 .taken)) ∙ c .before .size-fits .ensures)
 
-version-fits-requires : tie.Need-version-fits-requires
-version-fits-requires c κs = search needs
+target-fits-requires : tie.Need-target-fits-requires
+target-fits-requires c κs = search needs
 
 returns-3 : tie.Need-returns-3
 returns-3 c =
-    let o = c .before .before .before .before .before .is-own .ensures in
-    first-version _ _ _ _ _ _ (λ d p q i l. sym (not-false _ (c .before .before .before .before .if1 .left)) ∙ o d p q i l)
-    (sym (not-false _ (c .before .before .if2 .left)) ∙ c .before .before .before .size-fits .ensures)
-    (sym (not-true _ (c .if3 .taken)) ∙ c .before .version-fits .ensures)
+    let F = c .before .before in
+    let E = F .before .before in
+    let o = E .before .is-own .ensures in
+    let t = c .before .target-fits .ensures in
+    first-version _ _ _ _ _ _ _ (λ d p q i l. sym (not-false _ (E .if1 .left)) ∙ o d p q i l) (sym (not-false _ (F .if2 .left)) ∙ F .before .size-fits .ensures)
+    (λ f es g m. sym (not-true _ (c .if3 .taken)) ∙ t f es g m)
 
 returns-4 : tie.Need-returns-4
 returns-4 c =
-    let o = c .before .before .before .before .before .is-own .ensures in
-    first-none _ _ _ _ _ _ (λ d p q i l. sym (not-false _ (c .before .before .before .before .if1 .left)) ∙ o d p q i l)
-    (sym (not-false _ (c .before .before .if2 .left)) ∙ c .before .before .before .size-fits .ensures)
-    (sym (not-false _ (c .if3 .left)) ∙ c .before .version-fits .ensures)
+    let F = c .before .before in
+    let E = F .before .before in
+    let o = E .before .is-own .ensures in
+    let t = c .before .target-fits .ensures in
+    first-none _ _ _ _ _ _ _ (λ d p q i l. sym (not-false _ (E .if1 .left)) ∙ o d p q i l) (sym (not-false _ (F .if2 .left)) ∙ F .before .size-fits .ensures)
+    (λ f es g m. sym (not-false _ (c .if3 .left)) ∙ t f es g m)
 
 pub first-number-spec : {M : Type 1} → statement M
 first-number-spec =
@@ -48,6 +52,6 @@ first-number-spec =
     returns
     size-fits-requires
     returns-2
-    version-fits-requires
+    target-fits-requires
     returns-3
     returns-4)

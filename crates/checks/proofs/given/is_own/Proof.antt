@@ -1,13 +1,16 @@
--- `checks::given::is_own` meets its contract: the response of a search is its own where the identifier and the label are, that of monitoring is not.
+-- `checks::given::is_own` meets its contract: a response of another kind is not the call's own, and of others the identifier and the label decide.
 use mathlib.Core.Path.{sym, _∙_}
 use borrow.Author.Tests.{not-true, not-false}
-use Rattle.checks.proofs.GivenLaws.{monitor-foreign, identifier-foreign, label-decides}
+use Rattle.checks.proofs.GivenLaws.{kind-foreign, identifier-foreign, label-decides}
 use borrow.Author.Needs.{needs}
 use Rattle.checks.proofs.given.is_own.Statement.{statement}
 use Rattle.checks.proofs.given.is_own.Tie as tie
 
-enum-told : tie.Need-enum-told
-enum-told c = search needs
+same-kind-requires : tie.Need-same-kind-requires
+same-kind-requires c κs = search needs
+
+returns : tie.Need-returns
+returns c = kind-foreign _ _ _ _ _ (sym (c .before .same-kind .ensures) ∙ not-true _ (c .if1 .taken))
 
 of-requires : tie.Need-of-requires
 of-requires c κs = search needs
@@ -15,11 +18,12 @@ of-requires c κs = search needs
 spells-requires : tie.Need-spells-requires
 spells-requires c κs = search needs
 
-returns : tie.Need-returns
-returns c =
-    let s = c .before .before .before .before .before .before .before .before in
-    identifier-foreign _ _ _ _ (s .pre .0) (c .before .before .before .enum-told .given .1) _ (c .before .before .of .ensures)
-    (sym (c .before .spells .ensures) ∙ not-true _ (c .if1 .taken))
+returns-2 : tie.Need-returns-2
+returns-2 c =
+    let E = c .before .before .before in
+    let s = E .before .before .before .before .before in
+    identifier-foreign _ _ _ _ _ (s .pre .0) (sym (E .before .same-kind .ensures) ∙ not-false _ (E .if1 .left)) _ (c .before .before .of .ensures)
+    (sym (c .before .spells .ensures) ∙ not-true _ (c .if2 .taken))
 
 of-requires-2 : tie.Need-of-requires-2
 of-requires-2 c κs = search needs
@@ -27,29 +31,23 @@ of-requires-2 c κs = search needs
 spells-requires-2 : tie.Need-spells-requires-2
 spells-requires-2 c κs = search needs
 
-enum-told-2 : tie.Need-enum-told-2
-enum-told-2 c = search needs
-
-returns-2 : tie.Need-returns-2
-returns-2 c =
-    let s = c .before .before .before .before .before .before .before .before .before .before in
-    let i = c .before .before in
-    label-decides _ _ _ _ (s .pre .0) (i .before .before .before .enum-told .given .1) _ (i .before .before .of .ensures)
-    (sym (i .before .spells .ensures) ∙ not-false _ (i .if1 .left)) _ _ (c .before .of2 .ensures) (c .spells2 .ensures)
-
 returns-3 : tie.Need-returns-3
-returns-3 c = monitor-foreign _ _ _ _ (c .enum-told2 .given .1)
+returns-3 c =
+    let F = c .before .before in
+    let E = F .before .before .before in
+    let s = E .before .before .before .before .before in
+    label-decides _ _ _ _ _ (s .pre .0) (sym (E .before .same-kind .ensures) ∙ not-false _ (E .if1 .left)) _ (F .before .before .of .ensures)
+    (sym (F .before .spells .ensures) ∙ not-false _ (F .if2 .left)) _ _ (c .before .of2 .ensures) (c .spells2 .ensures)
 
 pub is-own-spec : {M : Type 1} → statement M
 is-own-spec =
     tie.close
     (tie.spec
-    enum-told
+    same-kind-requires
+    returns
     of-requires
     spells-requires
-    returns
+    returns-2
     of-requires-2
     spells-requires-2
-    enum-told-2
-    returns-2
     returns-3)

@@ -3,7 +3,8 @@ use mathlib.Core.Path.{sym, _∙_, ap}
 use borrow.Author.Tests.{not-true, not-false}
 use Rattle.lines.specs.Readings.{putOf}
 use Rattle.inputs.proofs.StateBlockLaws.{Sized}
-use Rattle.checks.proofs.AcceptLaws.{Struct, valid-struct, map-full, output-full, both-fit}
+use Rattle.checks.proofs.StateStructLaws.{Struct, valid-struct}
+use Rattle.checks.proofs.AcceptLaws.{map-full, output-full, both-fit}
 use borrow.Author.Needs.{needs}
 use Rattle.checks.proofs.search.accepted.Statement.{statement}
 use Rattle.checks.proofs.search.accepted.Tie as tie

@@ -33,15 +33,15 @@ slice-aggregate-check-head : tie.Need-slice-aggregate-check-head
 slice-aggregate-check-head c = sym (length-take-le _ _ (within (c .before .before)))
 
 check-head-requires : tie.Need-check-head-requires
-check-head-requires c κs = c .before .before .before .before .before .before .before .before .before .before .before .pre .0
+check-head-requires c κs = c .before .before .before .before .before .before .before .before .before .before .before .pre .places
 
 returns-2 : tie.Need-returns-2
 returns-2 c =
     let E = c .before .before .before .before in
     let s = E .before .before .check-sections .ensures in
-    let (_, (kind, (_, (some, (many, (grown, _)))))) = E .before .before .before .before .before .before .before .before .pre in
+    let p = E .before .before .before .before .before .before .before .before .pre in
     head-told _ _ _ _ _ _ _ _ _ _ _ _ _ _ _ _ (s .0) (E .if1 .left) (s .1 .0) (c .check-head .ensures)
-    (size-right _ _ _ some many grown) (on-frontier _ _ kind) refl refl refl
+    (size-right _ _ _ (p .nonempty) (p .largest) (p .grown)) (on-frontier _ _ (p .kind)) refl refl refl
 
 pub check-spec : {M : Type 1} → statement M
 check-spec =

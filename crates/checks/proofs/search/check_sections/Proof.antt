@@ -20,7 +20,7 @@ before-asked E = E .before .before .before .before .before
 
 -- the ladder of the version
 held : (P : tie.After-of) → Ladders (start P .args .r .target .version) (P .of .result .length) (P .of .result .versions)
-held P = ladder-held _ _ _ (P .of .ensures) (start P .pre .1 .1 .1 .1 .1 .1 .0)
+held P = ladder-held _ _ _ (P .of .ensures) (start P .pre .version)
 
 -- the places of its commitments are in their array
 steps-within : (E : tie.Else1) → before-asked E .of .result .length ≤ length (E .before .before .check-asked .result .steps)
@@ -48,8 +48,8 @@ slice-aggregate-check-asked c = held (c .before .before) .all
 check-asked-requires : tie.Need-check-asked-requires
 check-asked-requires c κs =
     let P = c .before .before in
-    let (places, (kind, (short, (some, (many, (grown, _)))))) = start P .pre in
-    (places, (kind, (short, (some, (many, (grown, (held P .wanted, held P .few)))))))
+    let p = start P .pre in
+    (p .places, (p .kind, (p .short, (p .nonempty, (p .largest, (p .grown, (held P .wanted, held P .few)))))))
 
 no-sections-requires : tie.Need-no-sections-requires
 no-sections-requires c κs = search needs
@@ -83,9 +83,9 @@ check-shown-requires : tie.Need-check-shown-requires
 check-shown-requires c κs =
     let E = c .before .before .before .before .before in
     let P = before-asked E in
-    let (places, (kind, (short, (_, (_, (_, (_, (label, (opening, value))))))))) = start P .pre in
+    let p = start P .pre in
     let s = length-take-le (P .of .result .length) (E .before .before .check-asked .result .steps) (steps-within E) in
-    (places, (kind, (short, (label, (opening, (value, (held P .wanted, omega (arith, held P .all, s))))))))
+    (p .places, (p .kind, (p .short, (p .label, (p .opening, (p .value, (held P .wanted, omega (arith, held P .all, s))))))))
 
 returns-2 : tie.Need-returns-2
 returns-2 c =

@@ -1,7 +1,8 @@
 -- `checks::shown::check_shown` meets its contract: the rules 11 to 13 are tried one after the other.
 use native.Mathlib.Omega.{arith}
 use borrow.Author.Tests.{not-true, not-false}
-use Rattle.checks.proofs.ShownCallLaws.{ShownGiven, refused-shown, last-shown, times-refused, clock-refused, lookups-refused, results-refused, shown-passes}
+use Rattle.checks.proofs.ShownCallLaws.{last-shown, ShownGiven, refused-shown, times-refused, clock-refused, lookups-refused, results-refused}
+use Rattle.checks.proofs.ShownCallLaws.{shown-passes}
 use borrow.Author.Needs.{needs}
 use Rattle.checks.proofs.shown.check_shown.Statement.{statement}
 use Rattle.checks.proofs.shown.check_shown.Tie as tie
@@ -105,7 +106,7 @@ returns-5 c =
       shown-passes x _ (T .before .before .of .ensures) _ (T .before .last-time .ensures) _ (T .times-fit .ensures)
           (not-false _ (J .before .before .before .if1 .left)) _ (J .before .before .near-clock .ensures) (not-false _ (J .before .if2 .left)) _
           (J .judged .ensures .0) (not-false _ (c .before .before .if3 .left)) _ (J .judged .ensures .1 .0) f,
-      ((λ _. last-shown x _ _ (T .before .before .of .ensures) (T .before .last-time .ensures)), λ _. J .judged .ensures .1 .1 f),
+      ((λ _. last-shown (x .text) (x .response) _ _ _ (T .before .before .of .ensures) (T .before .last-time .ensures)), λ _. J .judged .ensures .1 .1 f),
     )
 
 pub check-shown-spec : {M : Type 1} → statement M

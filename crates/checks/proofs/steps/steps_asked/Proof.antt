@@ -6,7 +6,8 @@ use lib.ListN.{length, length-set}
 use Rattle.tree.specs.Ladder.{ladderCapacity}
 use Rattle.checks.specs.declared.sections.NextStep.the-variants.{Step as StepAt}
 use Rattle.checks.specs.Sections.{IsNextStep}
-use Rattle.checks.proofs.SearchStepLaws.{tests-differ, tests-agree, StepsRead, steps-start, steps-short, steps-other, steps-unasked, steps-next, steps-end}
+use Rattle.checks.proofs.SearchStepLaws.{tests-differ, tests-agree, StepsRead, steps-start, steps-short, steps-other, steps-unasked, steps-next}
+use Rattle.checks.proofs.SearchStepLaws.{steps-end}
 use borrow.Author.Needs.{needs}
 use Rattle.checks.proofs.steps.steps_asked.Statement.{statement}
 use Rattle.checks.proofs.steps.steps_asked.Tie as tie

@@ -1,7 +1,7 @@
 -- `verifier::exports::state_in` meets its contract: the struct is that of the state, or one whose label is too long.
 use mathlib.Core.Path.{sym, _∙_}
 use native.Mathlib.Omega.{arith}
-use Rattle.verifier.proofs.SearchExportLaws.{label-over, text-broken, text-held}
+use Rattle.verifier.proofs.CallExportLaws.{label-over, text-broken, text-held}
 use borrow.Author.Needs.{needs}
 use Rattle.verifier.proofs.exports.state_in.Statement.{statement}
 use Rattle.verifier.proofs.exports.state_in.Tie as tie
@@ -13,10 +13,14 @@ add-state : tie.Need-add-state
 add-state c = search needs
 
 returns : tie.Need-returns
-returns c = label-over _ (omega arith) ∙ sym (text-broken _ _ (c .before .before .before .read-state .ensures) (c .before .before .before .before .before .pre) (c .if1 .taken))
+returns c =
+    let P = c .before .before .before in
+    label-over _ (omega arith) ∙ sym (text-broken _ _ (P .read-state .ensures) (P .before .before .pre) (c .if1 .taken))
 
 returns-2 : tie.Need-returns-2
-returns-2 c = text-held _ _ (c .before .before .before .read-state .ensures) (c .before .before .before .before .before .pre) (c .if1 .left)
+returns-2 c =
+    let P = c .before .before .before in
+    text-held _ _ (P .read-state .ensures) (P .before .before .pre) (c .if1 .left)
 
 pub state-in-spec : {M : Type 1} → statement M
 state-in-spec = tie.close (tie.spec read-state-requires add-state returns returns-2)

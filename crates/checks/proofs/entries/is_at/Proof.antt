@@ -1,12 +1,11 @@
--- `checks::lookups::is_at` meets its contract: a ladder of one version begins what stands at the place where its first number is that version.
+-- `checks::entries::is_at` meets its contract: a ladder of one version begins what stands at the place where its first number is that version.
 use mathlib.Core.Path.{sym}
 use mathlib.Core.List.{[]}
 use native.Mathlib.Omega.{arith}
-use Rattle.checks.proofs.EntryLaws.{begins-end}
-use Rattle.checks.proofs.JudgeLaws.{begins-here}
+use Rattle.lists.proofs.SameLaws.{begins-end, begins-here}
 use borrow.Author.Needs.{needs}
-use Rattle.checks.proofs.lookups.is_at.Statement.{statement}
-use Rattle.checks.proofs.lookups.is_at.Tie as tie
+use Rattle.checks.proofs.entries.is_at.Statement.{statement}
+use Rattle.checks.proofs.entries.is_at.Tie as tie
 
 returns : tie.Need-returns
 returns c = let a = c .before .args in sym (begins-end (a .version) [] (a .wanted .now) (a .i) (omega arith))

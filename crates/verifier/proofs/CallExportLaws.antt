@@ -1,0 +1,169 @@
+-- Laws of a call over state texts (rules/specs/Calls.antt), be it a search or monitoring: the state that a text says, and the answer as one number.
+use mathlib.Core.Path.{_≡_, refl, sym, ap, _∙_}
+use mathlib.Core.Bool.{Bool, true, false}
+use mathlib.Core.List.{[]}
+use mathlib.Core.Option.{Option, none, some, Option·elim, Option·getD, Option·map, Option·some-injective}
+use Prim.Native.Nat.{ℕ, _+_, _*_, _^_, _≤_, _<_}
+use native.Mathlib.Omega.{arith}
+use lib.Dec.{leb}
+use lib.ListN.{length}
+use borrow.Author.Tests.{le-leb, lt-leb}
+use Rattle.lists.specs.Choice.{provided, choose}
+use Rattle.lists.specs.Lists.{Bytes, every}
+use Rattle.lists.proofs.ListLaws.{bind-some, test-some, choose-true, choose-false}
+use Rattle.rules.specs.Limits.{labelLimit, stateTextLimit}
+use Rattle.rules.specs.State.{State, isValid}
+use Rattle.rules.specs.StateText.{readState, writeState, readStateLines, readStateText}
+use Rattle.rules.specs.Refusals.{Inputs, Call, Judgement, refused, passed, validState, judge}
+use Rattle.rules.specs.Calls.{numberOf, nextState, valueOf, writtenFirst, textJudged, roomJudged, textOf, textAfter, answerWord}
+use Rattle.rules.proofs.StateTextLaws.{state-short}
+use Rattle.rules.proofs.RefusalLaws.{sixteen-numbers}
+use Rattle.rules.proofs.NextStateLaws.{state-valid}
+use Rattle.lines.specs.Line.{readLines}
+use Rattle.inputs.specs.declared.state.State.{State as StateBlock}
+use Rattle.inputs.specs.declared.state.NumberedState.{NumberedState as NumberedBlock}
+use Rattle.inputs.specs.State.{blockOf, numberedBlock, roomIsZero, stateOf}
+use Rattle.inputs.specs.StateReader.{orRefused}
+use Rattle.inputs.specs.StateWriter.{textFor}
+use Rattle.inputs.proofs.StateBlockLaws.{valid-some, block-state, block-stands}
+use Rattle.inputs.proofs.StateReaderLaws.{text-read}
+use Rattle.checks.specs.Calls.{blockAfter}
+
+-- ---- the state that a text says
+
+-- a struct whose label is too long stands for no state
+pub label-over : (b : StateBlock) → labelLimit < b .length → stateOf b ≡ none
+unfolding stateOf roomIsZero every provided
+label-over b h = rw (lt-leb (b .length) labelLimit h) refl
+
+-- a state that was read is valid
+read-valid : (text : Bytes) (s : State) → readState text ≡ some s → isValid s ≡ true
+unfolding readState
+read-valid text s e =
+    let (ls, _, e1) = bind-some (readLines text) _ s e in
+    let (st, _, e2) = bind-some (readStateLines ls) _ s e1 in
+    let (v, e3) = test-some (isValid st) (some st) s e2 in
+    ap isValid (sym (Option·some-injective st s e3)) ∙ v
+
+module _ (text : Bytes) (r : NumberedBlock) (e : r ≡ numberedBlock (readStateText text)) (l : length text ≤ stateTextLimit) where
+  -- what was read, from the state that the text says
+  read-as : (o : Option State) → readState text ≡ o → r ≡ numberedBlock (orRefused o)
+  read-as o q = e ∙ ap numberedBlock (text-read text l ∙ ap orRefused q)
+
+  -- a number says that it says none
+  pub text-broken : (r .number ≡ 0 → ⊥) → readState text ≡ none
+  unfolding numberedBlock orRefused Option·elim
+  text-broken z = go (readState text) refl
+    where
+      go : (o : Option State) → readState text ≡ o → o ≡ none
+      go none q = refl
+      go (some s) q = absurd (z (ap (λ (x : NumberedBlock). x .number) (read-as (some s) q)))
+
+  -- and else the struct stands for it
+  pub text-held : r .number ≡ 0 → stateOf (r .state) ≡ readState text
+  unfolding numberedBlock orRefused Option·elim
+  text-held z = go (readState text) refl
+    where
+      go : (o : Option State) → readState text ≡ o → stateOf (r .state) ≡ readState text
+      go none q = absurd (three (sym (ap (λ (x : NumberedBlock). x .number) (read-as none q)) ∙ z))
+        where
+          three : _≡_ {A = ℕ} 3 0 → ⊥
+          three h = omega (arith, h)
+      go (some s) q = ap (λ (x : NumberedBlock). stateOf (x .state)) (read-as (some s) q) ∙ block-state s (read-valid text s q) ∙ sym q
+
+-- ---- what came of a call
+
+-- one number, and the bytes lent for the new text afterwards
+abbrev pub Answers : Bytes → Judgement → ℕ → Bytes → Type 0
+Answers newText j word newText′ = (word ≡ answerWord j) × (newText′ ≡ textAfter newText j)
+
+-- a refusal is its number, and nothing is written
+pub refusal-answered : (newText : Bytes) (j : Judgement) (k : ℕ) → j ≡ refused k → Answers newText j k newText
+unfolding answerWord numberOf valueOf textOf textAfter writtenFirst Option·elim
+refusal-answered newText j k e = rw e (omega arith, refl)
+
+-- the text of a valid state is written where there is room
+text-for : (s : State) (lent : Bytes) → isValid s ≡ true → stateTextLimit ≤ length lent → textFor (blockOf s) lent ≡ some (writeState s)
+unfolding textFor
+text-for s lent v l =
+    choose-true (leb stateTextLimit (length lent)) _ _ (le-leb stateTextLimit (length lent) l) ∙ ap (Option·map writeState) (block-stands s v)
+
+-- a text that is written is not too long
+pub text-short : (b : StateBlock) (lent : Bytes) (n : ℕ) → n ≡ length (Option·getD (textFor b lent) []) → n ≤ stateTextLimit
+unfolding textFor choose
+text-short b lent n e = rw e (go (leb stateTextLimit (length lent)) (validState (stateOf b)) refl)
+  where
+    go : (t : Bool) (o : Option State) → validState (stateOf b) ≡ o
+        → length (Option·getD (choose t (λ _. Option·map writeState o) (λ _. none)) []) ≤ stateTextLimit
+    go true (some s) q = state-short s (valid-some (stateOf b) s q .1)
+    go true none q = omega arith
+    go false o q = omega arith
+
+module _ (text newText : Bytes) (j : Judgement) where
+  -- a judgement, where the texts fit
+  abbrev pub judged : Judgement
+  judged = textJudged text (roomJudged newText j)
+
+  -- the text of the state is too long
+  pub text-refused : stateTextLimit < length text → judged ≡ refused 1
+  unfolding textJudged
+  text-refused h = choose-false (leb (length text) stateTextLimit) _ _ (lt-leb (length text) stateTextLimit h)
+
+  -- else there must be room for the new one
+  text-fits : length text ≤ stateTextLimit → judged ≡ roomJudged newText j
+  unfolding textJudged
+  text-fits l = choose-true (leb (length text) stateTextLimit) _ _ (le-leb (length text) stateTextLimit l)
+
+  -- there is too little
+  pub room-refused : length text ≤ stateTextLimit → length newText < stateTextLimit → judged ≡ refused 1
+  unfolding roomJudged
+  room-refused l h = text-fits l ∙ choose-false (leb stateTextLimit (length newText)) _ _ (lt-leb stateTextLimit (length newText) h)
+
+  -- there is room
+  texts-fit : length text ≤ stateTextLimit → stateTextLimit ≤ length newText → judged ≡ j
+  unfolding roomJudged
+  texts-fit l m = text-fits l ∙ choose-true (leb stateTextLimit (length newText)) _ _ (le-leb stateTextLimit (length newText) m)
+
+-- 0 is the number of no refusal
+call-accepted : (s : Option State) (i : Inputs) → numberOf (judge s i) ≡ 0 → (c : Call) × (judge s i ≡ passed c)
+unfolding numberOf
+call-accepted s i z = go (judge s i) refl
+  where
+    go : (j : Judgement) → judge s i ≡ j → (c : Call) × (judge s i ≡ passed c)
+    go (refused k) q = let n = sixteen-numbers s i k q in absurd (not-zero k (n .0) (sym (ap numberOf q) ∙ z))
+      where
+        not-zero : (k : ℕ) → 1 ≤ k → k ≡ 0 → ⊥
+        not-zero k h e = omega (arith, h, e)
+    go (passed c) q = (c, q)
+
+module _ (text newText : Bytes) (i : Inputs) (l : length text ≤ stateTextLimit) (m : stateTextLimit ≤ length newText)
+    (b : StateBlock) (s : stateOf b ≡ readState text) where
+  -- where the texts fit, the call is judged as the rules say of the state
+  pub call-judged : judged text newText (judge (readState text) i) ≡ judge (stateOf b) i
+  call-judged = texts-fit text newText _ l m ∙ ap (λ (o : Option State). judge o i) (sym s)
+
+  module _ (number : ℕ) (e : number ≡ numberOf (judge (stateOf b) i)) where
+    -- a number that is not 0 is a refusal
+    pub call-refused : (number ≡ 0 → ⊥) → Answers newText (judged text newText (judge (readState text) i)) number newText
+    unfolding numberOf
+    call-refused z = refusal-answered newText _ number (call-judged ∙ go (judge (stateOf b) i) refl)
+      where
+        go : (j : Judgement) → judge (stateOf b) i ≡ j → j ≡ refused number
+        go (refused k) q = ap refused (sym (e ∙ ap numberOf q))
+        go (passed c) q = absurd (z (e ∙ ap numberOf q))
+
+    -- 0 is acceptance: the lengths of the value and of the new text are told, and the text is written
+    pub call-answered : number ≡ 0 → (new : StateBlock) → new ≡ blockAfter b (judge (stateOf b) i) → (v n : ℕ) (newText′ : Bytes)
+        → v ≡ length (Option·getD (valueOf (judge (stateOf b) i)) []) → n ≡ length (Option·getD (textFor new newText) [])
+        → newText′ ≡ writtenFirst newText (textFor new newText)
+        → Answers newText (judged text newText (judge (readState text) i)) (v * 2 ^ 8 + n * 2 ^ 32) newText′
+    unfolding answerWord textOf textAfter blockAfter
+    call-answered z new f v n newText′ g h k =
+        let j : Judgement = judge (stateOf b) i in
+        let (c, q) = call-accepted (stateOf b) i (sym e ∙ z) in
+        let t : textFor new newText ≡ textOf j =
+        ap (λ (x : StateBlock). textFor x newText) (f ∙ ap (blockAfter b) q) ∙ text-for (nextState c) newText (state-valid (stateOf b) i c q) m
+        ∙ sym (ap textOf q) in
+        let d : n ≡ length (Option·getD (textOf j) []) = h ∙ ap (λ (o : Option Bytes). length (Option·getD o [])) t in
+        let w : v * 2 ^ 8 + n * 2 ^ 32 ≡ answerWord j = omega (arith, e, z, g, d) in
+        (w ∙ ap answerWord (sym call-judged), k ∙ ap (writtenFirst newText) t ∙ ap (textAfter newText) (sym call-judged))
