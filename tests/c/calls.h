@@ -1,6 +1,6 @@
 /*
- * The calls that are compared and that kt.h lacks, with the numbers and byte strings that their definitions have. A library
- * may lack them; they are null then, and not called. What the calls are given stands here once.
+ * The call that is compared and that kt.h lacks, with the numbers and byte strings that its definition has. A library may lack
+ * it; it is null then, and not called. What the calls are given stands here once.
  */
 #ifndef CALLS_H
 #define CALLS_H
@@ -16,7 +16,6 @@
 #define OUTPUT uint8_t *output, size_t output_length
 #define NEW_STATE uint8_t *new_state, size_t new_state_length
 
-uint64_t kt_monitor(INPUTS, SIGNED, NEW_STATE) __attribute__((weak));
 uint64_t kt_signed_text(uint32_t kind, INPUTS, OUTPUT, uint64_t offset) __attribute__((weak));
 
 #endif

@@ -105,8 +105,6 @@ static void ladders(void)
     ladder(UINT32_MAX, longest, 0, "no ladder of 2^32 - 1");
 }
 
-#define EXAMPLE "examples/search/"
-
 struct file {
     size_t length;
     uint8_t bytes[4096];
@@ -126,39 +124,67 @@ static struct file contents(const char *path)
     return all;
 }
 
+/* The example that is called. */
 static struct file response, configuration, state, vrf_outputs, signed_text, value, next_state;
 static uint8_t identifier[KT_IDENTIFIER_LENGTH];
 static uint64_t clock_now;
 
-/* What is asked: the word search, the identifier in hex and the clock. */
-static void read_request(void)
+/* A file of an example. */
+static struct file example(const char *name, const char *file)
 {
-    struct file request = contents(EXAMPLE "request");
-    char hex[2 * KT_IDENTIFIER_LENGTH + 1] = "";
-    int read = sscanf((const char *)request.bytes, "search\t%32[0-9a-f]\t%" SCNu64, hex, &clock_now);
-    expect(read == 2, "the request of the example");
+    char path[64];
+    snprintf(path, sizeof path, "examples/%s/%s", name, file);
+    return contents(path);
+}
+
+/* What is asked: a word, the identifier in hex and the clock. */
+static void read_request(const char *name, const char *word)
+{
+    struct file request = example(name, "request");
+    char kind[16] = "", hex[2 * KT_IDENTIFIER_LENGTH + 1] = "";
+    int read = sscanf((const char *)request.bytes, "%15[a-z]\t%32[0-9a-f]\t%" SCNu64, kind, hex, &clock_now);
+    expect(read == 3 && strcmp(kind, word) == 0, "the request of the example");
     for (size_t i = 0; i < KT_IDENTIFIER_LENGTH; i++)
         expect(sscanf(hex + 2 * i, "%2" SCNx8, &identifier[i]) == 1, "the identifier of the example");
 }
 
-/* Lends so many of the marked bytes, and checks the answer and every byte. */
-static void search(int number, size_t output_room, size_t state_room, const char *what)
+/* An example, read from the top of the repository: its kind is the word. */
+static void read_example(const char *name, const char *word)
 {
-    static uint8_t output[KT_VALUE_LIMIT], output_after[KT_VALUE_LIMIT];
-    static uint8_t new_state[KT_STATE_TEXT_LENGTH], new_state_after[KT_STATE_TEXT_LENGTH];
+    response = example(name, "response");
+    configuration = example(name, "settings");
+    state = example(name, "state");
+    vrf_outputs = example(name, "sheet");
+    signed_text = example(name, "signed");
+    next_state = example(name, "state.new");
+    read_request(name, word);
+}
+
+#define GIVEN                                                                                               \
+    response.bytes, response.length, configuration.bytes, configuration.length, state.bytes, state.length, \
+        identifier, sizeof identifier, clock_now, vrf_outputs.bytes, vrf_outputs.length,                   \
+        signed_text.bytes, signed_text.length
+
+static uint8_t output[KT_VALUE_LIMIT], output_after[KT_VALUE_LIMIT];
+static uint8_t new_state[KT_STATE_TEXT_LENGTH], new_state_after[KT_STATE_TEXT_LENGTH];
+
+/* All bytes marked, and what they must be after an acceptance, or a refusal. */
+static void mark(int accepted)
+{
     memset(output, MARK, sizeof output);
     memset(output_after, MARK, sizeof output_after);
     memset(new_state, MARK, sizeof new_state);
     memset(new_state_after, MARK, sizeof new_state_after);
-    int accepted = number == KT_ACCEPTED;
     if (accepted) {
         memcpy(output_after, value.bytes, value.length);
         memcpy(new_state_after, next_state.bytes, next_state.length);
     }
-    uint64_t answer = kt_search(response.bytes, response.length, configuration.bytes, configuration.length,
-                                state.bytes, state.length, identifier, sizeof identifier, clock_now,
-                                vrf_outputs.bytes, vrf_outputs.length, signed_text.bytes, signed_text.length,
-                                output, output_room, new_state, state_room);
+}
+
+/* Checks an answer and every byte. */
+static void answered(uint64_t answer, int number, const char *what)
+{
+    int accepted = number == KT_ACCEPTED;
     expect(KT_NUMBER(answer) == number, what);
     expect(KT_VALUE_LENGTH(answer) == (accepted ? value.length : 0), what);
     expect(KT_STATE_LENGTH(answer) == (accepted ? next_state.length : 0), what);
@@ -166,27 +192,62 @@ static void search(int number, size_t output_room, size_t state_room, const char
     expect(memcmp(new_state, new_state_after, sizeof new_state) == 0, what);
 }
 
-/* The search of the examples, run from the top of the repository. */
+/* Lends so many of the marked bytes. */
+static void search(int number, size_t output_room, size_t state_room, const char *what)
+{
+    mark(number == KT_ACCEPTED);
+    answered(kt_search(GIVEN, output, output_room, new_state, state_room), number, what);
+}
+
+static void monitor(int number, size_t state_room, const char *what)
+{
+    mark(number == KT_ACCEPTED);
+    answered(kt_monitor(GIVEN, new_state, state_room), number, what);
+}
+
+/* Makes a call with each identifier that is off by one bit. */
+static void with_other_identifiers(void (*call)(void))
+{
+    for (size_t bit = 0; bit < 8 * sizeof identifier; bit++) {
+        uint8_t flipped = (uint8_t)(1 << bit % 8);
+        identifier[bit / 8] ^= flipped;
+        call();
+        identifier[bit / 8] ^= flipped;
+    }
+}
+
+static void search_with_another_identifier(void)
+{
+    search(KT_REFUSED_REQUEST, KT_VALUE_LIMIT, KT_STATE_TEXT_LENGTH, "a search with another identifier");
+}
+
+static void monitor_with_another_identifier(void)
+{
+    monitor(KT_REFUSED_REQUEST, KT_STATE_TEXT_LENGTH, "monitoring with another identifier");
+}
+
+/* The search of the examples. */
 static void searches(void)
 {
-    response = contents(EXAMPLE "response");
-    configuration = contents(EXAMPLE "settings");
-    state = contents(EXAMPLE "state");
-    vrf_outputs = contents(EXAMPLE "sheet");
-    signed_text = contents(EXAMPLE "signed");
-    value = contents(EXAMPLE "value");
-    next_state = contents(EXAMPLE "state.new");
-    read_request();
+    read_example("search", "search");
+    value = example("search", "value");
     search(KT_ACCEPTED, KT_VALUE_LIMIT, KT_STATE_TEXT_LENGTH, "a search");
     search(KT_ACCEPTED, value.length, KT_STATE_TEXT_LENGTH, "a search with just enough room for the value");
     search(KT_REFUSED_ROOM, value.length - 1, KT_STATE_TEXT_LENGTH, "a search with too little room for the value");
     search(KT_REFUSED_LENGTH, KT_VALUE_LIMIT, KT_STATE_TEXT_LENGTH - 1, "a search with too little room for the new state");
-    for (size_t bit = 0; bit < 8 * sizeof identifier; bit++) {
-        uint8_t flipped = (uint8_t)(1 << bit % 8);
-        identifier[bit / 8] ^= flipped;
-        search(KT_REFUSED_REQUEST, KT_VALUE_LIMIT, KT_STATE_TEXT_LENGTH, "a search with another identifier");
-        identifier[bit / 8] ^= flipped;
-    }
+    with_other_identifiers(search_with_another_identifier);
+    monitor(KT_REFUSED_REQUEST, KT_STATE_TEXT_LENGTH, "a search's response to monitoring");
+}
+
+/* The monitoring of the examples: it yields no value. */
+static void monitorings(void)
+{
+    read_example("monitoring", "monitor");
+    value.length = 0;
+    monitor(KT_ACCEPTED, KT_STATE_TEXT_LENGTH, "monitoring");
+    monitor(KT_REFUSED_LENGTH, KT_STATE_TEXT_LENGTH - 1, "monitoring with too little room for the new state");
+    with_other_identifiers(monitor_with_another_identifier);
+    search(KT_REFUSED_REQUEST, KT_VALUE_LIMIT, KT_STATE_TEXT_LENGTH, "a monitoring response to a search");
 }
 
 int main(void)
@@ -194,6 +255,7 @@ int main(void)
     sha256();
     ladders();
     searches();
+    monitorings();
     if (failures == 0)
         puts("kt_test: all as kt.h says");
     return failures != 0;

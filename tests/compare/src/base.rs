@@ -215,7 +215,7 @@ pub fn searches() -> Vec<Base> {
 }
 
 /// Monitoring of several shapes: pairs on and off the frontier, pairs that meet, one dominated by
-/// another.
+/// another, one on another's path.
 pub fn monitorings() -> Vec<Base> {
     let ask = |name: &str, plan: &Plan, old_size, pairs: &[(u64, u32)], size| {
         let log = plan.log();
@@ -223,6 +223,7 @@ pub fn monitorings() -> Vec<Base> {
         Base::new(name, Kind::Monitor, &log, question)
     };
     let fourteen = Plan::new(b"pump", 14, &[(0, 0), (3, 2), (6, 3), (8, 5)]);
+    let eight = Plan::new(b"vane", 8, &[(0, 5)]);
     vec![
         ask(
             "monitoring of 14 after 10",
@@ -253,6 +254,41 @@ pub fn monitorings() -> Vec<Base> {
             37,
             &[(20, 2), (24, 1), (35, 19)],
             60,
+        ),
+        ask(
+            "monitoring of 8, a pair dominated by a farther one",
+            &eight,
+            7,
+            &[(0, 5), (2, 2)],
+            8,
+        ),
+        ask(
+            "monitoring of 8, a pair dominated by a nearer one",
+            &eight,
+            6,
+            &[(3, 2), (4, 5)],
+            8,
+        ),
+        ask(
+            "monitoring of 8, three pairs that meet",
+            &eight,
+            7,
+            &[(1, 1), (4, 5), (6, 2)],
+            8,
+        ),
+        ask(
+            "monitoring of 8, larger versions on the path",
+            &eight,
+            8,
+            &[(4, 1), (5, 2), (7, 5)],
+            8,
+        ),
+        ask(
+            "monitoring of 8, smaller versions on the path",
+            &eight,
+            8,
+            &[(4, 5), (5, 2), (7, 1)],
+            8,
         ),
     ]
 }

@@ -3,7 +3,7 @@
 use honest_log::model::Kind;
 pub use second::program::Files;
 
-#[derive(Clone, Debug)]
+#[derive(Clone, Debug, PartialEq, Eq)]
 pub struct Inputs {
     pub kind: Kind,
     pub identifier: Vec<u8>,
@@ -36,7 +36,7 @@ pub struct Acceptance {
 }
 
 /// A call of the library; the program is given the same inputs as files.
-#[derive(Clone, Debug)]
+#[derive(Clone, Debug, PartialEq, Eq)]
 pub struct Case {
     /// What it is, in a few words.
     pub name: String,

@@ -3,11 +3,11 @@
 
 use crate::base::Base;
 use crate::case::Case;
-use crate::damage::{patterns, FAMILIES, LOGS};
+use crate::damage::{lost, many_versions, patterns, FAMILIES, LOGS};
 use crate::honest::case;
 use crate::honest::chain::Chain;
 use crate::honest::lengths::{monitoring_of_length, search_of_length};
-use crate::honest::maps;
+use crate::honest::{long_paths, maps};
 use crate::limits;
 use crate::{random, several};
 use honest_log::Random;
@@ -15,6 +15,9 @@ use honest_log::Random;
 /// How many cases come from one chain, and from one base.
 const CHAIN_LENGTH: u64 = 24;
 const BASE_USES: u64 = 12;
+/// The most long paths of a base, and of a call that is made once.
+const FEW_PATHS: u64 = 2;
+const MANY_PATHS: u64 = 8;
 
 pub struct Stream {
     random: Random,
@@ -55,10 +58,10 @@ impl Stream {
     /// Another base when one is used up, with a random map or from later in a chain of its own.
     fn renew_base(&mut self) {
         if self.base_left == 0 {
-            let base = if self.random.one_in(3) {
-                maps::random(&mut self.random)
-            } else {
-                self.later_call()
+            let base = match self.random.below(12) {
+                0..4 => maps::random(&mut self.random),
+                4 => long_paths::random(&mut self.random, FEW_PATHS),
+                _ => self.later_call(),
             };
             self.other = std::mem::replace(&mut self.base, base);
             self.base_left = BASE_USES;
@@ -94,6 +97,12 @@ impl Stream {
         (at < cases.len()).then(|| cases.swap_remove(at))
     }
 
+    /// Monitoring of many pairs with long paths.
+    fn many_paths(&mut self) -> Case {
+        let base = long_paths::random(&mut self.random, MANY_PATHS);
+        Case::of(&base.name, 0, &base.exchange)
+    }
+
     /// A long answer, mostly to a search, up to what the library reads.
     fn large(&mut self) -> Case {
         let length = match self.random.below(3) {
@@ -120,12 +129,15 @@ impl Iterator for Stream {
             }
             self.renew_base();
             let made = match choice {
-                350..650 => self.damaged(),
-                650..700 => self.of_another_log(),
+                350..640 => self.damaged(),
+                640..690 => self.of_another_log(),
+                690..700 => lost::random(&self.base, &mut self.random),
                 700..720 => Some(patterns::random(&mut self.random)),
                 720..750 => Some(several::any(&self.base, &mut self.random)),
                 750..800 => several::two(&self.base, &mut self.random),
-                800..998 => Some(random::changed(&self.base, &self.other, &mut self.random)),
+                800..996 => Some(random::changed(&self.base, &self.other, &mut self.random)),
+                996 => Some(many_versions::random(&mut self.random)),
+                997 => Some(self.many_paths()),
                 _ => Some(self.large()),
             };
             if made.is_some() {

@@ -6,6 +6,8 @@ use compare::small::{blocks, LONGEST, MOST_BLOCKS};
 use compare::text::Lines;
 use std::collections::{BTreeMap, BTreeSet};
 
+mod names;
+
 /// How many numbers there are, acceptance aside.
 const NUMBERS: u8 = 16;
 
@@ -25,10 +27,6 @@ fn assert_at_least(counts: &BTreeMap<u8, usize>, least: usize) {
         assert!(count >= least, "{count} cases of number {number}");
     }
     assert_eq!(counts.len(), usize::from(NUMBERS) + 1);
-}
-
-fn text(case: &Case) -> String {
-    format!("{case:?}")
 }
 
 #[test]
@@ -65,6 +63,11 @@ fn greatest(cases: &[Case], number: impl Fn(&Case) -> usize) -> usize {
     cases.iter().filter(accepted).map(number).max().unwrap_or(0)
 }
 
+/// The steps of a response.
+fn steps(case: &Case) -> usize {
+    Lines::read(&case.inputs.response).of("step").len()
+}
+
 /// The most siblings in a lookup of a response.
 fn siblings(case: &Case) -> usize {
     let lines = Lines::read(&case.inputs.response);
@@ -91,6 +94,7 @@ fn accepted_cases_reach_every_limit() {
     assert_eq!(inputs(|inputs| inputs.signed.len()), limits::SIGNED);
     assert_eq!(inputs(|inputs| inputs.sheet.len()), limits::SHEET);
     assert_eq!(greatest(&cases, siblings), limits::SIBLINGS);
+    assert_eq!(greatest(&cases, steps), limits::SHEET / limits::RECORD);
     let acceptance =
         |number: fn(&Acceptance) -> usize| greatest(&cases, |case| number(accepted(case)));
     assert_eq!(
@@ -108,75 +112,31 @@ fn accepted_cases_reach_every_limit() {
     );
 }
 
-/// The searches among paper 01's examples that a program runs and its easy errors, and the bounds of times, by number.
-const EXAMPLES: [(u8, &[&str]); 10] = [
-    (
-        0,
-        &[
-            "ladder of 2^32 - 2 by 64 versions",
-            "search with n = 11 and m = 11",
-            "search of 13 after 10: last time at clock + max_ahead",
-            "search of 13 after 10: last time at clock - max_behind",
-            "search at time 0: last time at clock - max_behind",
-            "search at time 2^64 - 1: last time at clock + max_ahead",
-            "search of 13 after 10: kept time at an old entry's",
-            "search of 13 after 10: kept time at a new entry's",
-            "search of 13 after 10: entry 12's time as early as may be",
-            "48 pairs and old position",
-        ],
-    ),
-    (6, &["search of 13 after 10: identifier off by one bit"]),
-    (7, &["search with n = 10 and m = 11"]),
-    (
-        8,
-        &[
-            "ladder of 2^32 - 2: target 2^32 - 1",
-            "t = 2^32 - 1 with a ladder of its own",
-        ],
-    ),
-    (9, &["search of 13 after 10: 1 spare nodes of zero bytes"]),
-    (
-        11,
-        &[
-            "search of 13 after 10: last time one past clock + max_ahead",
-            "search of 13 after 10: last time one before clock - max_behind",
-            "search at time 0: last time one before clock - max_behind",
-            "search at time 2^64 - 1: last time one past clock + max_ahead",
-            "search of 13 after 10: kept time one before an old entry's",
-            "search of 13 after 10: kept time one after a new entry's",
-            "search of 13 after 10: entry 12's time one too early",
-        ],
-    ),
-    (
-        12,
-        &[
-            "nl whose other leaf is the searched one",
-            "nl whose other leaf stands elsewhere",
-        ],
-    ),
-    (
-        13,
-        &[
-            "version 1 is there and 0 is said to be the last",
-            "in above t at an early entry",
-        ],
-    ),
-    (14, &["search with kept value 0 contradicted"]),
-    (16, &["48 pairs and new position"]),
-];
+/// Asserts that there are cases of a kind with these names and numbers.
+fn assert_answered(cases: &[Case], kind: &str, names: &[(u8, &[&str])]) {
+    for (number, names) in names {
+        for name in *names {
+            let case = cases.iter().find(|case| case.name == *name);
+            let case = case.unwrap_or_else(|| panic!("no case {name}"));
+            let answer = case.answer.as_ref().map(|answer| answer.number());
+            assert_eq!(answer, Some(*number), "{name}");
+            assert_eq!(case.inputs.kind.word(), kind, "{name}");
+        }
+    }
+}
 
 #[test]
 fn the_papers_examples_are_cases() {
+    assert_answered(&compare::named(), "search", &names::EXAMPLES);
+}
+
+#[test]
+fn monitoring_of_every_kind_is_a_case() {
     let cases = compare::named();
-    let find = |name: &str| cases.iter().find(|case| case.name == name);
-    for (number, names) in EXAMPLES {
-        for name in names {
-            let case = find(name).unwrap_or_else(|| panic!("no case {name}"));
-            let answer = case.answer.as_ref().map(|answer| answer.number());
-            assert_eq!(answer, Some(number), "{name}");
-            assert_eq!(case.inputs.kind.word(), "search", "{name}");
-        }
-    }
+    assert_answered(&cases, "monitor", &names::MONITORINGS);
+    let first = |name: &str| cases.iter().find(|case| case.name == name);
+    let from_new = first("monitoring of 14 from new").expect("it is a case");
+    assert_eq!(from_new.inputs.sheet, []);
 }
 
 #[test]
@@ -189,14 +149,13 @@ fn names_are_distinct() {
 
 #[test]
 fn fixed_cases_are_the_same_in_every_run() {
-    let same = |one: &[Case], two: &[Case]| one.iter().map(text).eq(two.iter().map(text));
-    assert!(same(&compare::named(), &compare::named()));
-    assert!(same(&compare::small(), &compare::small()));
+    assert!(compare::named() == compare::named());
+    assert!(compare::small() == compare::small());
 }
 
 #[test]
 fn seeds_decide_stream_and_folders() {
-    let stream = |seed: u64| compare::stream(seed).take(400).map(|case| text(&case));
+    let stream = |seed: u64| compare::stream(seed).take(400);
     assert!(stream(7).eq(stream(7)));
     assert!(!stream(7).eq(stream(8)));
     let folders = |seed: u64| {
@@ -211,8 +170,12 @@ fn seeds_decide_stream_and_folders() {
 }
 
 #[test]
-fn the_stream_meets_every_number() {
+fn the_stream_meets_every_number_and_large_monitoring() {
     let known = |case: &Case| case.answer.is_some();
     let cases: Vec<Case> = compare::stream(3).filter(known).take(4_000).collect();
     assert_at_least(&counts(&cases), 1);
+    for part in ["that asks for", "random long paths", " lost at "] {
+        let named = |case: &&Case| case.name.contains(part);
+        assert!(cases.iter().filter(named).count() > 1, "{part}");
+    }
 }

@@ -14,7 +14,10 @@ pub mod ladders;
 pub mod leaves;
 pub mod lengths;
 pub mod lines;
+pub mod long_paths;
 pub mod lookups;
+pub mod lost;
+pub mod many_versions;
 pub mod paths;
 pub mod patterns;
 pub mod rooms;
@@ -176,9 +179,10 @@ pub const FAMILIES: [fn(&Base) -> Vec<Damage>; 18] = [
     rooms::damages,
 ];
 
-/// The kinds of damage for which the log itself is another one.
-pub const LOGS: [fn(&Base) -> Vec<Case>; 5] = [
+/// The kinds of damage for which the log itself, or what it is asked, is another one.
+pub const LOGS: [fn(&Base) -> Vec<Case>; 6] = [
     sizes::cases,
+    shape_monitor::cases,
     times::cases,
     leaves::cases,
     ladders::cases,
@@ -234,6 +238,10 @@ pub fn fixed() -> Vec<Case> {
     let mut list = leaves::fixed_cases();
     list.extend(walks());
     list.extend(patterns::fixed_cases());
+    list.extend(lost::fixed_cases());
+    list.extend(long_paths::fixed_cases());
+    list.extend(many_versions::fixed_cases());
+    list.extend(shape_monitor::fixed_cases());
     list.extend(rooms::fixed_cases());
     for (at, base) in base::fixed().iter().enumerate() {
         let whole = [0, 3, 6, 9].contains(&at);

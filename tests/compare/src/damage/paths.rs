@@ -177,13 +177,28 @@ fn prefix_roots(entry: usize, shown: &Entry) -> Vec<Damage> {
     list
 }
 
-/// Commitments of steps, and what the target's is computed from.
+/// The lookups of a version.
+fn lookups_of(base: &Base, version: u32) -> Vec<&Lookup> {
+    let entries = base.exchange.response.entries.iter();
+    let lookups = entries.flat_map(|entry| &entry.lookups);
+    lookups.filter(|lookup| lookup.version == version).collect()
+}
+
+/// Whether a lookup says that its version's leaf is there.
+fn is_there(lookup: &&Lookup) -> bool {
+    lookup.result == LookupResult::Inclusion
+}
+
+/// Commitments of steps, which matter for leaves that are there, and what the target's is computed
+/// from.
 fn commitments(base: &Base) -> Vec<Damage> {
     let mut list = Vec::new();
     for (at, step) in base.exchange.response.steps.iter().enumerate() {
         if step.commitment.is_some() {
+            let there = lookups_of(base, step.version).iter().any(is_there);
+            let number = if there { 12 } else { 0 };
             let name = format!("commitment of {} off by a bit", step.version);
-            list.on_exchange(12, name, move |exchange| {
+            list.on_exchange(number, name, move |exchange| {
                 if let Some(commitment) = &mut exchange.response.steps[at].commitment {
                     commitment[17] ^= 4;
                 }
@@ -257,23 +272,13 @@ fn targets(base: &Base) -> Vec<Damage> {
 fn outputs(base: &Base) -> Vec<Damage> {
     let mut list = Vec::new();
     for (at, (version, _)) in base.exchange.sheet.iter().enumerate() {
-        let lookups = base
-            .exchange
-            .response
-            .entries
-            .iter()
-            .flat_map(|entry| &entry.lookups);
-        let lookups: Vec<&Lookup> = lookups
-            .filter(|lookup| lookup.version == *version)
-            .collect();
+        let lookups = lookups_of(base, *version);
         let depth = lookups
             .iter()
             .map(|lookup| lookup.siblings.len())
             .max()
             .unwrap_or(0);
-        let there = lookups
-            .iter()
-            .any(|lookup| lookup.result == LookupResult::Inclusion);
+        let there = lookups.iter().any(is_there);
         for bit in [0, depth.saturating_sub(1), depth, 255] {
             let output = flipped(&base.exchange.sheet[at].1, bit);
             let becomes_other = lookups.iter().any(|lookup| match lookup.result {

@@ -67,7 +67,7 @@ fn more_steps() -> Vec<Damage> {
 }
 
 /// Entries left out, doubled, swapped, at another position.
-fn entries(base: &Base) -> Vec<Damage> {
+pub fn entries(base: &Base) -> Vec<Damage> {
     let mut list = Vec::new();
     let count = base.response().entries.len();
     for at in 0..count {

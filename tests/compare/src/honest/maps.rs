@@ -1,26 +1,33 @@
 //! Monitoring maps: empty and full, pairs that meet, pairs dominated by others, on and off the
 //! frontier, versions that fall as positions rise (paper 01, Monitoring).
 
-use super::accepted;
+use super::{accepted, monitored_versions};
 use crate::base::{question, Base, Plan};
 use crate::case::Case;
 use crate::limits;
 use honest_log::model::Kind;
 use honest_log::search_tree::frontier;
-use honest_log::{Log, Random, VrfRule};
+use honest_log::{ContentRule, Log, Random, VrfRule};
 
 pub fn cases() -> Vec<Case> {
     let mut list = shapes();
     list.extend(every_map());
     list.push(meeting());
+    list.extend(full());
     list
 }
+
+const RULE: ContentRule = ContentRule {
+    seed: 9,
+    shortest: 1,
+    longest: 4,
+};
 
 /// What a map is like, the old size and the pairs.
 type Map = (&'static str, u64, &'static [(u64, u32)]);
 
 /// Maps for a log of 60 entries that has one version more with every fourth entry.
-const MAPS: [Map; 18] = [
+const MAPS: [Map; 24] = [
     ("empty", 40, &[]),
     ("a pair at 0", 40, &[(0, 0)]),
     ("a pair on the frontier", 40, &[(31, 7)]),
@@ -30,14 +37,16 @@ const MAPS: [Map; 18] = [
     ("old versions on the frontier", 48, &[(31, 2), (47, 3)]),
     ("pairs that meet", 40, &[(32, 8), (36, 9)]),
     ("pairs that meet a third", 48, &[(32, 8), (36, 9), (47, 11)]),
+    ("pairs that meet a lesser", 48, &[(32, 8), (36, 9), (47, 2)]),
+    ("a larger version to the left", 40, &[(24, 6), (26, 1)]),
+    ("largest of three first", 40, &[(24, 6), (25, 3), (26, 1)]),
+    ("largest of three second", 40, &[(24, 3), (25, 6), (26, 1)]),
+    ("largest of three last", 40, &[(24, 1), (25, 3), (26, 6)]),
     ("a larger version under the path", 40, &[(16, 4), (20, 2)]),
-    ("a pair dominated all along", 40, &[(16, 2), (20, 5)]),
+    ("a pair dominated by a farther one", 40, &[(16, 4), (18, 2)]),
+    ("a pair dominated by a nearer one", 40, &[(19, 2), (20, 5)]),
+    ("a pair dominated midway", 40, &[(16, 2), (20, 5)]),
     ("a pair dominated later", 40, &[(16, 2), (18, 4), (24, 6)]),
-    (
-        "a larger version to the left",
-        40,
-        &[(24, 6), (25, 3), (26, 1)],
-    ),
     (
         "versions falling",
         40,
@@ -136,14 +145,18 @@ pub fn random(random: &mut Random) -> Base {
     let log = plan.log();
     let old_size = random.between(0, size);
     let one_in = random.between(1, old_size.max(1));
+    let kind = *random.pick(&[Kind::Search, Kind::Monitor, Kind::Monitor]);
+    let most = match kind {
+        Kind::Search => limits::PAIRS - 1,
+        Kind::Monitor => limits::PAIRS,
+    };
     let mut pairs: Vec<(u64, u32)> = Vec::new();
     for position in 0..old_size {
-        if random.one_in(one_in) && pairs.len() < limits::PAIRS - 1 {
+        if random.one_in(one_in) && pairs.len() < most {
             let greatest = log.greatest_version(b"wind", position + 1).unwrap_or(0);
             pairs.push((position, random.between(0, u64::from(greatest)) as u32));
         }
     }
-    let kind = *random.pick(&[Kind::Search, Kind::Monitor, Kind::Monitor]);
     let name = format!(
         "{} of {size} after {old_size} with {} random pairs",
         kind.word(),
@@ -174,4 +187,36 @@ fn meeting() -> Case {
         Kind::Monitor,
         question,
     )
+}
+
+/// What an order of versions is like, and the version of each pair by its number.
+type Order = (&'static str, fn(usize) -> usize);
+
+const ORDERS: [Order; 4] = [
+    ("rising", |number| number),
+    ("falling", |number| limits::PAIRS - 1 - number),
+    ("mixed", |number| 29 * number % limits::PAIRS),
+    ("far apart", |number| number << 7),
+];
+
+/// 48 pairs, each of another version, on the first entries and on every other one, with all that is
+/// looked up in the log from its beginning.
+fn full() -> Vec<Case> {
+    let mut list = Vec::new();
+    for (order, version) in ORDERS {
+        let versions: Vec<u32> = (0..limits::PAIRS)
+            .map(|number| version(number) as u32)
+            .collect();
+        let mut log = Log::new(VrfRule::Hashed { seed: 9 });
+        let additions = RULE.additions(b"mast", &monitored_versions(&versions));
+        log.append_run(1, &additions, 100);
+        for (apart, old_size, size) in [(1, 48, 48), (1, 48, 61), (2, 95, 95), (2, 95, 100)] {
+            let positions = (0..old_size).step_by(apart);
+            let pairs: Vec<(u64, u32)> = positions.zip(versions.iter().copied()).collect();
+            let name = format!("monitor of {size} after {old_size}, 48 pairs of versions {order}");
+            let question = question(&log, b"mast", old_size, &pairs, size);
+            list.push(accepted(name, &log, Kind::Monitor, question));
+        }
+    }
+    list
 }

@@ -3,12 +3,16 @@
 
 use crate::base::{self, Base};
 use crate::case::Case;
+use honest_log::ladder::monitoring_ladder;
 use honest_log::model::Kind;
 use honest_log::{Answer, Log, Question};
+use std::collections::BTreeSet;
 
 pub mod chain;
 pub mod extremes;
 pub mod lengths;
+pub mod long_paths;
+pub mod many_versions;
 pub mod maps;
 pub mod odd_trees;
 pub mod sizes;
@@ -33,6 +37,13 @@ pub fn accepted(name: impl Into<String>, log: &Log, kind: Kind, question: Questi
     Case::of(name, 0, &base.exchange)
 }
 
+/// All versions that monitoring looks up for pairs of some versions, rising.
+fn monitored_versions(versions: &[u32]) -> Vec<u32> {
+    let ladders = versions.iter().map(|version| monitoring_ladder(*version));
+    let all: BTreeSet<u32> = ladders.flatten().collect();
+    all.into_iter().collect()
+}
+
 /// All single calls and some chains.
 pub fn fixed() -> Vec<Case> {
     let mut list: Vec<Case> = base::fixed()
@@ -41,6 +52,8 @@ pub fn fixed() -> Vec<Case> {
         .collect();
     list.extend(sizes::cases());
     list.extend(maps::cases());
+    list.extend(long_paths::cases());
+    list.extend(many_versions::cases());
     list.extend(extremes::cases());
     list.extend(odd_trees::cases());
     list.extend(lengths::cases());

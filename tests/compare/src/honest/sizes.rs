@@ -1,6 +1,6 @@
 //! Log sizes around powers of two up to 2^40, with every kind of old size (paper 01, Trees).
 
-use super::{accepted, case};
+use super::accepted;
 use crate::base::{question, Plan};
 use crate::case::Case;
 use crate::limits;
@@ -159,32 +159,5 @@ fn longest() -> Vec<Case> {
             ));
         }
     }
-    list.push(many_paths());
     list
-}
-
-/// Pairs all over a log of equal entries, each with a long path, as many as a response has room
-/// for.
-fn many_paths() -> Case {
-    let mut log = Log::new(VrfRule::Hashed { seed: 6 });
-    let rule = ContentRule {
-        seed: 6,
-        shortest: 1,
-        longest: 8,
-    };
-    let size = limits::SIZE - 2;
-    log.append_run(1_000, &rule.additions(b"gear", &[0]), size);
-    let map = |count: u64| -> Vec<(u64, u32)> {
-        (0..count)
-            .map(|number| (size / count * number + number * number, 0))
-            .collect()
-    };
-    let answers = (1..=limits::PAIRS as u64).rev().filter_map(|count| {
-        let answer = log
-            .monitor(&question(&log, b"gear", size, &map(count), size))
-            .ok()?;
-        answer.obstacles.is_empty().then_some((count, answer))
-    });
-    let (count, answer) = answers.into_iter().next().expect("one pair fits");
-    case(format!("monitor of {count} long paths"), &answer)
 }
