@@ -1,9 +1,9 @@
 //! Responses of a length that must be refused, and late where that can be.
 
-use crate::answers::{long_lookups, short};
+use crate::answers::{long_lookups, long_monitoring, most_versions, short, short_monitoring};
 use crate::inputs::Inputs;
 use crate::Random;
-use honest_log::model::{hex, Entry, Lookup, LookupResult, Response, Step};
+use honest_log::model::{hex, Entry, Exchange, Lookup, LookupResult, Response, Step};
 
 /// All of them, of at most so many bytes each.
 pub fn inputs(length: usize, random: &mut Random) -> Vec<Inputs> {
@@ -14,28 +14,38 @@ pub fn inputs(length: usize, random: &mut Random) -> Vec<Inputs> {
         Inputs::with(name, 5, &honest, response)
     };
     let start = format!("kt\tsearch\t{}\t", hex(&honest.identifier));
-    let mut list = vec![
-        Inputs::with("random bytes", 5, &honest, random.bytes(length)),
-        broken_end(length),
-        wrong_lookup(length),
-    ];
-    list.extend(many_lines(length));
+    let mut list = vec![Inputs::with(
+        "random bytes",
+        5,
+        &honest,
+        random.bytes(length),
+    )];
+    for long in [long_lookups(length), long_monitoring(length)] {
+        list.push(broken_end(&long));
+        list.push(wrong_lookup(long));
+    }
+    list.extend(many_lines(length, &honest));
+    list.extend(many_lines(length, &short_monitoring()));
     list.push(line("a line of digits", &format!("{start}-\nhead\t"), b'7'));
     list.push(line("a line of hex", &start, b'a'));
     list
 }
 
+/// More versions asked for than there can be outputs.
+pub fn versions() -> Inputs {
+    Inputs::of("more versions than outputs", 10, &most_versions())
+}
+
 /// A long answer that is right but for its last line.
-fn broken_end(length: usize) -> Inputs {
-    let mut inputs = Inputs::of("last line broken", 5, &long_lookups(length));
+fn broken_end(long: &Exchange) -> Inputs {
+    let mut inputs = Inputs::of("last line broken", 5, long);
     let last = inputs.response.len() - 2;
     inputs.response[last] = b'x';
     inputs
 }
 
 /// A long answer that is right but for the last sibling of its last lookup.
-fn wrong_lookup(length: usize) -> Inputs {
-    let mut exchange = long_lookups(length);
+fn wrong_lookup(mut exchange: Exchange) -> Inputs {
     let entry = exchange.response.entries.last_mut().expect("one is shown");
     let lookup = entry.lookups.last_mut().expect("each has lookups");
     let sibling = lookup.siblings.last_mut().expect("there are siblings");
@@ -44,7 +54,7 @@ fn wrong_lookup(length: usize) -> Inputs {
 }
 
 /// Short answers with one line over and over: steps, entries, lookups, nodes.
-fn many_lines(length: usize) -> Vec<Inputs> {
+fn many_lines(length: usize, short: &Exchange) -> Vec<Inputs> {
     let add_step = |response: &mut Response, count: usize| {
         let step = Step {
             version: 0,
@@ -69,10 +79,10 @@ fn many_lines(length: usize) -> Vec<Inputs> {
         response.nodes.extend(vec![[0; 32]; count]);
     };
     vec![
-        repeated("many steps", length, add_step),
-        repeated("many entries", length, add_entry),
-        repeated("many lookups", length, add_lookup),
-        repeated("many nodes", length, add_node),
+        repeated("many steps", length, short, add_step),
+        repeated("many entries", length, short, add_entry),
+        repeated("many lookups", length, short, add_lookup),
+        repeated("many nodes", length, short, add_node),
     ]
 }
 
@@ -86,8 +96,13 @@ fn lookup() -> Lookup {
 }
 
 /// A short answer to which so much is added that it just stays below a length.
-fn repeated(name: &str, length: usize, add: impl Fn(&mut Response, usize)) -> Inputs {
-    let mut exchange = short();
+fn repeated(
+    name: &str,
+    length: usize,
+    short: &Exchange,
+    add: impl Fn(&mut Response, usize),
+) -> Inputs {
+    let mut exchange = short.clone();
     let before = exchange.response.text().len();
     let mut one = exchange.response.clone();
     add(&mut one, 1);

@@ -1,11 +1,13 @@
-//! What a search is given, as bytes.
+//! What a call is given, as bytes.
 
-use honest_log::model::Exchange;
+use honest_log::model::{Exchange, Kind};
 use second::calls::Arguments;
 
 pub struct Inputs {
     /// What they are, in a few words.
     pub name: String,
+    /// The call that they are made for: the kind of the exchange.
+    pub kind: Kind,
     /// What they must be answered with: 0 for acceptance, else the number of the refusal.
     pub number: u64,
     pub response: Vec<u8>,
@@ -22,6 +24,7 @@ impl Inputs {
     pub fn of(name: &str, number: u64, exchange: &Exchange) -> Inputs {
         Inputs {
             name: name.to_string(),
+            kind: exchange.kind,
             number,
             response: exchange.response.text(),
             configuration: exchange.settings.bytes(),

@@ -1,4 +1,4 @@
-//! What the programs share, and the inputs of the searches that are measured.
+//! What the programs share, and the inputs of the calls that are measured.
 
 pub mod answers;
 pub mod hostile;
