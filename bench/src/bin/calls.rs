@@ -77,47 +77,35 @@ impl Reply {
     }
 }
 
+/// Calls a function of the library on all inputs, and on the bytes lent to it.
+macro_rules! call {
+    ($function:ident, $inputs:expr $(, $lent:expr)*) => {
+        $function(
+            $inputs.response.as_ptr(),
+            $inputs.response.len(),
+            $inputs.configuration.as_ptr(),
+            $inputs.configuration.len(),
+            $inputs.state.as_ptr(),
+            $inputs.state.len(),
+            $inputs.identifier.as_ptr(),
+            $inputs.identifier.len(),
+            $inputs.clock,
+            $inputs.vrf_outputs.as_ptr(),
+            $inputs.vrf_outputs.len(),
+            $inputs.signed_text.as_ptr(),
+            $inputs.signed_text.len()
+            $(, $lent.as_mut_ptr(), $lent.len())*
+        )
+    };
+}
+
 /// The proved call.
 fn proved(inputs: &Inputs, reply: &mut Reply) {
     // Safe: all pointers come from slices and go with the lengths of these slices.
     reply.answer = unsafe {
         match inputs.kind {
-            Kind::Search => kt_search(
-                inputs.response.as_ptr(),
-                inputs.response.len(),
-                inputs.configuration.as_ptr(),
-                inputs.configuration.len(),
-                inputs.state.as_ptr(),
-                inputs.state.len(),
-                inputs.identifier.as_ptr(),
-                inputs.identifier.len(),
-                inputs.clock,
-                inputs.vrf_outputs.as_ptr(),
-                inputs.vrf_outputs.len(),
-                inputs.signed_text.as_ptr(),
-                inputs.signed_text.len(),
-                reply.output.as_mut_ptr(),
-                reply.output.len(),
-                reply.new_state.as_mut_ptr(),
-                reply.new_state.len(),
-            ),
-            Kind::Monitor => kt_monitor(
-                inputs.response.as_ptr(),
-                inputs.response.len(),
-                inputs.configuration.as_ptr(),
-                inputs.configuration.len(),
-                inputs.state.as_ptr(),
-                inputs.state.len(),
-                inputs.identifier.as_ptr(),
-                inputs.identifier.len(),
-                inputs.clock,
-                inputs.vrf_outputs.as_ptr(),
-                inputs.vrf_outputs.len(),
-                inputs.signed_text.as_ptr(),
-                inputs.signed_text.len(),
-                reply.new_state.as_mut_ptr(),
-                reply.new_state.len(),
-            ),
+            Kind::Search => call!(kt_search, inputs, reply.output, reply.new_state),
+            Kind::Monitor => call!(kt_monitor, inputs, reply.new_state),
         }
     };
 }
