@@ -68,6 +68,17 @@ module _ {s : Bytes} {at : ℕ} {t : Bytes} {n : ℕ} {s′ : Bytes} (u : Bytes)
       let e : written s′ n u ≡ written (written s at t) (at + length t) u = rw (w .bytes, w .place) refl in
       record { room = omega arith; place = omega (arith, w .place, v .place); bytes = v .bytes ∙ e ∙ written-append s at t u h }
 
+  -- the second put after the first, where there is room for both, is written with it
+  pub then-put : (o : Option ℕ) → at + length (t ++ u) ≤ length s → {m : ℕ} {s″ : Bytes} → (o ≡ placeAfter s′ n u) × (s″ ≡ putAt s′ n u)
+      → m ≡ Option·getD o n → Wrote s at (t ++ u) m s″
+  then-put o h b f = wrote-then (wrote-put u o (room-then h) b f)
+
+-- two texts that are put one after the other, where there is room for both, are written
+pub both-put : {s : Bytes} {at : ℕ} (t u : Bytes) (o p : Option ℕ) → at + length (t ++ u) ≤ length s → {n : ℕ} {s′ : Bytes}
+    → (o ≡ placeAfter s at t) × (s′ ≡ putAt s at t) → n ≡ Option·getD o at → {m : ℕ} {s″ : Bytes}
+    → (p ≡ placeAfter s′ n u) × (s″ ≡ putAt s′ n u) → m ≡ Option·getD p n → Wrote s at (t ++ u) m s″
+both-put {s} {at} t u o p h a e b f = then-put u (wrote-put t o (room-first t u at (length s) h) a e) p h b f
+
 -- ---- lines
 
 -- a `size` line: its word, the two numbers and the label, each after a tab, and a newline

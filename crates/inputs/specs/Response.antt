@@ -7,7 +7,7 @@ use lib.ListN.{length}
 use Rattle.lists.specs.Lists.{Bytes}
 use Rattle.lines.specs.Line.{endedLines, openRest, leading}
 use Rattle.lines.specs.Readings.{partOf}
-use Rattle.rules.specs.Response.{search, Finding, searched, monitored, Step, Lookup, Entry, Parts}
+use Rattle.rules.specs.Response.{Finding, searched, monitored, Step, Lookup, Entry, Parts}
 use Rattle.rules.specs.ResponseText.{readStep, readNode}
 use Rattle.rules.specs.ResponseText.{readItem, grouped}
 use Rattle.inputs.specs.declared.response_lines.Kind.{Kind}

@@ -5,7 +5,7 @@ use mathlib.Core.List.{List}
 use mathlib.Core.Option.{Option, none, some, Option·map}
 use Prim.Native.Nat.{ℕ, _≤_}
 use lib.ListN.{length, drop}
-use Rattle.lists.specs.Lists.{Bytes, same}
+use Rattle.lists.specs.Lists.{Bytes}
 use Rattle.lines.specs.Line.{Read as ReadForm, endedLines, openRest, readLine, leading}
 use Rattle.lines.specs.Readings.{partOf}
 use Rattle.rules.specs.Response.{Step}

@@ -11,7 +11,6 @@ ghost use Rattle.lists.specs.Lists.{runs};
 ghost use Rattle.lines.specs.Number.{decimal};
 ghost use Rattle.lines.specs.Hex.{hexField};
 ghost use Rattle.lines.specs.Line.{tab, writeLine};
-ghost use Rattle.lines.specs.Readings.{putOf};
 ghost use Rattle.rules.specs.Limits.{hashLength, stateTextLimit};
 ghost use Rattle.rules.specs.StateText.{sizeForm, writeKeep, writePair, writeState};
 ghost use Rattle.rules.specs.Refusals.{validState};
@@ -19,7 +18,7 @@ ghost use Rattle.rules.specs.Calls.{writtenFirst};
 ghost use Rattle.inputs.specs.State.{mapOf, contents, stateOf};
 ghost use Rattle.inputs.specs.StateWriter.{textFor, Wrote};
 use crate::state::State;
-use lines::writing::Put;
+use lines::writing::next_place;
 use lines::writing::put_bytes;
 use lines::writing::put_decimal;
 use lines::writing::put_hex;
@@ -154,14 +153,4 @@ fn put_all(out: &mut [u8], at: usize, s: &[u8]) -> usize
     ensures { λ r. ⌜ Wrote (now (out .entry)) at (now (s .entry)) r (now (out .exit)) ⌝ }
 {
     next_place(put_bytes(out, at, s), at)
-}
-
-// The place after what was put; where nothing was, the place that it was for.
-fn next_place(put: Put, at: usize) -> usize
-    ensures { λ r. ⌜ r ≡ Option·getD (putOf put) at ⌝ }
-{
-    match put {
-        Put::Next(next) => next,
-        Put::Unchanged => at,
-    }
 }

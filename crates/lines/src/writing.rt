@@ -1,6 +1,6 @@
 // Writing into lent bytes from a place on: all other bytes stay, and what does not fit is not written at all.
 ghost use mathlib.Core.Path.{_≡_};
-ghost use mathlib.Core.Option.{some};
+ghost use mathlib.Core.Option.{some, Option·getD};
 ghost use Prim.Native.Nat.{_+_, _*_, _≤_, _<_};
 ghost use lib.Dec.{leb};
 ghost use lib.ListN.{length};
@@ -17,6 +17,16 @@ use crate::hex::spelled_length;
 pub enum Put {
     Next(usize),
     Unchanged,
+}
+
+// The place after what was put; where nothing was, the place that it was for.
+pub fn next_place(put: Put, at: usize) -> usize
+    ensures { λ r. ⌜ r ≡ Option·getD (putOf put) at ⌝ }
+{
+    match put {
+        Put::Next(next) => next,
+        Put::Unchanged => at,
+    }
 }
 
 // How many digits the greatest number of 64 bits has.

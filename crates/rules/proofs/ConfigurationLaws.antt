@@ -2,18 +2,19 @@
 use mathlib.Core.Path.{_≡_, refl, _∙_, ap, ap₂}
 use mathlib.Core.List.{[], _∷_, _++_, append-assoc, append-nil}
 use mathlib.Core.Option.{Option, none, some, bind, Option·some-injective, Option·none-ne-some}
-use Prim.Native.Nat.{ℕ, zero, suc, _^_, _<_}
+use Prim.Native.Nat.{ℕ, zero, suc, _+_, _^_, _≤_, _<_}
 use native.Mathlib.Omega.{arith}
 use lib.Dec.{eqb}
-use lib.ListN.{length}
+use lib.ListN.{length, length-append}
 use borrow.Author.Tests.{eqb-true}
 use Rattle.lists.specs.Choice.{_>>_}
 use Rattle.lists.specs.Lists.{Bytes, same}
 use Rattle.lists.proofs.ListLaws.{bind-by, test-some, same-true}
 use Rattle.hash.specs.Bytes.{AreBytes, bigEndian}
+use Rattle.hash.proofs.BytesLaws.{length-bigEndian}
 use Rattle.rules.specs.Encoding.{opaque, readUint, readOpaque}
-use Rattle.rules.specs.Configuration.{Configuration, p256Suite, contactMonitoring, readPresent, readOptional, readConfiguration, writeOptional, writeConfiguration}
-use Rattle.rules.proofs.EncodingLaws.{read-uint, uint-read, read-opaque, opaque-read}
+use Rattle.rules.specs.Configuration.{Configuration, p256Suite, contactMonitoring, readPresent, readOptional, readConfiguration, writeOptional, writeConfiguration, treeHead}
+use Rattle.rules.proofs.EncodingLaws.{read-uint, uint-read, read-opaque, opaque-read, uint-takes, opaque-takes}
 
 -- ---- what can be written
 
@@ -156,3 +157,46 @@ configuration-read s c b e =
         lifetimeFits = h8;
       },
     )
+
+-- ---- lengths
+
+-- an optional number takes its first byte at least
+optional-takes : (s : Bytes) (p : Option ℕ × Bytes) → readOptional s ≡ some p → 1 + length (p .1) ≤ length s
+unfolding readOptional readPresent
+optional-takes s p e = bind-by (readUint 1 s) _ p e (λ x q. go (x .0) (x .1) (uint-takes 1 s x q))
+  where
+    go : (b : ℕ) (u : Bytes) → length s ≡ 1 + length u → readPresent b u ≡ some p → 1 + length (p .1) ≤ length s
+    go zero u l r = let z : length u ≡ length (p .1) = ap (λ x. length (x .1)) (Option·some-injective _ _ r) in omega arith
+    go (suc zero) u l r = bind-by (readUint 8 u) _ p r λ y q t.
+        let z : length (y .1) ≡ length (p .1) = ap (λ x. length (x .1)) (Option·some-injective _ _ t) in
+        omega (arith, uint-takes 8 u y q)
+    go (suc (suc k)) u l r = absurd (Option·none-ne-some p r)
+
+-- a configuration that reads has 32 bytes or more
+pub configuration-least : (s : Bytes) (c : Configuration) → readConfiguration s ≡ some c → 32 ≤ length s
+unfolding readConfiguration
+configuration-least s c e =
+    bind-by (readUint 2 s) _ c e λ x1 e1 r1.
+    bind-by (readUint 1 (x1 .1)) _ c r1 λ x2 e2 r2.
+    bind-by (readOpaque 2 (x2 .1)) _ c r2 λ x3 e3 r3.
+    bind-by (readOpaque 2 (x3 .1)) _ c r3 λ x4 e4 r4.
+    bind-by (readUint 8 (x4 .1)) _ c r4 λ x5 e5 r5.
+    bind-by (readUint 8 (x5 .1)) _ c r5 λ x6 e6 r6.
+    bind-by (readUint 8 (x6 .1)) _ c r6 λ x7 e7 r7.
+    bind-by (readOptional (x7 .1)) _ c r7 λ x8 e8 _.
+    omega (
+      arith,
+      uint-takes 2 s x1 e1,
+      uint-takes 1 (x1 .1) x2 e2,
+      opaque-takes 2 (x2 .1) x3 e3,
+      opaque-takes 2 (x3 .1) x4 e4,
+      uint-takes 8 (x4 .1) x5 e5,
+      uint-takes 8 (x5 .1) x6 e6,
+      uint-takes 8 (x6 .1) x7 e7,
+      optional-takes (x7 .1) x8 e8,
+    )
+
+-- a TreeHeadTBS has 8 bytes more than the configuration and the root
+pub head-length : (s : Bytes) (n : ℕ) (r : Bytes) → length (treeHead s n r) ≡ length s + 8 + length r
+unfolding treeHead
+head-length s n r = length-append (s ++ bigEndian 8 n) r ∙ omega (arith, length-append s (bigEndian 8 n), length-bigEndian 8 n)

@@ -163,3 +163,22 @@ opaque-read k v s t b e =
     let (z, l) = bytes-read n u v t q in
     let (bv, bt) = bytes-split v t (rw z at bu) in
     (w ∙ ap₂ (λ (m : ℕ) (r : Bytes). bigEndian k m ++ r) (sym l) z ∙ sym (append-assoc (bigEndian k (length v)) v t), rw l h, bv, bt)
+
+-- ---- how many bytes are read
+
+-- a number of k bytes takes k bytes
+pub uint-takes : (k : ℕ) (s : Bytes) (p : ℕ × Bytes) → readUint k s ≡ some p → length s ≡ k + length (p .1)
+unfolding readUint
+uint-takes k s p e =
+    let ((a, u), q, r) = bind-some (readBytes k s) _ p e in
+    let (w, l) = bytes-read k s a u q in
+    let z : length u ≡ length (p .1) = ap (λ x. length (x .1)) (Option·some-injective _ _ r) in
+    omega (arith, ap length w, length-append a u)
+
+-- a byte string with its length of k bytes takes these at least
+pub opaque-takes : (k : ℕ) (s : Bytes) (p : Bytes × Bytes) → readOpaque k s ≡ some p → k + length (p .1) ≤ length s
+unfolding readOpaque
+opaque-takes k s p e =
+    let (x, q, r) = bind-some (readUint k s) _ p e in
+    let (w, _) = bytes-read (x .0) (x .1) (p .0) (p .1) r in
+    omega (arith, uint-takes k s x q, ap length w, length-append (p .0) (p .1))

@@ -6,6 +6,8 @@ pub mod EncodingLaws
 pub mod ConfigurationLaws
 pub mod RefusalLaws
 pub mod NextStateLaws
+pub mod SignedTextLaws
+pub mod ProgramLaws
 pub mod Running
 pub mod RuleExamples
 pub mod FormExamples

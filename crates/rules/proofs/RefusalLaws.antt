@@ -60,24 +60,44 @@ tried-meaning (r ∷ rs) c = go (r .applies c) refl (tried-meaning rs c)
     go true q h = inl (q, refl)
     go false q h = tried-more r rs c q (tried rs c) h
 
+-- ---- rules after others
+
+-- a trial is passed where a call was read, and no rule applies to it
+pub after-passed : (rs : List Rule) (j : Judgement) (c : Call) → triedAfter rs j ≡ passed c → (j ≡ passed c) × NoneApplies rs c
+unfolding triedAfter
+after-passed rs (refused k) c e = absurd (refused-not-passed k c e)
+after-passed rs (passed d) c e =
+    let (q, h) : (c ≡ d) × NoneApplies rs d = subst (Tried rs d) e (tried-meaning rs d) in
+    (ap passed (sym q), subst (NoneApplies rs) (sym q) h)
+
+-- rules after others are tried on what those let pass
+pub tried-append : (xs ys : List Rule) (c : Call) → tried (xs ++ ys) c ≡ triedAfter ys (tried xs c)
+unfolding tried triedAfter choose
+tried-append [] ys c = refl
+tried-append (r ∷ rs) ys c = go (r .applies c) (tried-append rs ys c)
+  where
+    go : (b : Bool) → tried (rs ++ ys) c ≡ triedAfter ys (tried rs c)
+        → choose b (λ _. refused (r .number)) (λ _. tried (rs ++ ys) c) ≡ triedAfter ys (choose b (λ _. refused (r .number)) (λ _. tried rs c))
+    go true e = refl
+    go false e = e
+
+-- where none of the first applies, the others are tried
+pub rest-tried : (xs ys : List Rule) (c : Call) → NoneApplies xs c → tried (xs ++ ys) c ≡ tried ys c
+unfolding triedAfter
+rest-tried xs ys c h = tried-append xs ys c ∙ ap (triedAfter ys) (passes xs c h)
+
+-- a refusal by the first stays one, with its number
+pub after-refused : (xs ys : List Rule) (j : Judgement) (k : ℕ) → triedAfter xs j ≡ refused k → triedAfter (xs ++ ys) j ≡ refused k
+unfolding triedAfter
+after-refused xs ys (refused n) k e = e
+after-refused xs ys (passed c) k e = tried-append xs ys c ∙ ap (triedAfter ys) e
+
 -- ---- search and monitoring
 
 -- acceptance: everything reads, and none of 6 to 16 applies
 pub accepted-meaning : (s : Option State) (i : Inputs) (c : Call) → judge s i ≡ passed c → (readCall s i ≡ passed c) × NoneApplies (checks ++ lastChecks) c
-unfolding judge triedAfter
-accepted-meaning s i c = go (readCall s i) refl
-  where
-    inner : (d : Call) → readCall s i ≡ passed d → (j : Judgement) → Tried (checks ++ lastChecks) d j → j ≡ passed c
-        → (readCall s i ≡ passed c) × NoneApplies (checks ++ lastChecks) c
-    inner d r (refused k) h e = absurd (refused-not-passed k c e)
-    inner d r (passed f) (q, h) e =
-        let z : f ≡ c = cc in
-        let w : d ≡ c = sym q ∙ z in
-        (r ∙ ap passed w, subst (NoneApplies (checks ++ lastChecks)) w h)
-
-    go : (j : Judgement) → readCall s i ≡ j → triedAfter (checks ++ lastChecks) j ≡ passed c → (readCall s i ≡ passed c) × NoneApplies (checks ++ lastChecks) c
-    go (refused k) r e = absurd (refused-not-passed k c e)
-    go (passed d) r e = inner d r (tried (checks ++ lastChecks) d) (tried-meaning (checks ++ lastChecks) d) e
+unfolding judge
+accepted-meaning s i c e = after-passed (checks ++ lastChecks) (readCall s i) c e
 
 -- and the other way
 pub acceptance : (s : Option State) (i : Inputs) (c : Call) → readCall s i ≡ passed c → NoneApplies (checks ++ lastChecks) c → judge s i ≡ passed c
@@ -142,6 +162,12 @@ zero-accepts s i e = go (judge s i) refl e
     go : (j : Judgement) → judge s i ≡ j → numberOf j ≡ 0 → (c : Call) × (judge s i ≡ passed c)
     go (refused k) q z = let n = sixteen-numbers s i k q in absurd (omega arith)
     go (passed c) q z = (c, q)
+
+-- any other is that of a refusal
+pub number-refused : (j : Judgement) (k : ℕ) → k ≡ numberOf j → (k ≡ 0 → ⊥) → j ≡ refused k
+unfolding numberOf
+number-refused (refused n) k e z = ap refused (sym e)
+number-refused (passed c) k e z = absurd (z e)
 
 -- ---- chains
 

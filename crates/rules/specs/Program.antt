@@ -11,11 +11,12 @@ use Rattle.lines.specs.Number.{ascii, decimal}
 use Rattle.lines.specs.Field.{number, bytes}
 use Rattle.lines.specs.Line.{Form, Read, readLines, readLine, line}
 use Rattle.rules.specs.Limits.{programResponseLimit, configurationLimit, signedTextLimit, vrfOutputsLimit, valueLimit, identifierLength, stateTextLimit, requestLimit, numberBound}
+use Rattle.rules.specs.State.{State}
 use Rattle.rules.specs.StateText.{readState}
 use Rattle.rules.specs.Response.{Kind, search, monitor, Finding, searched, monitored}
 use Rattle.rules.specs.ResponseText.{kindWord}
 use Rattle.rules.specs.Refusals.{Judgement, refused, passed, reading, judge}
-use Rattle.rules.specs.Calls.{nextState}
+use Rattle.rules.specs.Calls.{Arguments, libraryInputs, judgeMonitoring, nextState}
 
 -- ---- the files
 
@@ -63,6 +64,18 @@ readRequest s = Option·getD (bind (readLines s) readRequestLine) brokenRequest
 
 -- ---- the judgement
 
+-- what a request asks for, with the other files
+unfoldable pub requested : Request → Bytes → Bytes → Bytes → Arguments
+requested q response settings sheet =
+    record { response = response; configuration = settings; identifier = q .identifier; clock = q .clock; vrfOutputs = sheet }
+
+-- the library's call of the kind asked for, with room for every value
+unfoldable pub judgeAsked : Option Kind → Option State → Arguments → Bytes → Judgement
+judgeAsked (some search) st a signed = judge st (libraryInputs (some search) a signed valueLimit)
+judgeAsked (some monitor) st a signed = judgeMonitoring st a signed
+judgeAsked none st a signed = judge st (libraryInputs none a signed 0)
+
+-- it is made where each file is there and not too long
 unfoldable pub judgeFiles : Files → Judgement
 judgeFiles f =
     reading 1 (within requestLimit (f .request)) λ request.
@@ -71,17 +84,7 @@ judgeFiles f =
     reading 1 (within stateTextLimit (f .state)) λ state.
     reading 1 (within vrfOutputsLimit (f .sheet)) λ sheet.
     reading 1 (within signedTextLimit (f .signed)) λ signed.
-    judge (readState state) (record {
-      limit = programResponseLimit;
-      kind = readRequest request .kind;
-      response = response;
-      configuration = settings;
-      identifier = readRequest request .identifier;
-      clock = readRequest request .clock;
-      vrfOutputs = sheet;
-      signedText = signed;
-      room = valueLimit;
-    })
+    judgeAsked (readRequest request .kind) (readState state) (requested (readRequest request) response settings sheet) signed
 
 -- ---- what is printed; the file `state.new` gets what `textOf` gives, the file `value` what `valueOf` gives, and neither is written where that is none
 

@@ -1,7 +1,7 @@
 -- `inputs::state_writer::put_field` meets its contract: a tab, and the field that spells the byte string after it.
 use borrow.Author.Needs.{needs}
 use Rattle.lines.specs.Hex.{hexField}
-use Rattle.inputs.proofs.StateWriterLaws.{wrote-put, room-then, wrote-then}
+use Rattle.inputs.proofs.StateWriterLaws.{then-put}
 use Rattle.inputs.proofs.state_writer.put_field.Statement.{statement}
 use Rattle.inputs.proofs.state_writer.put_field.Tie as tie
 
@@ -25,7 +25,7 @@ returns c =
     let a = c .before .before .before .before .before .before .before .before .before .before .before .before in
     let t = hexField (a .args .s .now) in
     let w = c .before .before .before .before .before .before .before .put-all .ensures in
-    wrote-then t w (wrote-put t _ (room-then t w (a .pre)) (c .before .before .before .put-hex .ensures) (c .next-place .ensures))
+    then-put t w _ (a .pre) (c .before .before .before .put-hex .ensures) (c .next-place .ensures)
 
 pub put-field-spec : {M : Type 1} → statement M
 put-field-spec =

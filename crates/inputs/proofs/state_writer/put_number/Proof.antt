@@ -1,7 +1,7 @@
 -- `inputs::state_writer::put_number` meets its contract: a tab, and the digits of the number after it.
 use borrow.Author.Needs.{needs}
 use Rattle.lines.specs.Number.{decimal}
-use Rattle.inputs.proofs.StateWriterLaws.{wrote-put, room-then, wrote-then}
+use Rattle.inputs.proofs.StateWriterLaws.{then-put}
 use Rattle.inputs.proofs.state_writer.put_number.Statement.{statement}
 use Rattle.inputs.proofs.state_writer.put_number.Tie as tie
 
@@ -25,7 +25,7 @@ returns c =
     let a = c .before .before .before .before .before .before .before .before .before .before .before in
     let t = decimal (a .args .n) in
     let w = c .before .before .before .before .before .before .before .put-all .ensures in
-    wrote-then t w (wrote-put t _ (room-then t w (a .pre)) (c .before .before .before .put-decimal .ensures) (c .next-place .ensures))
+    then-put t w _ (a .pre) (c .before .before .before .put-decimal .ensures) (c .next-place .ensures)
 
 pub put-number-spec : {M : Type 1} → statement M
 put-number-spec =
