@@ -14,7 +14,7 @@ use Rattle.lines.specs.Hex.{readHex}
 use Rattle.lines.specs.Writing.{placeAfter, putAt, placeAfterAny, putAny}
 use Rattle.lines.proofs.WritingLaws.{put-fits, put-over, put-some}
 use Rattle.rules.specs.Limits.{mapLimit}
-use Rattle.rules.specs.State.{MapEntry, positions, versions}
+use Rattle.rules.specs.State.{MapEntry}
 use Rattle.rules.specs.Response.{Target, Finding, searched}
 use Rattle.rules.specs.Search.{mapAfterSearch}
 use Rattle.rules.specs.Refusals.{Call, Judgement, refused, passed, tried, mapAfterBy, mapAfter, roomMissingFor, roomMissing}
@@ -24,10 +24,10 @@ use Rattle.inputs.specs.State.{blockOf}
 use Rattle.inputs.proofs.FrontLaws.{place-fits, place-over}
 use Rattle.checks.specs.declared.map.Pairs.{Pairs}
 use Rattle.checks.specs.Map.{Holds, HasPair, putVersion, pairsOf}
-use Rattle.checks.specs.declared.search.Checked.{Checked}
+use Rattle.checks.specs.declared.search_checks.Checked.{Checked}
 use Rattle.checks.specs.declared.search.SearchAnswer.{SearchAnswer}
 use Rattle.checks.specs.Calls.{rules16, blockAfter}
-use Rattle.checks.specs.Search.{Accepting, searchAnswer, IsAcceptedAnswer, AreAcceptedBytes}
+use Rattle.checks.specs.Search.{versionFound, versionOf, searchAnswer, Accepting, IsAcceptedAnswer, AreAcceptedBytes}
 use Rattle.checks.proofs.StateStructLaws.{Struct, made, made-next}
 
 -- ---- 16
@@ -51,8 +51,8 @@ room-passed c e = rw e refl
 -- ---- the answer
 
 -- a refusal is the answer of a refused call
-pub answer-refused : (b : StateBlock) (j : Judgement) (k : ℕ) → j ≡ refused k → record { number = k; state = b; length = 0 } ≡ searchAnswer b j
-unfolding searchAnswer numberOf blockAfter valueOf
+pub answer-refused : (b : StateBlock) (j : Judgement) (k : ℕ) → j ≡ refused k → record { number = k; state = b; version = 0; length = 0 } ≡ searchAnswer b j
+unfolding searchAnswer numberOf blockAfter versionOf valueOf
 answer-refused b j k e = rw e refl
 
 -- and leaves the output bytes
@@ -60,23 +60,29 @@ pub bytes-refused : (s : Bytes) (j : Judgement) (k : ℕ) → j ≡ refused k �
 unfolding outputAfter valueOf writtenFirst Option·elim
 bytes-refused s j k e = rw e refl
 
--- the value that a search found
+-- the version that a search found
+version-found : (f : Finding) (t : Target) → f ≡ searched t → versionFound f ≡ t .version
+unfolding versionFound
+version-found f t e = rw e refl
+
+-- and the value
 value-found : (f : Finding) (t : Target) → f ≡ searched t → valueFound f ≡ some (t .value)
 unfolding valueFound
 value-found f t e = rw e refl
 
--- the answer of an accepted call, from its value
-value-answer : (b : StateBlock) (c : Call) (v : Bytes) → valueFound (c .parts .finding) ≡ some v
-    → record { number = 0; state = blockOf (nextState c); length = length v } ≡ searchAnswer b (passed c)
-unfolding searchAnswer numberOf blockAfter valueOf
-value-answer b c v e = rw e refl
+-- the answer of an accepted call, from both
+found-answer : (b : StateBlock) (c : Call) (version : ℕ) (v : Bytes) → versionFound (c .parts .finding) ≡ version → valueFound (c .parts .finding) ≡ some v
+    → record { number = 0; state = blockOf (nextState c); version = version; length = length v } ≡ searchAnswer b (passed c)
+unfolding searchAnswer numberOf blockAfter versionOf valueOf
+found-answer b c version v d e = rw (d, e) refl
 
 -- and from the struct of its new state
-answer-passed : (b : StateBlock) (c : Call) (j : Judgement) (t : Target) (new : StateBlock) (n : ℕ) → j ≡ passed c → c .parts .finding ≡ searched t
-    → n ≡ length (t .value) → new ≡ blockOf (nextState c) → record { number = 0; state = new; length = n } ≡ searchAnswer b j
-answer-passed b c j t new n e f l h =
-    ap₂ (λ (x : StateBlock) (m : ℕ). record { number = 0; state = x; length = m }) h l
-    ∙ value-answer b c (t .value) (value-found (c .parts .finding) t f) ∙ ap (searchAnswer b) (sym e)
+answer-passed : (b : StateBlock) (c : Call) (j : Judgement) (t : Target) (new : StateBlock) (version n : ℕ) → j ≡ passed c → c .parts .finding ≡ searched t
+    → t .version ≡ version → n ≡ length (t .value) → new ≡ blockOf (nextState c)
+    → record { number = 0; state = new; version = version; length = n } ≡ searchAnswer b j
+answer-passed b c j t new version n e f v l h =
+    ap₂ (λ (x : StateBlock) (m : ℕ). record { number = 0; state = x; version = version; length = m }) h l
+    ∙ found-answer b c version (t .value) (version-found (c .parts .finding) t f ∙ v) (value-found (c .parts .finding) t f) ∙ ap (searchAnswer b) (sym e)
 
 -- the value stands in the output bytes
 bytes-value : (s : Bytes) (c : Call) (v : Bytes) → valueFound (c .parts .finding) ≡ some v → written s 0 v ≡ outputAfter s (passed c)
@@ -122,7 +128,7 @@ module _ (field : Bytes) (version size : ℕ) (b : StateBlock) (k : Checked) (bl
 
   -- the map has no room for one pair more
   pub map-full : (r : Pairs) (out : Bytes) → HasPair (b .positions) (b .versions) (b .pairs) (k .position) version r → r .fits ≡ false
-      → (a : SearchAnswer) → a ≡ record { number = 16; state = b; length = 0 } → Answers out a out
+      → (a : SearchAnswer) → a ≡ record { number = 16; state = b; version = 0; length = 0 } → Answers out a out
   map-full r out h f a q = (λ c g. q ∙ answer-refused b (tried rules16 c) 16 (go c g), λ c g. bytes-refused out (tried rules16 c) 16 (go c g))
     where
       go : (c : Call) → Passes (length out) c → tried rules16 c ≡ refused 16
@@ -133,7 +139,7 @@ module _ (field : Bytes) (version size : ℕ) (b : StateBlock) (k : Checked) (bl
 
   -- the output bytes are too few
   pub output-full : (out out′ : Bytes) → none ≡ placeAfterAny out 0 (readHex field) → out′ ≡ putAny out 0 (readHex field)
-      → (a : SearchAnswer) → a ≡ record { number = 16; state = b; length = 0 } → Answers out a out′
+      → (a : SearchAnswer) → a ≡ record { number = 16; state = b; version = 0; length = 0 } → Answers out a out′
   output-full out out′ p w a q = (
     λ c g. q ∙ answer-refused b (tried rules16 c) 16 (go c g),
     λ c g. unwritten c g ∙ bytes-refused out (tried rules16 c) 16 (go c g),
@@ -153,7 +159,7 @@ module _ (field : Bytes) (version size : ℕ) (b : StateBlock) (k : Checked) (bl
   -- there is room for both: the call is accepted
   pub both-fit : (r : Pairs) (out out′ : Bytes) (n : ℕ) → HasPair (b .positions) (b .versions) (b .pairs) (k .position) version r → r .fits ≡ true
       → some n ≡ placeAfterAny out 0 (readHex field) → out′ ≡ putAny out 0 (readHex field)
-      → Answers out (record { number = 0; state = made b (k .time) block size r; length = n }) out′
+      → Answers out (record { number = 0; state = made b (k .time) block size r; version = version; length = n }) out′
   both-fit r out out′ n h f p w = (λ c g. answer c g, λ c g. bytes c g)
     where
       fits : (c : Call) (g : Passes (length out) c) → (length (g .target .value) ≤ length out) × (length (g .target .value) ≡ n)
@@ -166,11 +172,12 @@ module _ (field : Bytes) (version size : ℕ) (b : StateBlock) (k : Checked) (bl
           let u = le-ltb mapLimit (length (mapAfter c)) (omega (arith, ap length (map-put c (length out) g), e)) in
           room-passed c (room-known out c g ∙ ap₂ _||_ v u)
 
-      answer : (c : Call) → Passes (length out) c → record { number = 0; state = made b (k .time) block size r; length = n } ≡ searchAnswer b (tried rules16 c)
+      answer : (c : Call) → Passes (length out) c
+          → record { number = 0; state = made b (k .time) block size r; version = version; length = n } ≡ searchAnswer b (tried rules16 c)
       answer c g =
           let e : x .state ≡ c .state = Option·some-injective (x .state) (c .state) (sym (x .stands) ∙ g .state) in
           let m : Holds (mapAfter c) r = subst (λ (es : List MapEntry). Holds es r) (sym (map-put c (length out) g)) (h .1 f) in
-          answer-passed b c (tried rules16 c) (g .target) (made b (k .time) block size r) n (go c g) (g .finding) (sym (fits c g .1))
+          answer-passed b c (tried rules16 c) (g .target) (made b (k .time) block size r) version n (go c g) (g .finding) (g .isVersion) (sym (fits c g .1))
           (made-next b (k .time) block size r c (ap blockOf (sym e) ∙ x .isStruct) (g .size) (g .leaves .time) (g .leaves .values) m)
 
       bytes : (c : Call) → Passes (length out) c → out′ ≡ outputAfter out (tried rules16 c)

@@ -1,43 +1,38 @@
--- Laws of refusals 9 to 15 of a search, tried one part after the other (specs/Search.antt).
-use mathlib.Core.Path.{_≡_, refl, sym, ap, _∙_}
+-- Laws of refusals 9 to 14 of a search, tried one part after the other (specs/Search.antt).
+use mathlib.Core.Path.{_≡_, sym, ap, _∙_}
 use mathlib.Core.Bool.{true, false}
 use mathlib.Core.List.{List, map}
-use Prim.Native.Nat.{ℕ, _≤_, _<_}
+use Prim.Native.Nat.{ℕ, _≤_}
 use native.Mathlib.Omega.{arith}
+use lib.Count.{ones}
 use lib.Dec.{ltb}
 use lib.ListN.{length, take}
-use borrow.Author.Tests.{ne-eqb, le-ltb}
-use Rattle.lists.specs.Lists.{Bytes, all, lastOr, rising}
+use Rattle.lists.specs.Lists.{Bytes, all, lastOr, rising, runs}
 use Rattle.hash.specs.Bytes.{padded}
 use Rattle.hash.proofs.BytesLaws.{filled-front}
 use Rattle.tree.specs.Ladder.{ladder, ladderWithin, ladderCapacity}
+use Rattle.tree.specs.declared.log_head.LogHead.{LogHead}
 use Rattle.tree.proofs.LadderFillLaws.{ladder-fits, within-some}
-use Rattle.rules.specs.Limits.{treeSizeLimit, greatestVersion}
+use Rattle.rules.specs.Limits.{greatestVersion, hashLength}
 use Rattle.rules.specs.Response.{Entry, Parts, entryPositions}
-use Rattle.rules.specs.Refusals.{Call, sizeWrong, lastTime, notAsAsked}
+use Rattle.rules.specs.Refusals.{Call, lastTime, notAsAsked}
+use Rattle.rules.proofs.RefusalLaws.{NoneApplies}
 use Rattle.inputs.specs.declared.response_lines.Kind.the-variants.{Search}
 use Rattle.inputs.specs.declared.response.Response.{Response}
 use Rattle.inputs.specs.Response.{stepsIn, entriesIn, partsIn}
-use Rattle.checks.specs.Calls.{stepsText, entriesText, rules9, rules11, rules14, rules9to13, IsHead}
-use Rattle.checks.specs.Search.{IsAskedNumber, IsShownNumber, IsShownTime, IsShownPosition, IsSectionsNumber, AreFound, IsChecked}
+use Rattle.checks.specs.Calls.{stepsText, entriesText, rules9, rules11, rules14, rules9to13, ShowsHead, IsHead}
+use Rattle.checks.specs.Search.{Searchable, Shows, IsAskedNumber, IsShownNumber, IsShownTime, IsShownPosition, IsSectionsNumber, AreFound, IsChecked}
 use Rattle.checks.specs.Steps.{CommitmentsAt}
 use Rattle.checks.specs.Entries.{EntriesStand}
 use Rattle.checks.specs.declared.shown.Shown.{Shown}
-use Rattle.checks.specs.declared.search.Sections.{Sections}
-use Rattle.checks.specs.declared.search.Checked.{Checked}
-use Rattle.checks.proofs.TrialLaws.{Numbered, none-applies, number-front, number-rest}
+use Rattle.checks.specs.declared.search_checks.Sections.{Sections}
+use Rattle.checks.specs.declared.search_checks.Checked.{Checked}
+use Rattle.checks.proofs.TrialLaws.{none-applies, number-front, number-rest}
+use Rattle.checks.proofs.SectionTrialLaws.{size-right, numbered9, numbered9to13, head-number}
 use Rattle.checks.proofs.TargetLaws.{targetIn, call-found}
 use Rattle.checks.proofs.AskedCallLaws.{shown-rising, shown-below}
 
 -- ---- what is known before
-
--- a size within its bounds is not wrong
-pub size-right : (text : Bytes) (r : Response) (m : ℕ) → 0 < r .size → r .size ≤ treeSizeLimit → m ≤ r .size
-    → (c : Call) → c .parts ≡ partsIn text r → c .state .size ≡ m → sizeWrong c ≡ false
-unfolding sizeWrong partsIn
-size-right text r m a b d c p q =
-    let n : c .parts .size ≡ r .size = ap (λ (x : Parts). x .size) p in
-    rw (n, q, ne-eqb (r .size) 0 (λ e. omega (arith, e, a)), le-ltb treeSizeLimit (r .size) b, le-ltb (r .size) m d) refl
 
 -- so many first numbers of an array are the ladder of a version
 pub record Ladders (t count : ℕ) (vs : List ℕ) : Type 0 where
@@ -59,20 +54,12 @@ abbrev OnFrontier : Call → Type 0
 OnFrontier c = (rising (entryPositions (c .parts)) ≡ true) × (all (λ (p : ℕ). ltb p (c .parts .size)) (entryPositions (c .parts)) ≡ true)
 
 -- they do where 9 does not apply to a search
-pub on-frontier : (text : Bytes) (r : Response) → r .kind ≡ Search → (c : Call) → c .parts ≡ partsIn text r → notAsAsked c ≡ false → OnFrontier c
+on-frontier : (text : Bytes) (r : Response) → r .kind ≡ Search → (c : Call) → c .parts ≡ partsIn text r → notAsAsked c ≡ false → OnFrontier c
 on-frontier text r k c p h =
     let f = call-found text r k c p in
     (shown-rising c (targetIn text r) f h, shown-below c (targetIn text r) f h)
 
 -- ---- the parts
-
--- no rule of 9 and 10 has the number 0
-pub numbered9 : Numbered rules9
-numbered9 = (omega arith, (omega arith, tt))
-
--- nor one of 9 to 13
-pub numbered9to13 : Numbered rules9to13
-numbered9to13 = (omega arith, (omega arith, (omega arith, (omega arith, (omega arith, tt)))))
 
 module _ (text : Bytes) (r : Response) (label : Bytes) (size time clock ahead behind : ℕ) (outputs : Bytes) where
   -- the number of 9 to 13
@@ -103,37 +90,50 @@ found-shown text r s shown places wanted en ep et ec y ht hp hw z =
     let (e, f, q) = hp w in
     record { stand = rw ec y; time = et ∙ ht w y; entry = e; isFirst = rw (← hw) f; position = q ∙ sym ep }
 
-module _ (text : Bytes) (r : Response) (label : Bytes) (size time : ℕ) (kept : Bytes) (clock ahead behind : ℕ) (configuration outputs signed : Bytes) where
-  -- what comes of 9 to 15
+module _ (text : Bytes) (r : Response) (label : Bytes) (size time : ℕ) (kept : Bytes) (clock ahead behind : ℕ) (outputs : Bytes) where
+  -- what comes of 9 to 14
   abbrev Told : Checked → Bytes → Type 0
-  Told k block = IsChecked text r label size time kept clock ahead behind configuration outputs signed k block
+  Told k block = IsChecked text r label size time kept clock ahead behind outputs k block
 
   -- refused with 9 to 13
   pub sections-refused : (n : ℕ) (k : Checked) (block : Bytes) → IsSectionsNumber text r label size time clock ahead behind outputs n → (n ≡ 0 → ⊥)
       → k .number ≡ n → Told k block
-  sections-refused n k block h z e c st = (e ∙ number-front rules9to13 rules14 c n (h c (st .shows)) z, λ q. absurd (z (sym e ∙ q)))
+  sections-refused n k block h z e c st v = (e ∙ number-front rules9to13 rules14 c n (h c st) z, λ q. absurd (z (sym e ∙ q)))
 
-  -- 14, 15, or none of them
-  pub head-told : (s : Sections) (m : ℕ) (block : Bytes) (k : Checked)
-      → IsSectionsNumber text r label size time clock ahead behind outputs (s .number) → s .number ≡ 0 → AreFound text r s
-      → IsHead text r (take (s .count) (s .places)) size kept configuration signed m block
-      → ((c : Call) → c .parts ≡ partsIn text r → c .state .size ≡ size → sizeWrong c ≡ false)
-      → ((c : Call) → c .parts ≡ partsIn text r → notAsAsked c ≡ false → OnFrontier c)
-      → k .number ≡ m → k .position ≡ s .position → k .time ≡ s .time → Told k block
-  unfolding partsIn lastTime
-  head-told s m block k hs w hf hh right frontier en ep et c st =
-      let g = st .shows .given in
-      let f = hf w in
-      let ms = none-applies rules9to13 c numbered9to13 (sym w ∙ hs c (st .shows)) in
-      let (rise, below) = frontier c (g .parts) (ms .0) in
-      let (nh, vh) = hh c (g .parts) (g .size) (st .values) (st .configuration) (st .signed) (right c (g .parts) (g .size)) rise below (f .stand) in
-      let es : c .parts .entries ≡ entriesIn (entriesText text r) = ap (λ (p : Parts). p .entries) (g .parts) in (
-        en ∙ nh ∙ number-rest rules9to13 rules14 c ms,
-        λ _. record {
-          entry = f .entry;
-          isFirst = rw es (f .isFirst);
-          position = ep ∙ sym (f .position);
-          time = et ∙ f .time ∙ ap (λ (xs : List Entry). lastOr 0 (map (λ (x : Entry). x .time) xs)) (sym es);
-          values = vh;
-        },
-      )
+  module _ (p : Searchable text r size label) (s : Sections) (hs : IsSectionsNumber text r label size time clock ahead behind outputs (s .number))
+      (w : s .number ≡ 0) (hf : AreFound text r s) (h : LogHead) (block : Bytes) (hh : IsHead text r (take (s .count) (s .places)) size kept h block)
+    where
+      -- none of 9 to 13 applies
+      none9to13 : (c : Call) → Shows c text r label size time clock ahead behind outputs → NoneApplies rules9to13 c
+      none9to13 c st = none-applies rules9to13 c numbered9to13 (sym w ∙ hs c st)
+
+      -- the head is that of the call
+      head-told : (c : Call) → Shows c text r label size time clock ahead behind outputs → c .state .values ≡ runs (ones size) hashLength kept
+          → ShowsHead c h block
+      head-told c st v =
+          let g = st .given in
+          let (rise, below) = on-frontier text r (p .kind) c (g .parts) (none9to13 c st .0) in
+          hh c (g .parts) (g .size) v (size-right text r size (p .nonempty) (p .largest) (p .grown) c (g .parts) (g .size)) rise below (hf w .stand)
+
+      -- refused with 14
+      pub head-refused : h .met ≡ false → (k : Checked) → k .number ≡ 14 → Told k block
+      head-refused f k e c st v =
+          (e ∙ head-number c h block (head-told c st v) (none9to13 c st) .0 f, λ q. absurd (omega (arith, e, q)))
+
+      -- not refused
+      pub head-passed : h .met ≡ true → Told (record { number = 0; position = s .position; time = s .time; root = h .root }) block
+      unfolding partsIn lastTime
+      head-passed f c st v =
+          let x = head-told c st v in
+          let found = hf w in
+          let es : c .parts .entries ≡ entriesIn (entriesText text r) = ap (λ (q : Parts). q .entries) (st .given .parts) in (
+            head-number c h block x (none9to13 c st) .1 f,
+            λ _. record {
+              entry = found .entry;
+              isFirst = rw es (found .isFirst);
+              position = sym (found .position);
+              time = found .time ∙ ap (λ (xs : List Entry). lastOr 0 (map (λ (y : Entry). y .time) xs)) (sym es);
+              root = x .root;
+              values = x .values;
+            },
+          )

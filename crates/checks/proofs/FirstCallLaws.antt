@@ -1,4 +1,4 @@
--- Laws of a call of either kind that was read (specs/Calls.antt): 6 to 8, and the three parts in which the refusals from 6 on are tried.
+-- Laws of a call of either kind that was read (specs/Calls.antt): refusals 6 to 14 in two parts, the first of which is tried alike for both kinds.
 use mathlib.Core.Path.{_≡_, refl, sym, ap, _∙_}
 use mathlib.Core.List.{[], _++_}
 use mathlib.Core.Option.{none, some, Option}
@@ -9,7 +9,7 @@ use Rattle.lists.specs.Lists.{Bytes}
 use Rattle.rules.specs.Limits.{treeSizeLimit, greatestVersion}
 use Rattle.rules.specs.State.{State, versions}
 use Rattle.rules.specs.Response.{Kind as KindOf, Parts}
-use Rattle.rules.specs.Refusals.{Inputs, Call, refused, tried, checks, lastChecks}
+use Rattle.rules.specs.Refusals.{Inputs, Call, checks}
 use Rattle.rules.specs.Calls.{libraryInputs}
 use Rattle.rules.proofs.RefusalLaws.{NoneApplies}
 use Rattle.rules.proofs.NextStateLaws.{size-was}
@@ -19,37 +19,26 @@ use Rattle.inputs.specs.declared.response.Response.{Response}
 use Rattle.inputs.specs.declared.state.State.{State as StateBlock}
 use Rattle.inputs.specs.Response.{partsIn}
 use Rattle.inputs.specs.State.{stateOf, contents}
-use Rattle.checks.specs.Calls.{argumentsOf, numberTried, rules6, rules9to15, rules16, kindIn, IsFirstNumber, IsCall, IsGiven}
-use Rattle.checks.proofs.TrialLaws.{none-applies, rest-tried, first-refuses, Numbered}
+use Rattle.checks.specs.Calls.{argumentsOf, numberTried, rules6, rules9to14, kindIn, IsFirstNumber, IsCall, IsGiven}
+use Rattle.checks.proofs.TrialLaws.{none-applies, number-front, number-rest, Numbered}
 use Rattle.checks.proofs.GivenLaws.{own-kind, version-possible}
 use Rattle.checks.proofs.StateStructLaws.{stands-for, Struct}
 
--- ---- the three parts
+-- ---- the two parts of 6 to 14
 
 -- no rule of 6 to 8 has the number 0
 numbered6 : Numbered rules6
-numbered6 = (omega arith, (omega arith, (omega arith, tt)))
-
--- nor one of 9 to 15
-numbered9to15 : Numbered rules9to15
-numbered9to15 = (omega arith, (omega arith, (omega arith, (omega arith, (omega arith, (omega arith, (omega arith, tt)))))))
+numbered6 = omega arith
 
 module _ (c : Call) where
-  -- all rules from 6 on are those of the three parts
-  rules-parts : tried (checks ++ lastChecks) c ≡ tried (rules6 ++ (rules9to15 ++ rules16)) c
-  unfolding checks lastChecks
-  rules-parts = refl
+  -- 6 to 14 are those of the two parts
+  checks-parts : numberTried (rules6 ++ rules9to14) c ≡ numberTried checks c
+  unfolding checks
+  checks-parts = refl
 
-  module _ (h : NoneApplies rules6 c) (n : ℕ) (e : n ≡ numberTried rules9to15 c) where
-    -- where none of 6 to 8 applies, a number of 9 to 15 refuses the call
-    pub check-stops : (n ≡ 0 → ⊥) → tried (checks ++ lastChecks) c ≡ refused n
-    check-stops z = rules-parts ∙ rest-tried rules6 (rules9to15 ++ rules16) c h ∙ first-refuses rules9to15 rules16 c n e z
-
-    -- where none of those does either, 16 is left
-    pub check-passes : n ≡ 0 → tried (checks ++ lastChecks) c ≡ tried rules16 c
-    check-passes z =
-        rules-parts ∙ rest-tried rules6 (rules9to15 ++ rules16) c h
-        ∙ rest-tried rules9to15 rules16 c (none-applies rules9to15 c numbered9to15 (sym z ∙ e))
+  -- where none of 6 to 8 applies, 9 to 14 are left
+  pub checks-rest : NoneApplies rules6 c → numberTried rules9to14 c ≡ numberTried checks c
+  checks-rest h = number-rest rules6 rules9to14 c h ∙ checks-parts
 
 -- ---- its arguments
 
@@ -146,10 +135,10 @@ module _
             number-told c (i .parts) (ap (λ (y : Inputs). y .kind) (i .inputs)) (ap (λ (y : Inputs). y .identifier) (i .inputs))
             (stands-for b (c .state) (i .state))
 
-        -- which is refused with it, where it is not 0
-        pub first-stops : (n ≡ 0 → ⊥) → tried (checks ++ lastChecks) c ≡ refused n
-        first-stops z = rules-parts c ∙ first-refuses rules6 (rules9to15 ++ rules16) c n call-told z
+        -- where it is not 0, it is the number of all of 6 to 14
+        pub first-stops : (n ≡ 0 → ⊥) → n ≡ numberTried checks c
+        first-stops z = number-front rules6 rules9to14 c n call-told z ∙ checks-parts c
 
-        -- and to which else none of 6 to 8 applies
+        -- and else none of 6 to 8 applies
         pub first-passes : n ≡ 0 → NoneApplies rules6 c
         first-passes z = none-applies rules6 c numbered6 (sym z ∙ call-told)

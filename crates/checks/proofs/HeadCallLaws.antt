@@ -1,13 +1,12 @@
 -- Laws of the head of a log that a response shows, from what is found at the places of its entries and nodes (src/head.rt).
 use mathlib.Core.Path.{_≡_, refl, sym, ap, _∙_}
-use mathlib.Core.Bool.{Bool, true, false, not}
+use mathlib.Core.Bool.{true, not}
 use mathlib.Core.List.{List, [], _++_, map, flatten, append-nil}
 use mathlib.Core.Option.{some, Option·some-injective}
 use Prim.Native.Nat.{ℕ}
 use lib.Count.{ones}
-use lib.Dec.{ltb}
 use borrow.Author.Tests.{eqb-true}
-use Rattle.lists.specs.Lists.{Bytes, all, rising, runs, same}
+use Rattle.lists.specs.Lists.{Bytes, runs}
 use Rattle.lists.proofs.ListLaws.{choose-true, bind-some, provided-true, equal-same}
 use Rattle.hash.specs.Bytes.{padded}
 use Rattle.lines.specs.Line.{endedLines, openRest, readLines, readLine, writeLine, leading}
@@ -15,19 +14,18 @@ use Rattle.lines.specs.Readings.{partOf}
 use Rattle.lines.proofs.LineLaws.{lineText, write-line, line-read, linesText, text-written, joined-lines, leading-was, leading-each}
 use Rattle.tree.specs.LogTree.{fullValues, keptValuesMet}
 use Rattle.tree.specs.LogText.{nodesIn as nodesThere}
-use Rattle.tree.specs.LogHead.{Head, knownIn, isWalkable, walkOver, logHead}
+use Rattle.tree.specs.LogHead.{Head, knownIn, isWalkable, walkOver, logHead, headWith}
+use Rattle.tree.specs.declared.log_head.LogHead.{LogHead}
 use Rattle.tree.proofs.LogTextLaws.{IsValue, nodes-written}
 use Rattle.rules.specs.Limits.{hashLength, valuesBlockLength}
-use Rattle.rules.specs.Configuration.{treeHead}
-use Rattle.rules.specs.Response.{Parts, entryPositions}
+use Rattle.rules.specs.Response.{Parts}
 use Rattle.rules.specs.ResponseText.{nodeForm, readNode}
-use Rattle.rules.specs.Refusals.{Call, sizeWrong, known, logWalk, logRoot, treeHeadOf, historyDiffers, headDiffers}
+use Rattle.rules.specs.Refusals.{Call, known, logWalk, logRoot, historyDiffers}
 use Rattle.rules.proofs.NextStateLaws.{size-was}
 use Rattle.inputs.specs.declared.response.Response.{Response}
 use Rattle.inputs.specs.Response.{entriesIn, nodesIn, partsIn, AllRead}
 use Rattle.checks.specs.Entries.{EntriesStand}
-use Rattle.checks.specs.Calls.{numberTried, rules14, entriesText, IsHead}
-use Rattle.checks.proofs.TrialLaws.{number-first, number-next, number-none}
+use Rattle.checks.specs.Calls.{entriesText, IsHead}
 use Rattle.checks.proofs.AskedCallLaws.{logged-positions, stand-walkable}
 
 -- ---- nodes
@@ -80,98 +78,26 @@ known-there : (c : Call) (s : Bytes) (places : List ℕ) (size : ℕ) (kept : By
 unfolding knownIn known
 known-there c s places size kept m v e = rw (m, v, e) refl
 
--- ---- the ways out
+-- ---- the head of a response
 
--- what the head of a response is worked out from and tried with
-pub record HeadGiven : Type 0 where
-  pub text : Bytes
-  pub response : Response
-  pub places : List ℕ
-  pub size : ℕ
-  pub kept : Bytes
-  pub configuration : Bytes
-  pub signed : Bytes
-  pub filled : AllRead readNode (partOf text (response .nodes .part))
-
--- a number is the right one, and so are the values
-abbrev IsRight : HeadGiven → ℕ → Bytes → Type 0
-IsRight x k values =
-    IsHead (x .text) (x .response) (x .places) (x .size) (x .kept) (x .configuration) (x .signed) k values
-
--- a call shows such a response
-record Shows (x : HeadGiven) (c : Call) : Type 0 where
-  parts : c .parts ≡ partsIn (x .text) (x .response)
-  size : c .state .size ≡ x .size
-  values : c .state .values ≡ runs (ones (x .size)) hashLength (x .kept)
-  configuration : c .inputs .configuration ≡ x .configuration
-  signed : c .inputs .signedText ≡ x .signed
-  sizeRight : sizeWrong c ≡ false
-  rises : rising (entryPositions (c .parts)) ≡ true
-  below : all (λ (p : ℕ). ltb p (c .parts .size)) (entryPositions (c .parts)) ≡ true
-  stands : EntriesStand (entriesText (x .text) (x .response)) (x .places) (entriesIn (entriesText (x .text) (x .response)))
-
-module _ (x : HeadGiven) (s nodes : Bytes) (isEntries : s ≡ entriesText (x .text) (x .response)) (isNodes : nodes ≡ partOf (x .text) (x .response .nodes .part))
-    (head : Head) (isHead : head ≡ logHead (x .response .size) (knownIn s (x .places) (x .size) (x .kept)) (nodesThere nodes)) where
-  -- the head that was worked out is that of the rules
-  head-right : (c : Call) → Shows x c → head ≡ headOf c
-  unfolding partsIn
-  head-right c h =
-      let isSize : c .parts .size ≡ x .response .size = ap (λ (p : Parts). p .size) (h .parts) in
-      let entries : c .parts .entries ≡ entriesIn (entriesText (x .text) (x .response)) = ap (λ (p : Parts). p .entries) (h .parts) in
-      let given : nodesThere nodes ≡ c .parts .nodes = ap nodesThere isNodes ∙ nodes-there _ (x .filled) ∙ sym (ap (λ (p : Parts). p .nodes) (h .parts)) in
-      let stand : EntriesStand s (x .places) (c .parts .entries) = rw (isEntries, entries) (h .stands) in
-      let (a, b, d) = size-was c (h .sizeRight) in
-      let k = known-there c s (x .places) (x .size) (x .kept) (h .size) (h .values) stand in
-      let w = stand-walkable s (x .places) (c .parts .entries) stand (c .parts .size) (x .size) (x .kept) a b (rw (← h .size) d) (h .rises) (h .below) in
-      isHead ∙ rw (← isSize, given, k) (head-walked c (rw (← k) w))
-
-  -- a number that is right for each such call is the right one, and the values are right
-  of-each : (k : ℕ) → ((c : Call) → Shows x c → k ≡ numberTried rules14 c) → IsRight x k (head .values)
-  of-each k f c e m v i t h rises below stand =
-      let g : Shows x c =
-      record {
-        parts = e;
-        size = m;
-        values = v;
-        configuration = i;
-        signed = t;
-        sizeRight = h;
-        rises = rises;
-        below = below;
-        stands = stand;
-      } in
-      (f c g, ap (λ (y : Head). y .values) (head-right c g))
-
-  -- whether 14 applies
-  fourteen-known : (c : Call) → Shows x c → historyDiffers c ≡ not (head .met)
-  unfolding historyDiffers
-  fourteen-known c h = ap (λ (y : Head). not (y .met)) (sym (head-right c h))
-
-  -- a kept value differs
-  pub history-differs : head .met ≡ false → IsRight x 14 (head .values)
-  history-differs f = of-each 14 λ c h. number-first 14 historyDiffers _ c (fourteen-known c h ∙ ap not f)
-
-  module _ (f : head .met ≡ true) (b : Bool) (isSame : b ≡ same (x .signed) (treeHead (x .configuration) (x .response .size) (head .root))) where
-    -- 14 does not apply
-    fourteen-not : (c : Call) → Shows x c → historyDiffers c ≡ false
-    fourteen-not c h = fourteen-known c h ∙ ap not f
-
-    -- whether 15 does
-    fifteen-known : (c : Call) → Shows x c → headDiffers c ≡ not b
-    unfolding headDiffers treeHeadOf partsIn
-    fifteen-known c h =
-        ap (λ (y : Bytes). not (same y (treeHead (c .inputs .configuration) (c .parts .size) (logRoot c)))) (h .signed)
-        ∙ ap (λ (y : Bytes). not (same (x .signed) (treeHead y (c .parts .size) (logRoot c)))) (h .configuration)
-        ∙ ap (λ (p : Parts). not (same (x .signed) (treeHead (x .configuration) (p .size) (logRoot c)))) (h .parts)
-        ∙ ap (λ (y : Head). not (same (x .signed) (treeHead (x .configuration) (x .response .size) (y .root)))) (sym (head-right c h))
-        ∙ ap not (sym isSame)
-
-    -- the signed text differs
-    pub text-differs : b ≡ false → IsRight x 15 (head .values)
-    text-differs g = of-each 15 λ c h.
-        number-first 15 headDiffers _ c (fifteen-known c h ∙ ap not g) ∙ number-next 14 historyDiffers _ c (fourteen-not c h)
-
-    -- neither differs
-    pub head-passes : b ≡ true → IsRight x 0 (head .values)
-    head-passes g = of-each 0 λ c h.
-        number-none c ∙ number-next 15 headDiffers _ c (fifteen-known c h ∙ ap not g) ∙ number-next 14 historyDiffers _ c (fourteen-not c h)
+module _ (text : Bytes) (r : Response) (places : List ℕ) (size : ℕ) (kept : Bytes) (filled : AllRead readNode (partOf text (r .nodes .part)))
+    (s nodes : Bytes) (isEntries : s ≡ entriesText text r) (isNodes : nodes ≡ partOf text (r .nodes .part))
+  where
+    -- a head that is worked out from its entries and nodes is that of the rules
+    pub head-shown : (h : LogHead) (block : Bytes) → headWith block h ≡ logHead (r .size) (knownIn s places size kept) (nodesThere nodes)
+        → IsHead text r places size kept h block
+    unfolding partsIn historyDiffers
+    head-shown h block isHead c parts isSize values sizeRight rises below stands =
+        let n : c .parts .size ≡ r .size = ap (λ (p : Parts). p .size) parts in
+        let entries : c .parts .entries ≡ entriesIn (entriesText text r) = ap (λ (p : Parts). p .entries) parts in
+        let given : nodesThere nodes ≡ c .parts .nodes = ap nodesThere isNodes ∙ nodes-there _ filled ∙ sym (ap (λ (p : Parts). p .nodes) parts) in
+        let stand : EntriesStand s places (c .parts .entries) = rw (isEntries, entries) stands in
+        let (a, b, d) = size-was c sizeRight in
+        let k = known-there c s places size kept isSize values stand in
+        let w = stand-walkable s places (c .parts .entries) stand (c .parts .size) size kept a b (rw (← isSize) d) rises below in
+        let right : headWith block h ≡ headOf c = isHead ∙ rw (← n, given, k) (head-walked c (rw (← k) w)) in
+        record {
+          met = ap (λ (y : Head). not (y .met)) (sym right);
+          root = ap (λ (y : Head). y .root) right;
+          values = ap (λ (y : Head). y .values) right;
+        }

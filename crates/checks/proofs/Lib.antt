@@ -8,15 +8,18 @@ pub mod TimeLaws
 pub mod JudgeLaws
 pub mod CommitmentLaws
 pub mod TreeHeadLaws
+pub mod TreeHeadWritingLaws
 pub mod PairPutLaws
 pub mod GivenLaws
 pub mod AskedCallLaws
 pub mod ShownCallLaws
 pub mod HeadCallLaws
+pub mod SectionTrialLaws
 pub mod CheckLaws
 pub mod ReadingsLaws
 pub mod StateStructLaws
 pub mod FirstCallLaws
+pub mod LastChecksLaws
 pub mod AcceptLaws
 pub mod ReadCallLaws
 pub mod SearchLaws
@@ -34,3 +37,4 @@ pub mod MonitoredCheckLaws
 pub mod MovedPairLaws
 pub mod MonitoringCallLaws
 pub mod MonitoringLaws
+pub mod SignedTextLaws

@@ -16,8 +16,8 @@ use Rattle.rules.specs.State.{State}
 use Rattle.rules.specs.Response.{Kind, Parts}
 use Rattle.rules.specs.ResponseText.{readResponse}
 use Rattle.rules.specs.Refusals.{Inputs, Call, Judgement, refused, passed, reading, lengthsFit, validState, readCall}
-use Rattle.rules.specs.Refusals.{tried, triedAfter, judge, checks, lastChecks}
-use Rattle.rules.specs.Calls.{libraryInputs, nextState, stateAfter}
+use Rattle.rules.specs.Refusals.{Rule, tried, triedAfter, judge, checks, lastChecks}
+use Rattle.rules.specs.Calls.{libraryInputs, numberOf, nextState, stateAfter}
 use Rattle.rules.proofs.NextStateLaws.{state-valid}
 use Rattle.inputs.specs.declared.response.Response.{Response}
 use Rattle.inputs.specs.declared.response.ReadResponse.the-variants.{Read}
@@ -27,7 +27,7 @@ use Rattle.inputs.specs.State.{stateOf}
 use Rattle.inputs.proofs.StateBlockLaws.{valid-some, block-state}
 use Rattle.checks.specs.declared.readings.ReadInputs.{ReadInputs}
 use Rattle.checks.specs.declared.readings.ReadInputs.the-variants.{Taken, Refused}
-use Rattle.checks.specs.Calls.{argumentsOf, blockAfter, areLengthsFit, IsCall, IsReading, AreInputs}
+use Rattle.checks.specs.Calls.{argumentsOf, blockAfter, areLengthsFit, IsReadingNumber, IsCall, IsReading, AreInputs}
 
 -- ---- what is given is read
 
@@ -152,20 +152,47 @@ module _ (response configuration identifier outputs signed : Bytes) where
   -- ---- what is said of a call then
 
   module _ (st : Option State) (kind : Option Kind) (clock room : ℕ) where
-    -- a number with which the reading ends is that of the call
+    -- a number with which the reading ends is that of the call, whatever rules are tried after it
+    pub rules-refused : (rs : List Rule) (n : ℕ) → IsReading st response configuration identifier outputs signed (Refused n)
+        → triedAfter rs (readCall st (inputs kind clock room)) ≡ refused n
+    unfolding triedAfter
+    rules-refused rs n h = ap (triedAfter rs) (h kind clock room)
+
+    -- and else the rules are tried on what was read
+    pub rules-tried : (rs : List Rule) (ahead behind : ℕ) (r : Response) → IsReading st response configuration identifier outputs signed (Taken ahead behind r)
+        → (c : Call) × (triedAfter rs (readCall st (inputs kind clock room)) ≡ tried rs c)
+        × IsCall c kind st response r configuration ahead behind identifier clock outputs signed room
+    unfolding triedAfter
+    rules-tried rs ahead behind r (_, h) =
+        let (c, e, i) = h kind clock room in
+        (c, ap (triedAfter rs) e, i)
+
+    -- where they are those from 6 to 16
     pub reading-refused : (n : ℕ) → IsReading st response configuration identifier outputs signed (Refused n)
         → judge st (inputs kind clock room) ≡ refused n
-    unfolding judge triedAfter
-    reading-refused n h = ap (triedAfter (checks ++ lastChecks)) (h kind clock room)
+    unfolding judge
+    reading-refused n h = rules-refused (checks ++ lastChecks) n h
 
-    -- and else the rules from 6 on are tried on what was read
     pub reading-tried : (ahead behind : ℕ) (r : Response) → IsReading st response configuration identifier outputs signed (Taken ahead behind r)
         → (c : Call) × (judge st (inputs kind clock room) ≡ tried (checks ++ lastChecks) c)
         × IsCall c kind st response r configuration ahead behind identifier clock outputs signed room
-    unfolding judge triedAfter
-    reading-tried ahead behind r (_, h) =
-        let (c, e, i) = h kind clock room in
-        (c, ap (triedAfter (checks ++ lastChecks)) e, i)
+    unfolding judge
+    reading-tried ahead behind r h = rules-tried (checks ++ lastChecks) ahead behind r h
+
+  -- ---- and of the reading alone
+
+  module _ (st : Option State) where
+    -- the number with which it ends
+    pub refused-number : (n : ℕ) → IsReading st response configuration identifier outputs signed (Refused n)
+        → IsReadingNumber st response configuration identifier outputs signed n
+    unfolding numberOf
+    refused-number n h kind clock room = sym (ap numberOf (h kind clock room))
+
+    -- 0 where everything was read
+    pub taken-number : (ahead behind : ℕ) (r : Response) → IsReading st response configuration identifier outputs signed (Taken ahead behind r)
+        → IsReadingNumber st response configuration identifier outputs signed 0
+    unfolding numberOf
+    taken-number ahead behind r (_, h) kind clock room = let (c, e, i) = h kind clock room in sym (ap numberOf e)
 
 -- ---- what comes back
 

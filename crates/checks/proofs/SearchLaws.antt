@@ -33,7 +33,7 @@ module _
 
     -- 1 to 5: refused while it was read
     pub search-refused : (n : ℕ) (a : SearchAnswer) → IsReading (stateOf b) response configuration identifier outputs signed (Refused n)
-        → a ≡ record { number = n; state = b; length = 0 } → Answers a output
+        → a ≡ record { number = n; state = b; version = 0; length = 0 } → Answers a output
     unfolding judgeSearch
     search-refused n a h q =
         let e = reading-refused response configuration identifier outputs signed (stateOf b) (some searchKind) clock (length output) n h in

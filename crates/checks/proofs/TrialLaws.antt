@@ -8,7 +8,7 @@ use native.Mathlib.Omega.{arith}
 use Rattle.lists.specs.Choice.{choose}
 use Rattle.rules.specs.Refusals.{Call, Judgement, refused, passed, Rule, rule, tried, triedAfter}
 use Rattle.rules.specs.Calls.{numberOf}
-use Rattle.rules.proofs.RefusalLaws.{NoneApplies, FirstApplies, Tried, tried-meaning, passes}
+use Rattle.rules.proofs.RefusalLaws.{NoneApplies, FirstApplies, Tried, tried-meaning, tried-append, rest-tried, number-refused}
 use Rattle.checks.specs.Calls.{numberTried}
 
 -- ---- one rule after the other
@@ -36,17 +36,6 @@ abbrev pub Numbered : List Rule → Type 0
 Numbered [] = Unit {0}
 Numbered (r ∷ rs) = (1 ≤ r .number) × Numbered rs
 
--- rules after others are tried on what those let pass
-tried-append : (xs ys : List Rule) (c : Call) → tried (xs ++ ys) c ≡ triedAfter ys (tried xs c)
-unfolding tried triedAfter choose
-tried-append [] ys c = refl
-tried-append (r ∷ rs) ys c = go (r .applies c) (tried-append rs ys c)
-  where
-    go : (b : Bool) → tried (rs ++ ys) c ≡ triedAfter ys (tried rs c)
-        → choose b (λ _. refused (r .number)) (λ _. tried (rs ++ ys) c) ≡ triedAfter ys (choose b (λ _. refused (r .number)) (λ _. tried rs c))
-    go true e = refl
-    go false e = e
-
 -- the first rule that applies has a number that is not 0
 first-numbered : (rs : List Rule) (c : Call) (k : ℕ) → Numbered rs → FirstApplies rs c k → 1 ≤ k
 first-numbered [] c k n h = absurd h
@@ -62,19 +51,10 @@ none-applies rs c n = go (tried rs c) (tried-meaning rs c)
     go (refused k) h e = let p = first-numbered rs c k n h in absurd (omega (arith, p, e))
     go (passed d) (q, h) e = h
 
--- and the rules after them are tried
-pub rest-tried : (xs ys : List Rule) (c : Call) → NoneApplies xs c → tried (xs ++ ys) c ≡ tried ys c
-unfolding triedAfter
-rest-tried xs ys c h = tried-append xs ys c ∙ ap (triedAfter ys) (passes xs c h)
-
 -- where it is another, the call is refused with it, whatever rules follow
 pub first-refuses : (xs ys : List Rule) (c : Call) (k : ℕ) → k ≡ numberTried xs c → (k ≡ 0 → ⊥) → tried (xs ++ ys) c ≡ refused k
-unfolding numberOf triedAfter
-first-refuses xs ys c k e z = tried-append xs ys c ∙ go (tried xs c) e
-  where
-    go : (j : Judgement) → k ≡ numberOf j → triedAfter ys j ≡ refused k
-    go (refused n) q = ap refused (sym q)
-    go (passed d) q = absurd (z q)
+unfolding triedAfter
+first-refuses xs ys c k e z = tried-append xs ys c ∙ ap (triedAfter ys) (number-refused (tried xs c) k e z)
 
 -- the number of rules in two parts is that of the first part, if it is not 0
 pub number-front : (xs ys : List Rule) (c : Call) (k : ℕ) → k ≡ numberTried xs c → (k ≡ 0 → ⊥) → k ≡ numberTried (xs ++ ys) c

@@ -11,13 +11,14 @@ use Rattle.lists.specs.Choice.{given}
 use Rattle.lists.specs.Lists.{Bytes, all, every, rising, runs}
 use Rattle.hash.specs.Bytes.{padded}
 use Rattle.tree.specs.LogTree.{fullValues}
+use Rattle.tree.specs.declared.log_head.LogHead.{LogHead}
 use Rattle.lines.specs.Readings.{partOf}
 use Rattle.rules.specs.Limits.{responseLimit, configurationLimit, signedTextLimit, vrfOutputsLimit, identifierLength, hashLength, valuesBlockLength}
 use Rattle.rules.specs.VrfOutputs.{readOutputs}
 use Rattle.rules.specs.State.{MapEntry, State, versions}
 use Rattle.rules.specs.Response.{Kind, search, monitor, Target, Finding, searched, monitored, entryPositions}
 use Rattle.rules.specs.ResponseText.{readResponse}
-use Rattle.rules.specs.Refusals.{Call, Judgement, refused, passed, Rule, rule, tried, known, logWalk, validState, readCall, foreign, sizeWrong, targetWrongIn}
+use Rattle.rules.specs.Refusals.{Call, Judgement, refused, passed, Rule, rule, tried, known, logWalk, logRoot, validState, readCall, foreign, sizeWrong, targetWrongIn}
 use Rattle.rules.specs.Refusals.{targetWrong, notAsAsked, outputMissing, timesWrong, lookupFails, resultsWrong, historyDiffers, headDiffers, roomMissing}
 use Rattle.rules.specs.Calls.{Arguments, libraryInputs, numberOf, nextState}
 use Rattle.inputs.specs.declared.state.State.{State as StateBlock}
@@ -40,6 +41,12 @@ argumentsOf response configuration identifier clock outputs =
 unfoldable pub blockAfter : StateBlock → Judgement → StateBlock
 blockAfter b (refused k) = b
 blockAfter b (passed c) = blockOf (nextState c)
+
+-- the number of the first of 1 to 5 that applies, or 0, whatever is asked for
+abbrev pub IsReadingNumber : Option State → Bytes → Bytes → Bytes → Bytes → Bytes → ℕ → Type 0
+IsReadingNumber st response configuration identifier outputs signed n =
+    (kind : Option Kind) (clock room : ℕ)
+    → n ≡ numberOf (readCall st (libraryInputs kind (argumentsOf response configuration identifier clock outputs) signed room))
 
 -- ==== for contracts of private functions alone
 
@@ -110,10 +117,13 @@ abbrev pub rules9to13 : List Rule
 rules9to13 = rules9 ++ rules11
 
 abbrev pub rules14 : List Rule
-rules14 = rule 14 historyDiffers ∷ rule 15 headDiffers ∷ []
+rules14 = rule 14 historyDiffers ∷ []
 
-abbrev pub rules9to15 : List Rule
-rules9to15 = rules9to13 ++ rules14
+abbrev pub rules9to14 : List Rule
+rules9to14 = rules9to13 ++ rules14
+
+abbrev pub rules15 : List Rule
+rules15 = rule 15 headDiffers ∷ []
 
 abbrev pub rules16 : List Rule
 rules16 = rule 16 roomMissing ∷ []
@@ -162,12 +172,14 @@ pub record IsGiven (c : Call) (text : Bytes) (r : Response) (size′ time′ clo
   pub behind : c .configuration .maxBehind ≡ behind′
   pub outputs : readOutputs outputs′ ≡ some (c .outputs)
 
--- 14 and 15, of a call to which 7 does not apply, and whose entries rise and are in the log; the values of the full subtrees
-abbrev pub IsHead : Bytes → Response → List ℕ → ℕ → Bytes → Bytes → Bytes → ℕ → Bytes → Type 0
-IsHead text r places size kept configuration signed n values =
-    (c : Call) → c .parts ≡ partsIn text r → c .state .size ≡ size → c .state .values ≡ runs (ones size) hashLength kept
-    → c .inputs .configuration ≡ configuration → c .inputs .signedText ≡ signed → sizeWrong c ≡ false
+-- the head of the log, of a call to which 7 does not apply, and whose entries rise and are in the log
+pub record ShowsHead (c : Call) (h : LogHead) (block : Bytes) : Type 0 where
+  pub met : historyDiffers c ≡ not (h .met)
+  pub root : h .root ≡ logRoot c
+  pub values : block ≡ padded valuesBlockLength (flatten (fullValues (c .parts .size) (known c) (logWalk c) (c .parts .nodes)))
+
+abbrev pub IsHead : Bytes → Response → List ℕ → ℕ → Bytes → LogHead → Bytes → Type 0
+IsHead text r places size kept h block =
+    (c : Call) → c .parts ≡ partsIn text r → c .state .size ≡ size → c .state .values ≡ runs (ones size) hashLength kept → sizeWrong c ≡ false
     → rising (entryPositions (c .parts)) ≡ true → all (λ (p : ℕ). ltb p (c .parts .size)) (entryPositions (c .parts)) ≡ true
-    → EntriesStand (entriesText text r) places (entriesIn (entriesText text r))
-    → (n ≡ numberTried rules14 c)
-    × (values ≡ padded valuesBlockLength (flatten (fullValues (c .parts .size) (known c) (logWalk c) (c .parts .nodes))))
+    → EntriesStand (entriesText text r) places (entriesIn (entriesText text r)) → ShowsHead c h block

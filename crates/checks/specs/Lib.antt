@@ -7,3 +7,4 @@ pub mod Calls
 pub mod Search
 pub mod MonitoredVersions
 pub mod Monitoring
+pub mod SignedText

@@ -17,7 +17,7 @@ use Rattle.rules.specs.Limits.{responseLimit, vrfOutputsLimit, treeSizeLimit, g
 use Rattle.rules.specs.VrfOutputs.{VrfOutput, readOutputs, hasOutput}
 use Rattle.rules.specs.Response.{monitor, monitored, Step, Lookup, Entry, isIncluded}
 use Rattle.rules.specs.Monitoring.{askedByMonitoring, versionsOf as versionsAsked}
-use Rattle.rules.specs.Refusals.{Call, Judgement, tried, known, logWalk, lastTime, commitmentAsked, lookupHolds, lookupsHold, notAsAsked, outputMissing, checks}
+use Rattle.rules.specs.Refusals.{Call, Judgement, tried, known, logWalk, logRoot, lastTime, commitmentAsked, lookupHolds, lookupsHold, notAsAsked, outputMissing, checks}
 use Rattle.rules.specs.Refusals.{lastChecks}
 use Rattle.rules.specs.Calls.{numberOf}
 use Rattle.inputs.specs.declared.state.State.{State as StateBlock}
@@ -28,11 +28,11 @@ use Rattle.inputs.specs.declared.response.Response.{Response}
 use Rattle.inputs.specs.declared.response.ReadResponse.the-variants.{Read}
 use Rattle.inputs.specs.Response.{stepsIn, entriesIn, partsIn, Places}
 use Rattle.checks.specs.declared.monitoring.MonitoringAnswer.{MonitoringAnswer}
-use Rattle.checks.specs.declared.monitoring.Sections.{Sections}
-use Rattle.checks.specs.declared.monitoring.Checked.{Checked}
+use Rattle.checks.specs.declared.monitoring_checks.Sections.{Sections}
+use Rattle.checks.specs.declared.monitoring_checks.Checked.{Checked}
 use Rattle.checks.specs.declared.monitored_asked.MonitoredAsked.{MonitoredAsked}
 use Rattle.checks.specs.declared.monitored_shown.MonitoredShown.{MonitoredShown}
-use Rattle.checks.specs.Calls.{blockAfter, numberTried, stepsText, entriesText, rules9, rules11, rules9to13, rules9to15, IsCall, IsGiven}
+use Rattle.checks.specs.Calls.{blockAfter, numberTried, stepsText, entriesText, rules9, rules11, rules9to13, rules9to14, IsCall, IsGiven}
 use Rattle.checks.specs.Sections.{CommitmentAt, readLookup}
 use Rattle.checks.specs.Steps.{versionsOf}
 use Rattle.checks.specs.Entries.{EntriesStand, versionsOf as lookupVersionsOf}
@@ -178,7 +178,7 @@ IsMonitoredTime text r places s =
     s .number ≡ 0 → EntriesStand (entriesText text r) places (entriesIn (entriesText text r))
     → s .time ≡ lastOr 0 (map (λ (e : Entry). e .time) (entriesIn (entriesText text r)))
 
--- ---- 9 to 15
+-- ---- 9 to 14
 
 -- the arguments of 9 to 13 are those of a call
 pub record Monitors (c : Call) (text : Bytes) (r : Response) (ps vs : List ℕ) (size time clock ahead behind : ℕ) (outputs : Bytes) : Type 0 where
@@ -197,14 +197,24 @@ AreMonitoringPlaces text r s places =
     → EntriesStand (entriesText text r) (take (s .count) places) (entriesIn (entriesText text r))
     × (s .time ≡ lastOr 0 (map (λ (e : Entry). e .time) (entriesIn (entriesText text r))))
 
--- 9 to 15, of a call to which none of 6 to 8 applies; the time of the last entry, the values of the full subtrees
-abbrev pub IsMonitoringChecked : Bytes → Response → List ℕ → List ℕ → ℕ → ℕ → Bytes → ℕ → ℕ → ℕ → Bytes → Bytes → Bytes → Checked → Bytes → Type 0
-IsMonitoringChecked text r ps vs size time kept clock ahead behind configuration outputs signed k block =
+-- what comes of a call to which none of 6 to 14 applies: the time of the last entry, the root, the values of the full subtrees
+pub record LeavesMonitored (c : Call) (k : Checked) (block : Bytes) : Type 0 where
+  pub time : k .time ≡ lastTime c
+  pub root : k .root ≡ logRoot c
+  pub values : block ≡ padded valuesBlockLength (flatten (fullValues (c .parts .size) (known c) (logWalk c) (c .parts .nodes)))
+
+-- 9 to 14, of a call to which none of 6 to 8 applies
+abbrev pub IsMonitoringChecked : Bytes → Response → List ℕ → List ℕ → ℕ → ℕ → Bytes → ℕ → ℕ → ℕ → Bytes → Checked → Bytes → Type 0
+IsMonitoringChecked text r ps vs size time kept clock ahead behind outputs k block =
     (c : Call) → Monitors c text r ps vs size time clock ahead behind outputs → c .state .values ≡ runs (ones size) hashLength kept
-    → c .inputs .configuration ≡ configuration → c .inputs .signedText ≡ signed
-    → (k .number ≡ numberTried rules9to15 c)
-    × (k .number ≡ 0 → (k .time ≡ lastTime c)
-    × (block ≡ padded valuesBlockLength (flatten (fullValues (c .parts .size) (known c) (logWalk c) (c .parts .nodes)))))
+    → (k .number ≡ numberTried rules9to14 c) × (k .number ≡ 0 → LeavesMonitored c k block)
+
+-- 6 to 14, of a call that was read
+abbrev pub IsCheckedMonitoring : Bytes → Response → ℕ → ℕ → StateBlock → Bytes → ℕ → Bytes → Checked → Bytes → Type 0
+IsCheckedMonitoring text r ahead behind b identifier clock outputs k block =
+    (configuration signed : Bytes) (room : ℕ) (c : Call)
+    → IsCall c (some monitor) (stateOf b) text r configuration ahead behind identifier clock outputs signed room
+    → (k .number ≡ numberTried checks c) × (k .number ≡ 0 → (r .kind ≡ Monitor) × LeavesMonitored c k block)
 
 -- 6 to 16, of a call that was read
 abbrev pub IsMonitoringAnswer : Bytes → Response → Bytes → ℕ → ℕ → StateBlock → Bytes → ℕ → Bytes → Bytes → MonitoringAnswer → Type 0

@@ -14,9 +14,9 @@ use Rattle.lines.specs.Hex.{readHex}
 use Rattle.lines.specs.Readings.{partOf}
 use Rattle.rules.specs.Limits.{responseLimit, treeSizeLimit, greatestVersion, labelLimit, openingLength, valueLimit, hashLength, valuesBlockLength}
 use Rattle.rules.specs.VrfOutputs.{readOutputs, hasOutput}
-use Rattle.rules.specs.Response.{search, Target, searched, Entry, stepVersions}
+use Rattle.rules.specs.Response.{search, Target, Finding, searched, monitored, Entry, stepVersions}
 use Rattle.rules.specs.Search.{isComplete}
-use Rattle.rules.specs.Refusals.{Call, Judgement, tried, known, logWalk, lastTime, commitmentAsked, lookupsHold, notAsAsked, outputMissing, checks, lastChecks}
+use Rattle.rules.specs.Refusals.{Call, Judgement, refused, passed, tried, known, logWalk, logRoot, lastTime, commitmentAsked, lookupsHold, notAsAsked, outputMissing, checks, lastChecks}
 use Rattle.rules.specs.Calls.{numberOf, valueOf, outputAfter}
 use Rattle.inputs.specs.declared.state.State.{State as StateBlock}
 use Rattle.inputs.specs.State.{stateOf}
@@ -26,18 +26,28 @@ use Rattle.inputs.specs.declared.response.Response.{Response}
 use Rattle.inputs.specs.declared.response.ReadResponse.the-variants.{Read}
 use Rattle.inputs.specs.Response.{stepsIn, entriesIn, partsIn, Places}
 use Rattle.checks.specs.declared.search.SearchAnswer.{SearchAnswer}
-use Rattle.checks.specs.Calls.{blockAfter, numberTried, stepsText, entriesText, rules9, rules11, rules9to13, rules9to15, rules16, IsCall, IsGiven}
+use Rattle.checks.specs.Calls.{blockAfter, numberTried, stepsText, entriesText, rules9, rules11, rules9to13, rules9to14, rules16, IsCall, IsGiven}
 use Rattle.checks.specs.Steps.{CommitmentsAt}
 use Rattle.checks.specs.Entries.{EntriesStand}
 use Rattle.checks.specs.Lookups.{allWanted}
 use Rattle.checks.specs.declared.asked.Asked.{Asked}
 use Rattle.checks.specs.declared.shown.Shown.{Shown}
-use Rattle.checks.specs.declared.search.Sections.{Sections}
-use Rattle.checks.specs.declared.search.Checked.{Checked}
+use Rattle.checks.specs.declared.search_checks.Sections.{Sections}
+use Rattle.checks.specs.declared.search_checks.Checked.{Checked}
 
--- the number, the state, and how many bytes the value fills
+-- the version that a search found; 0 where there is none
+unfoldable pub versionFound : Finding → ℕ
+versionFound (searched t) = t .version
+versionFound monitored = 0
+
+unfoldable pub versionOf : Judgement → ℕ
+versionOf (refused k) = 0
+versionOf (passed c) = versionFound (c .parts .finding)
+
+-- the number, the state, the version, and how many bytes the value fills
 unfoldable pub searchAnswer : StateBlock → Judgement → SearchAnswer
-searchAnswer b j = record { number = numberOf j; state = blockAfter b j; length = length (Option·getD (valueOf j) []) }
+searchAnswer b j =
+    record { number = numberOf j; state = blockAfter b j; version = versionOf j; length = length (Option·getD (valueOf j) []) }
 
 -- ==== for contracts of private functions alone
 
@@ -116,27 +126,27 @@ pub record Found (text : Bytes) (r : Response) (s : Sections) : Type 0 where
 abbrev pub AreFound : Bytes → Response → Sections → Type 0
 AreFound text r s = s .number ≡ 0 → Found text r s
 
--- what the arguments of 9 to 15 are of a call
-pub record Stands (c : Call) (text : Bytes) (r : Response) (label′ : Bytes) (size′ time′ : ℕ) (kept : Bytes) (clock′ ahead′ behind′ : ℕ)
-    (configuration′ outputs′ signed′ : Bytes) : Type 0 where
-  pub shows : Shows c text r label′ size′ time′ clock′ ahead′ behind′ outputs′
-  pub values : c .state .values ≡ runs (ones size′) hashLength kept
-  pub configuration : c .inputs .configuration ≡ configuration′
-  pub signed : c .inputs .signedText ≡ signed′
-
--- what comes of a call that passes them: the position of the first complete entry, the time of the last, the values of the full subtrees
+-- what comes of a call to which none of 6 to 14 applies: the position of the first complete entry, the time of the last, the root, the values of the full subtrees
 pub record Leaves (c : Call) (t : ℕ) (k : Checked) (block : Bytes) : Type 0 where
   pub entry : Entry
   pub isFirst : first (isComplete (ladder t) t) (c .parts .entries) ≡ some entry
   pub position : k .position ≡ entry .position
   pub time : k .time ≡ lastTime c
+  pub root : k .root ≡ logRoot c
   pub values : block ≡ padded valuesBlockLength (flatten (fullValues (c .parts .size) (known c) (logWalk c) (c .parts .nodes)))
 
--- 9 to 15, of a call to which none of 6 to 8 applies
-abbrev pub IsChecked : Bytes → Response → Bytes → ℕ → ℕ → Bytes → ℕ → ℕ → ℕ → Bytes → Bytes → Bytes → Checked → Bytes → Type 0
-IsChecked text r label size time kept clock ahead behind configuration outputs signed k block =
-    (c : Call) → Stands c text r label size time kept clock ahead behind configuration outputs signed → (k .number ≡ numberTried rules9to15 c)
-    × (k .number ≡ 0 → Leaves c (r .target .version) k block)
+-- 9 to 14, of a call to which none of 6 to 8 applies
+abbrev pub IsChecked : Bytes → Response → Bytes → ℕ → ℕ → Bytes → ℕ → ℕ → ℕ → Bytes → Checked → Bytes → Type 0
+IsChecked text r label size time kept clock ahead behind outputs k block =
+    (c : Call) → Shows c text r label size time clock ahead behind outputs → c .state .values ≡ runs (ones size) hashLength kept
+    → (k .number ≡ numberTried rules9to14 c) × (k .number ≡ 0 → Leaves c (r .target .version) k block)
+
+-- 6 to 14, of a call that was read
+abbrev pub IsCheckedSearch : Bytes → Response → ℕ → ℕ → StateBlock → Bytes → ℕ → Bytes → Checked → Bytes → Type 0
+IsCheckedSearch text r ahead behind b identifier clock outputs k block =
+    (configuration signed : Bytes) (room : ℕ) (c : Call)
+    → IsCall c (some search) (stateOf b) text r configuration ahead behind identifier clock outputs signed room
+    → (k .number ≡ numberTried checks c) × (k .number ≡ 0 → (r .kind ≡ Search) × Leaves c (r .target .version) k block)
 
 -- 16 and acceptance, of a call to which none of 1 to 15 applies: the value is given by the field that spells it
 pub record Accepting (c : Call) (field : Bytes) (version size′ : ℕ) (b : StateBlock) (k : Checked) (block : Bytes) (room : ℕ) : Type 0 where

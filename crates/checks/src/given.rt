@@ -11,6 +11,7 @@ ghost use Rattle.rules.specs.Limits.{labelLimit, treeSizeLimit, greatestVersion
 ghost use Rattle.inputs.specs.Response.{Fields};
 ghost use Rattle.rules.specs.Refusals.{sameKind};
 ghost use Rattle.checks.specs.Calls.{areLengthsFit, kindIn, IsOwn, FitsTarget, IsFirstNumber};
+use crate::limits::InputLimit;
 use inputs::response::Response;
 use inputs::response_lines::Kind;
 use inputs::response_lines::KtLine;
@@ -19,15 +20,6 @@ use lines::part::equal;
 use lines::writing::Put;
 use lines::writing::put_spelled;
 use tree::log_head::LogHead;
-
-// The most bytes of each input.
-const RESPONSE: usize = 1048576;
-
-const CONFIGURATION: usize = 2048;
-
-const SIGNED_TEXT: usize = 2088;
-
-const VRF_OUTPUTS: usize = 36864;
 
 // Whether no input is too long, and the identifier has its length.
 pub(crate) fn lengths_fit(
@@ -39,16 +31,16 @@ pub(crate) fn lengths_fit(
 ) -> bool
     ensures { λ r. ⌜ r ≡ areLengthsFit (now (response .entry)) (now (configuration .entry)) (now (signed .entry)) (now (outputs .entry)) (now (identifier .entry)) ⌝ }
 {
-    if RESPONSE < response.len() {
+    if InputLimit::RESPONSE < response.len() {
         return false;
     }
-    if CONFIGURATION < configuration.len() {
+    if InputLimit::CONFIGURATION < configuration.len() {
         return false;
     }
-    if SIGNED_TEXT < signed.len() {
+    if InputLimit::SIGNED_TEXT < signed.len() {
         return false;
     }
-    if VRF_OUTPUTS < outputs.len() {
+    if InputLimit::VRF_OUTPUTS < outputs.len() {
         return false;
     }
     identifier.len() == KtLine::IDENTIFIER

@@ -1,22 +1,15 @@
 // Monitoring (paper 01): whether its response is accepted, and what comes of it.
 ghost use mathlib.Core.Path.{_≡_};
-ghost use Prim.Native.Nat.{_≤_};
-ghost use lib.ListN.{length};
 ghost use Rattle.rules.specs.Calls.{judgeMonitoring};
 ghost use Rattle.inputs.specs.State.{stateOf};
 ghost use Rattle.checks.specs.Calls.{argumentsOf, Readable};
-ghost use Rattle.checks.specs.Monitoring.{monitoringAnswer, Monitorable, entriesCapacity, IsMonitoringNumber, AreMonitoringPlaces, IsMonitoringChecked, IsMonitoringAnswer};
-use crate::given::first_number;
-use crate::head::check_head;
-use crate::monitored_asked::check_monitored;
-use crate::monitored_entries::MonitoredEntries;
+ghost use Rattle.checks.specs.Monitoring.{monitoringAnswer, IsMonitoringAnswer};
 use crate::monitored_map::moved_pairs;
-use crate::monitored_shown::check_lookups;
-use crate::monitored_steps::MonitoredSteps;
+use crate::monitoring_checks::check_monitoring;
 use crate::readings::ReadInputs;
 use crate::readings::read_inputs;
+use crate::tree_head::is_tree_head;
 use inputs::response::Response;
-use inputs::response_lines::Kind;
 use inputs::state::State;
 use tree::log_head::LogHead;
 
@@ -24,19 +17,6 @@ use tree::log_head::LogHead;
 pub struct MonitoringAnswer {
     pub number: u64,
     pub state: State,
-}
-
-// The number of the first refusal from 9 to 13 that applies, or 0; the time of the last entry, and how many entries there are.
-struct Sections {
-    number: u64,
-    time: u64,
-    count: usize,
-}
-
-// The number of the first refusal from 9 to 15 that applies, or 0; the time of the last entry.
-struct Checked {
-    number: u64,
-    time: u64,
 }
 
 // The answer to a response: for a state, the identifier sent, the clock, the VRF outputs and the signed text that the chip approved.
@@ -91,42 +71,16 @@ fn monitored(
     requires { ⌜ Readable (stateOf state) (now text) r (now identifier) (now outputs) ⌝ }
     ensures { λ a. ⌜ IsMonitoringAnswer (now (text .entry)) r (now (configuration .entry)) ahead behind state (now (identifier .entry)) clock (now (outputs .entry)) (now (signed .entry)) a ⌝ }
 {
-    let label = state.label;
-    let length = state.length;
-    let positions = state.positions;
-    let versions = state.versions;
-    let pairs = state.pairs;
-    let kept = state.values;
     let mut values = [0u8; LogHead::BLOCK];
-    let first = first_number(
+    let checked = check_monitoring(
         text,
         r,
-        Kind::Monitor,
-        identifier,
-        &label[..length],
-        state.size,
-        &versions[..pairs],
-    );
-    if first != 0 {
-        return MonitoringAnswer {
-            number: first,
-            state,
-        };
-    }
-    let checked = check(
-        text,
-        r,
-        configuration,
         ahead,
         behind,
-        &positions[..pairs],
-        &versions[..pairs],
-        state.size,
-        state.time,
-        &kept,
+        state,
+        identifier,
         clock,
         outputs,
-        signed,
         &mut values,
     );
     if checked.number != 0 {
@@ -135,135 +89,27 @@ fn monitored(
             state,
         };
     }
-    let map = moved_pairs(r.size, positions, versions, pairs);
-    let new_positions = map.positions;
-    let new_versions = map.versions;
+    let root = checked.root;
+    if !is_tree_head(signed, configuration, r.size, root) {
+        return MonitoringAnswer { number: 15, state };
+    }
+    let old_positions = state.positions;
+    let old_versions = state.versions;
+    let map = moved_pairs(r.size, old_positions, old_versions, state.pairs);
+    let label = state.label;
+    let positions = map.positions;
+    let versions = map.versions;
     MonitoringAnswer {
         number: 0,
         state: State {
             label,
-            length,
+            length: state.length,
             size: r.size,
             time: checked.time,
             values,
-            positions: new_positions,
-            versions: new_versions,
+            positions,
+            versions,
             pairs: map.count,
         },
-    }
-}
-
-// Tries 9 to 15 on monitoring whose size is possible. The values of the full subtrees go into the block lent.
-fn check(
-    text: &[u8],
-    r: Response,
-    configuration: &[u8],
-    ahead: u64,
-    behind: u64,
-    positions: &[u64],
-    versions: &[u32],
-    size: u64,
-    time: u64,
-    kept: &[u8; LogHead::BLOCK],
-    clock: u64,
-    outputs: &[u8],
-    signed: &[u8],
-    values: &mut [u8; LogHead::BLOCK],
-) -> Checked
-    requires { ⌜ Monitorable (now text) r size (now positions) (now versions) (now outputs) ⌝ }
-    ensures { λ k. ⌜ IsMonitoringChecked (now (text .entry)) r (now (positions .entry)) (now (versions .entry)) size time (now (kept .entry)) clock ahead behind (now (configuration .entry)) (now (outputs .entry)) (now (signed .entry)) k (now (values .exit)) ⌝ }
-{
-    let mut places = [0u32; MonitoredEntries::CAPACITY];
-    let sections = check_sections(
-        text,
-        r,
-        positions,
-        versions,
-        size,
-        time,
-        clock,
-        ahead,
-        behind,
-        outputs,
-        &mut places,
-    );
-    if sections.number != 0 {
-        return Checked {
-            number: sections.number,
-            time: 0,
-        };
-    }
-    let count = sections.count;
-    let number = check_head(
-        text,
-        r,
-        &places[..count],
-        size,
-        kept,
-        configuration,
-        signed,
-        values,
-    );
-    Checked {
-        number,
-        time: sections.time,
-    }
-}
-
-// Tries 9 to 13 on such monitoring. The places of the entries go to the first places lent.
-fn check_sections(
-    text: &[u8],
-    r: Response,
-    positions: &[u64],
-    versions: &[u32],
-    size: u64,
-    time: u64,
-    clock: u64,
-    ahead: u64,
-    behind: u64,
-    outputs: &[u8],
-    places: &mut [u32],
-) -> Sections
-    requires possible { ⌜ Monitorable (now text) r size (now positions) (now versions) (now outputs) ⌝ }
-    requires room { ⌜ length (now places) ≡ entriesCapacity ⌝ }
-    ensures number { λ s. ⌜ IsMonitoringNumber (now (text .entry)) r (now (positions .entry)) (now (versions .entry)) size time clock ahead behind (now (outputs .entry)) (s .number) ⌝ }
-    ensures found { λ s. ⌜ AreMonitoringPlaces (now (text .entry)) r s (now (places .exit)) ⌝ }
-    ensures few { λ s. ⌜ s .count ≤ entriesCapacity ⌝ }
-{
-    let mut commitments = [0u32; MonitoredSteps::RECORDS];
-    let asked = check_monitored(
-        text,
-        r,
-        size,
-        positions,
-        versions,
-        outputs,
-        places,
-        &mut commitments,
-    );
-    if asked.number != 0 {
-        return Sections {
-            number: asked.number,
-            time: 0,
-            count: 0,
-        };
-    }
-    let count = asked.count;
-    let shown = check_lookups(
-        text,
-        r,
-        size,
-        time,
-        clock,
-        ahead,
-        behind,
-        outputs,
-        &places[..count],
-        &commitments,
-    );
-    Sections {
-        number: shown.number,
-        time: shown.time,
-        count,
     }
 }

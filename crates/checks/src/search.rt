@@ -1,53 +1,31 @@
 // A search (paper 01): whether its response is accepted, and what comes of it.
 ghost use mathlib.Core.Path.{_≡_};
 ghost use mathlib.Core.Bool.{true};
-ghost use Prim.Native.Nat.{_≤_};
 ghost use lib.ListN.{length, take};
 ghost use Rattle.lists.specs.Choice.{given};
-ghost use Rattle.tree.specs.SearchTree.{frontierCapacity};
 ghost use Rattle.rules.specs.Refusals.{validState};
 ghost use Rattle.rules.specs.Calls.{judgeSearch, outputAfter};
 ghost use Rattle.inputs.specs.State.{stateOf};
 ghost use Rattle.checks.specs.Calls.{argumentsOf, Readable};
-ghost use Rattle.checks.specs.Search.{searchAnswer, Searchable, IsSectionsNumber, AreFound, IsChecked, IsAcceptedAnswer, AreAcceptedBytes, IsReadAnswer, AreReadBytes};
-use crate::asked::check_asked;
-use crate::given::first_number;
-use crate::head::check_head;
+ghost use Rattle.checks.specs.Search.{searchAnswer, IsAcceptedAnswer, AreAcceptedBytes, IsReadAnswer, AreReadBytes};
 use crate::map::with_pair;
 use crate::readings::ReadInputs;
 use crate::readings::read_inputs;
-use crate::shown::check_shown;
+use crate::search_checks::Checked;
+use crate::search_checks::check_search;
+use crate::tree_head::is_tree_head;
 use inputs::response::Response;
-use inputs::response_lines::Kind;
 use inputs::state::State;
 use lines::writing::Put;
 use lines::writing::put_spelled;
-use tree::ladder::Ladder;
 use tree::log_head::LogHead;
-use tree::search_tree::Frontier;
 
-// 0 for acceptance, or the number of the refusal; the state afterwards; how many of the output bytes the value fills.
+// 0 for acceptance, or the number of the refusal; the state afterwards; the version found, and how many of the output bytes its value fills.
 pub struct SearchAnswer {
     pub number: u64,
     pub state: State,
+    pub version: u32,
     pub length: usize,
-}
-
-// The number of the first refusal from 9 to 13 that applies, or 0; the position of the first complete entry, the time of the last one; the places of the entries,
-// and how many they are.
-struct Sections {
-    number: u64,
-    position: u64,
-    time: u64,
-    places: [u32; Frontier::CAPACITY],
-    count: usize,
-}
-
-// The number of the first refusal from 9 to 15 that applies, or 0; the position of the first complete entry, the time of the last one.
-struct Checked {
-    number: u64,
-    position: u64,
-    time: u64,
 }
 
 // The answer to a response: for a state, the identifier sent, the clock, the VRF outputs and the signed text that the chip approved. The value of an accepted
@@ -102,13 +80,14 @@ pub fn value(output: &[u8], length: usize) -> &[u8]
     &output[..length]
 }
 
-// A refusal: the state as given, and no value.
+// A refusal: the state as given, and no version nor value.
 fn refused(number: u64, state: State) -> SearchAnswer
-    ensures { λ r. ⌜ r ≡ record { number = number; state = state; length = 0 } ⌝ }
+    ensures { λ r. ⌜ r ≡ record { number = number; state = state; version = 0; length = 0 } ⌝ }
 {
     SearchAnswer {
         number,
         state,
+        version: 0,
         length: 0,
     }
 }
@@ -131,41 +110,24 @@ fn searched(
     ensures answer { λ a. ⌜ IsReadAnswer (now (text .entry)) r (now (configuration .entry)) ahead behind state (now (identifier .entry)) clock (now (outputs .entry)) (now (signed .entry)) (length (now (output .entry))) a ⌝ }
     ensures bytes { λ a. ⌜ AreReadBytes (now (text .entry)) r (now (configuration .entry)) ahead behind state (now (identifier .entry)) clock (now (outputs .entry)) (now (signed .entry)) (now (output .entry)) (now (output .exit)) ⌝ }
 {
-    let label = state.label;
-    let length = state.length;
-    let versions = state.versions;
-    let pairs = state.pairs;
-    let kept = state.values;
     let mut values = [0u8; LogHead::BLOCK];
-    let first = first_number(
+    let checked = check_search(
         text,
         r,
-        Kind::Search,
-        identifier,
-        &label[..length],
-        state.size,
-        &versions[..pairs],
-    );
-    if first != 0 {
-        return refused(first, state);
-    }
-    let checked = check(
-        text,
-        r,
-        configuration,
         ahead,
         behind,
-        &label[..length],
-        state.size,
-        state.time,
-        &kept,
+        state,
+        identifier,
         clock,
         outputs,
-        signed,
         &mut values,
     );
     if checked.number != 0 {
         return refused(checked.number, state);
+    }
+    let root = checked.root;
+    if !is_tree_head(signed, configuration, r.size, root) {
+        return refused(15, state);
     }
     accepted(
         r.target.value.of(text),
@@ -176,120 +138,6 @@ fn searched(
         values,
         output,
     )
-}
-
-// Tries 9 to 15 on a search whose size and version are possible. The values of the full subtrees go into the block lent.
-fn check(
-    text: &[u8],
-    r: Response,
-    configuration: &[u8],
-    ahead: u64,
-    behind: u64,
-    label: &[u8],
-    size: u64,
-    time: u64,
-    kept: &[u8; LogHead::BLOCK],
-    clock: u64,
-    outputs: &[u8],
-    signed: &[u8],
-    values: &mut [u8; LogHead::BLOCK],
-) -> Checked
-    requires { ⌜ Searchable (now text) r size (now label) ⌝ }
-    ensures { λ k. ⌜ IsChecked (now (text .entry)) r (now (label .entry)) size time (now (kept .entry)) clock ahead behind (now (configuration .entry)) (now (outputs .entry)) (now (signed .entry)) k (now (values .exit)) ⌝ }
-{
-    let sections = check_sections(text, r, label, size, time, clock, ahead, behind, outputs);
-    if sections.number != 0 {
-        return unchecked(sections.number);
-    }
-    let places = sections.places;
-    let count = sections.count;
-    let number = check_head(
-        text,
-        r,
-        &places[..count],
-        size,
-        kept,
-        configuration,
-        signed,
-        values,
-    );
-    Checked {
-        number,
-        position: sections.position,
-        time: sections.time,
-    }
-}
-
-fn unchecked(number: u64) -> Checked
-    ensures { λ k. ⌜ k .number ≡ number ⌝ }
-{
-    Checked {
-        number,
-        position: 0,
-        time: 0,
-    }
-}
-
-// Tries 9 to 13 on such a search.
-fn check_sections(
-    text: &[u8],
-    r: Response,
-    label: &[u8],
-    size: u64,
-    time: u64,
-    clock: u64,
-    ahead: u64,
-    behind: u64,
-    outputs: &[u8],
-) -> Sections
-    requires { ⌜ Searchable (now text) r size (now label) ⌝ }
-    ensures number { λ s. ⌜ IsSectionsNumber (now (text .entry)) r (now (label .entry)) size time clock ahead behind (now (outputs .entry)) (s .number) ⌝ }
-    ensures found { λ s. ⌜ AreFound (now (text .entry)) r s ⌝ }
-    ensures few { λ s. ⌜ s .count ≤ frontierCapacity ⌝ }
-{
-    let ladder = Ladder::of(r.target.version);
-    let versions = ladder.versions;
-    let length = ladder.length;
-    let asked = check_asked(text, r, size, &versions[..length], outputs);
-    if asked.number != 0 {
-        return no_sections(asked.number);
-    }
-    let commitments = asked.steps;
-    let places = asked.entries;
-    let count = asked.count;
-    let shown = check_shown(
-        text,
-        r,
-        label,
-        size,
-        time,
-        clock,
-        ahead,
-        behind,
-        outputs,
-        &commitments[..length],
-        &places[..count],
-        &versions[..length],
-    );
-    Sections {
-        number: shown.number,
-        position: shown.position,
-        time: shown.time,
-        places,
-        count,
-    }
-}
-
-fn no_sections(number: u64) -> Sections
-    ensures { λ s. ⌜ (s .number ≡ number) × (s .count ≡ 0) ⌝ }
-{
-    Sections {
-        number,
-        position: 0,
-        time: 0,
-        places: [0u32; Frontier::CAPACITY],
-        count: 0,
-    }
 }
 
 // The answer where none of 1 to 15 applies: 16, or acceptance.
@@ -336,6 +184,7 @@ fn accepted(
             versions,
             pairs: map.count,
         },
+        version,
         length: written,
     }
 }

@@ -1,4 +1,4 @@
--- `checks::search::check_sections` meets its contract: 9 and 10 are tried, and 11 to 13 on what they let pass.
+-- `checks::search_checks::check_sections` meets its contract: 9 and 10 are tried, and 11 to 13 on what they let pass.
 use mathlib.Core.Path.{_≡_, refl, sym, _∙_}
 use Prim.Native.Nat.{_≤_}
 use native.Mathlib.Omega.{arith}
@@ -8,8 +8,8 @@ use Rattle.tree.specs.Ladder.{ladderCapacity}
 use Rattle.tree.specs.SearchTree.{frontierCapacity}
 use Rattle.checks.proofs.CheckLaws.{Ladders, ladder-held, asked-refused, shown-told, found-shown}
 use borrow.Author.Needs.{needs}
-use Rattle.checks.proofs.search.check_sections.Statement.{statement}
-use Rattle.checks.proofs.search.check_sections.Tie as tie
+use Rattle.checks.proofs.search_checks.check_sections.Statement.{statement}
+use Rattle.checks.proofs.search_checks.check_sections.Tie as tie
 
 -- from past the ladder, and from past 9 and 10, back to the place before them
 abbrev start : tie.After-of → tie.Start

@@ -1,11 +1,11 @@
--- `checks::monitoring::check_sections` meets its contract: 9 and 10 are tried, and 11 to 13 on what they let pass.
+-- `checks::monitoring_checks::check_sections` meets its contract: 9 and 10 are tried, and 11 to 13 on what they let pass.
 use mathlib.Core.Path.{sym}
 use native.Mathlib.Omega.{arith}
 use lib.Seq.{length-take-le}
 use Rattle.checks.proofs.MonitoredCheckLaws.{asked-refused, shown-told}
 use borrow.Author.Needs.{needs}
-use Rattle.checks.proofs.monitoring.check_sections.Statement.{statement}
-use Rattle.checks.proofs.monitoring.check_sections.Tie as tie
+use Rattle.checks.proofs.monitoring_checks.check_sections.Statement.{statement}
+use Rattle.checks.proofs.monitoring_checks.check_sections.Tie as tie
 
 slice-aggregate-check-monitored : tie.Need-slice-aggregate-check-monitored
 slice-aggregate-check-monitored c = search needs
