@@ -17,7 +17,7 @@ use Rattle.rules.specs.StateText.{readState, writeState, readStateLines, readSt
 use Rattle.rules.specs.Refusals.{Inputs, Call, Judgement, refused, passed, validState, judge}
 use Rattle.rules.specs.Calls.{numberOf, nextState, valueOf, writtenFirst, textJudged, roomJudged, textOf, textAfter, answerWord}
 use Rattle.rules.proofs.StateTextLaws.{state-short}
-use Rattle.rules.proofs.RefusalLaws.{sixteen-numbers}
+use Rattle.rules.proofs.RefusalLaws.{zero-accepts, number-refused}
 use Rattle.rules.proofs.NextStateLaws.{state-valid}
 use Rattle.lines.specs.Line.{readLines}
 use Rattle.inputs.specs.declared.state.State.{State as StateBlock}
@@ -99,42 +99,38 @@ text-short b lent n e = rw e (go (leb stateTextLimit (length lent)) (validState 
     go true none q = omega arith
     go false o q = omega arith
 
+module _ (text : Bytes) (j : Judgement) where
+  -- the text of the state is too long
+  pub text-refused : stateTextLimit < length text → textJudged text j ≡ refused 1
+  unfolding textJudged
+  text-refused h = choose-false (leb (length text) stateTextLimit) _ _ (lt-leb (length text) stateTextLimit h)
+
+  -- it is not
+  pub text-fits : length text ≤ stateTextLimit → textJudged text j ≡ j
+  unfolding textJudged
+  text-fits l = choose-true (leb (length text) stateTextLimit) _ _ (le-leb (length text) stateTextLimit l)
+
 module _ (text newText : Bytes) (j : Judgement) where
   -- a judgement, where the texts fit
   abbrev pub judged : Judgement
   judged = textJudged text (roomJudged newText j)
 
-  -- the text of the state is too long
-  pub text-refused : stateTextLimit < length text → judged ≡ refused 1
-  unfolding textJudged
-  text-refused h = choose-false (leb (length text) stateTextLimit) _ _ (lt-leb (length text) stateTextLimit h)
-
-  -- else there must be room for the new one
-  text-fits : length text ≤ stateTextLimit → judged ≡ roomJudged newText j
-  unfolding textJudged
-  text-fits l = choose-true (leb (length text) stateTextLimit) _ _ (le-leb (length text) stateTextLimit l)
-
-  -- there is too little
+  -- there is too little room for the new one
   pub room-refused : length text ≤ stateTextLimit → length newText < stateTextLimit → judged ≡ refused 1
   unfolding roomJudged
-  room-refused l h = text-fits l ∙ choose-false (leb stateTextLimit (length newText)) _ _ (lt-leb stateTextLimit (length newText) h)
+  room-refused l h = text-fits text _ l ∙ choose-false (leb stateTextLimit (length newText)) _ _ (lt-leb stateTextLimit (length newText) h)
 
   -- there is room
   texts-fit : length text ≤ stateTextLimit → stateTextLimit ≤ length newText → judged ≡ j
   unfolding roomJudged
-  texts-fit l m = text-fits l ∙ choose-true (leb stateTextLimit (length newText)) _ _ (le-leb stateTextLimit (length newText) m)
+  texts-fit l m = text-fits text _ l ∙ choose-true (leb stateTextLimit (length newText)) _ _ (le-leb stateTextLimit (length newText) m)
 
--- 0 is the number of no refusal
-call-accepted : (s : Option State) (i : Inputs) → numberOf (judge s i) ≡ 0 → (c : Call) × (judge s i ≡ passed c)
-unfolding numberOf
-call-accepted s i z = go (judge s i) refl
-  where
-    go : (j : Judgement) → judge s i ≡ j → (c : Call) × (judge s i ≡ passed c)
-    go (refused k) q = let n = sixteen-numbers s i k q in absurd (not-zero k (n .0) (sym (ap numberOf q) ∙ z))
-      where
-        not-zero : (k : ℕ) → 1 ≤ k → k ≡ 0 → ⊥
-        not-zero k h e = omega (arith, h, e)
-    go (passed c) q = (c, q)
+-- the text to write for the state after an accepted call, where there is room, is that of the judgement
+pub text-accepted : (b : StateBlock) (i : Inputs) (c : Call) → judge (stateOf b) i ≡ passed c → (new : StateBlock) → new ≡ blockAfter b (judge (stateOf b) i)
+    → (lent : Bytes) → stateTextLimit ≤ length lent → textFor new lent ≡ textOf (judge (stateOf b) i)
+unfolding textOf blockAfter
+text-accepted b i c q new f lent m =
+    ap (λ (x : StateBlock). textFor x lent) (f ∙ ap (blockAfter b) q) ∙ text-for (nextState c) lent (state-valid (stateOf b) i c q) m ∙ sym (ap textOf q)
 
 module _ (text newText : Bytes) (i : Inputs) (l : length text ≤ stateTextLimit) (m : stateTextLimit ≤ length newText)
     (b : StateBlock) (s : stateOf b ≡ readState text) where
@@ -145,25 +141,18 @@ module _ (text newText : Bytes) (i : Inputs) (l : length text ≤ stateTextLimit
   module _ (number : ℕ) (e : number ≡ numberOf (judge (stateOf b) i)) where
     -- a number that is not 0 is a refusal
     pub call-refused : (number ≡ 0 → ⊥) → Answers newText (judged text newText (judge (readState text) i)) number newText
-    unfolding numberOf
-    call-refused z = refusal-answered newText _ number (call-judged ∙ go (judge (stateOf b) i) refl)
-      where
-        go : (j : Judgement) → judge (stateOf b) i ≡ j → j ≡ refused number
-        go (refused k) q = ap refused (sym (e ∙ ap numberOf q))
-        go (passed c) q = absurd (z (e ∙ ap numberOf q))
+    call-refused z = refusal-answered newText _ number (call-judged ∙ number-refused (judge (stateOf b) i) number e z)
 
     -- 0 is acceptance: the lengths of the value and of the new text are told, and the text is written
     pub call-answered : number ≡ 0 → (new : StateBlock) → new ≡ blockAfter b (judge (stateOf b) i) → (v n : ℕ) (newText′ : Bytes)
         → v ≡ length (Option·getD (valueOf (judge (stateOf b) i)) []) → n ≡ length (Option·getD (textFor new newText) [])
         → newText′ ≡ writtenFirst newText (textFor new newText)
         → Answers newText (judged text newText (judge (readState text) i)) (v * 2 ^ 8 + n * 2 ^ 32) newText′
-    unfolding answerWord textOf textAfter blockAfter
+    unfolding answerWord textAfter
     call-answered z new f v n newText′ g h k =
         let j : Judgement = judge (stateOf b) i in
-        let (c, q) = call-accepted (stateOf b) i (sym e ∙ z) in
-        let t : textFor new newText ≡ textOf j =
-        ap (λ (x : StateBlock). textFor x newText) (f ∙ ap (blockAfter b) q) ∙ text-for (nextState c) newText (state-valid (stateOf b) i c q) m
-        ∙ sym (ap textOf q) in
+        let (c, q) = zero-accepts (stateOf b) i (sym e ∙ z) in
+        let t : textFor new newText ≡ textOf j = text-accepted b i c q new f newText m in
         let d : n ≡ length (Option·getD (textOf j) []) = h ∙ ap (λ (o : Option Bytes). length (Option·getD o [])) t in
         let w : v * 2 ^ 8 + n * 2 ^ 32 ≡ answerWord j = omega (arith, e, z, g, d) in
         (w ∙ ap answerWord (sym call-judged), k ∙ ap (writtenFirst newText) t ∙ ap (textAfter newText) (sym call-judged))

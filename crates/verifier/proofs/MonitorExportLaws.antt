@@ -21,7 +21,7 @@ use Rattle.checks.specs.Monitoring.{monitoringAnswer}
 use Rattle.verifier.proofs.CallExportLaws.{Answers, refusal-answered, text-refused, room-refused, call-refused, call-answered}
 
 -- monitoring yields no value
-no-value : (s : Option State) (a : Arguments) (signed : Bytes) → valueOf (judgeMonitoring s a signed) ≡ none
+pub no-value : (s : Option State) (a : Arguments) (signed : Bytes) → valueOf (judgeMonitoring s a signed) ≡ none
 unfolding valueOf valueFound
 no-value s a signed = go (judgeMonitoring s a signed) refl
   where
@@ -36,7 +36,7 @@ module _ (text : Bytes) (a : Arguments) (signed newText : Bytes) where
   -- the text of the state is too long
   pub monitoring-over : stateTextLimit < length text → Answers newText judged 1 newText
   unfolding ktMonitor
-  monitoring-over h = refusal-answered newText judged 1 (text-refused text newText _ h)
+  monitoring-over h = refusal-answered newText judged 1 (text-refused text _ h)
 
   -- there is too little room for the new one
   pub monitoring-unplaced : length text ≤ stateTextLimit → length newText < stateTextLimit → Answers newText judged 1 newText

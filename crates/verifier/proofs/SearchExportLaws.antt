@@ -60,7 +60,7 @@ module _ (text : Bytes) (a : Arguments) (signed output newText : Bytes) where
   -- the text of the state is too long
   pub search-over : stateTextLimit < length text → Answers 1 output newText
   unfolding ktSearch
-  search-over h = refusal 1 (text-refused text newText _ h)
+  search-over h = refusal 1 (text-refused text _ h)
 
   -- there is too little room for the new one
   pub search-unplaced : length text ≤ stateTextLimit → length newText < stateTextLimit → Answers 1 output newText

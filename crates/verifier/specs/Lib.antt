@@ -1,1 +1,3 @@
 pub mod Exports
+pub mod Request
+pub mod Files

@@ -4,16 +4,14 @@ ghost use Prim.Native.Nat.{_+_, _≤_};
 ghost use lib.ListN.{length};
 ghost use lib.Seq.{sets};
 ghost use Rattle.hash.specs.Bytes.{bigEndian};
-ghost use Rattle.rules.specs.Limits.{stateTextLimit};
-ghost use Rattle.rules.specs.StateText.{readState};
-ghost use Rattle.rules.specs.Calls.{outputAfter, ktSearch, ktMonitor, textAfter, answerWord};
-ghost use Rattle.inputs.specs.State.{stateOf};
+ghost use Rattle.rules.specs.Calls.{outputAfter, ktSearch, ktMonitor, ktSignedText, textAfter, answerWord};
 ghost use Rattle.checks.specs.Calls.{argumentsOf};
 ghost use Rattle.verifier.specs.Exports.{sha256Answer, sha256Output, versionLength, ladderAnswer, ladderOutput};
+use crate::state_text::state_in;
 use checks::monitoring::monitor;
 use checks::search::search;
+use checks::signed_text::signed_text;
 use inputs::state::State;
-use inputs::state_reader::read_state;
 use inputs::state_writer::write_state;
 use tree::ladder::Ladder;
 
@@ -154,17 +152,42 @@ pub extern "C" fn kt_monitor(
     text * TEXT_UNIT
 }
 
-// The struct of the state that a text says; where it says none, one that stands for none.
-fn state_in(text: &[u8]) -> State
-    requires { ⌜ length (now text) ≤ stateTextLimit ⌝ }
-    ensures { λ r. ⌜ stateOf r ≡ readState (now (text .entry)) ⌝ }
+// Checks a response to a search (kind 0) or to monitoring (kind 1), without the signed text: writes that text into the bytes lent from an offset on and answers its
+// length, or answers the number of the refusal and writes nothing. The state is given by its text, and stays.
+#[no_mangle]
+pub extern "C" fn kt_signed_text(
+    kind: u32,
+    response: &[u8],
+    configuration: &[u8],
+    state: &[u8],
+    identifier: &[u8],
+    clock: u64,
+    vrf_outputs: &[u8],
+    buffer: &mut [u8],
+    offset: u64,
+) -> u64
+    ensures answer { λ r. ⌜ r ≡ ktSignedText kind (now (state .entry))
+        (argumentsOf (now (response .entry)) (now (configuration .entry)) (now (identifier .entry)) clock (now («vrf_outputs» .entry)))
+        (now (buffer .entry)) offset .0 ⌝ }
+    ensures bytes { λ r. ⌜ now (buffer .exit) ≡ ktSignedText kind (now (state .entry))
+        (argumentsOf (now (response .entry)) (now (configuration .entry)) (now (identifier .entry)) clock (now («vrf_outputs» .entry)))
+        (now (buffer .entry)) offset .1 ⌝ }
 {
-    let read = read_state(text);
-    let mut state = read.state;
-    if read.number != 0 {
-        state.length = State::LABEL + 1;
+    if State::TEXT < state.len() {
+        return TOO_LONG;
     }
-    state
+    let held = state_in(state);
+    signed_text(
+        kind,
+        response,
+        configuration,
+        held,
+        identifier,
+        clock,
+        vrf_outputs,
+        buffer,
+        offset,
+    )
 }
 
 // Writes a version as 4 bytes from a place on.

@@ -1,2 +1,6 @@
-// The verifier: the library that C programs link.
+// The verifier: the library that C programs link, and what the program makes of its files.
+mod answer_line;
 pub mod exports;
+pub mod files;
+mod request;
+mod state_text;

@@ -1,10 +1,10 @@
--- `verifier::exports::state_in` meets its contract: the struct is that of the state, or one whose label is too long.
+-- `verifier::state_text::state_in` meets its contract: the struct is that of the state, or one whose label is too long.
 use mathlib.Core.Path.{sym, _∙_}
 use native.Mathlib.Omega.{arith}
 use Rattle.verifier.proofs.CallExportLaws.{label-over, text-broken, text-held}
 use borrow.Author.Needs.{needs}
-use Rattle.verifier.proofs.exports.state_in.Statement.{statement}
-use Rattle.verifier.proofs.exports.state_in.Tie as tie
+use Rattle.verifier.proofs.state_text.state_in.Statement.{statement}
+use Rattle.verifier.proofs.state_text.state_in.Tie as tie
 
 read-state-requires : tie.Need-read-state-requires
 read-state-requires c κs = search needs
