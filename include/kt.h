@@ -55,11 +55,22 @@ uint64_t kt_sha256(const uint8_t *message, size_t message_length,
 uint64_t kt_ladder(uint32_t version, uint8_t *versions, size_t versions_length);
 
 /*
- * Searches and monitoring.
+ * Searches, monitoring and signed texts.
+ *
+ * No signature and no VRF proof is verified here: the caller's security chip does that,
+ * with the keys of the configuration. So each response of the log takes three steps:
+ *   1. kt_signed_text makes the other checks and writes the text that the log must have
+ *      signed. Nothing is accepted yet.
+ *   2. The chip verifies the log's signature of that text, and the proof of every VRF
+ *      output given.
+ *   3. If all of them are right, kt_search or kt_monitor is given the same inputs and that
+ *      text, and yields the new state and the value.
+ * Without the second step an acceptance means nothing. agent/agent.c takes all three.
  *
  * The limits of what a call is given, in bytes. KT_VALUE_LIMIT bytes of output are
  * always enough. A state's text has at most KT_STATE_TEXT_LENGTH bytes, and the
- * bytes lent for a new one must be as many, however short it turns out.
+ * bytes lent for a new one must be as many, however short it turns out. A signed text
+ * has KT_SIGNED_TEXT_LEAST to KT_SIGNED_TEXT_LIMIT bytes.
  */
 #define KT_RESPONSE_LIMIT 1048576
 #define KT_CONFIGURATION_LIMIT 2048
@@ -68,6 +79,7 @@ uint64_t kt_ladder(uint32_t version, uint8_t *versions, size_t versions_length);
 #define KT_VRF_OUTPUT_LENGTH 32
 #define KT_VRF_RECORD_LENGTH (KT_VERSION_LENGTH + KT_VRF_OUTPUT_LENGTH)
 #define KT_VRF_OUTPUTS_LIMIT 36864
+#define KT_SIGNED_TEXT_LEAST 72
 #define KT_SIGNED_TEXT_LIMIT 2088
 #define KT_LABEL_LIMIT 255
 #define KT_VALUE_LIMIT 1024
@@ -78,10 +90,15 @@ uint64_t kt_ladder(uint32_t version, uint8_t *versions, size_t versions_length);
 #define KT_MAP_LIMIT 48
 #define KT_SIBLING_LIMIT 255
 
+/* The kinds of a call, where it is given as a number. */
+#define KT_KIND_SEARCH 0
+#define KT_KIND_MONITOR 1
+
 /*
- * The three parts of an answer: KT_ACCEPTED or the number of a refusal, and how many
- * bytes of the value and of the new state's text were written. Monitoring yields no
- * value: its length is 0.
+ * The three parts of an answer of kt_search and kt_monitor: KT_ACCEPTED or the number of
+ * a refusal, and how many bytes of the value and of the new state's text were written.
+ * Monitoring yields no value: its length is 0. They are not for kt_signed_text, which
+ * answers a plain number.
  */
 #define KT_NUMBER(answer) ((int)((uint64_t)(answer) & 0xff))
 #define KT_VALUE_LENGTH(answer) ((size_t)((uint64_t)(answer) >> 8 & 0xffffff))
@@ -100,7 +117,7 @@ enum {
     KT_REFUSED_VRF_OUTPUTS = 4,
     /* The response is not made of the right lines, or a field of it is malformed. */
     KT_REFUSED_LINES = 5,
-    /* The response is for another kind of call, another identifier or another label. */
+    /* The response is for another kind of call, another identifier or another label, or the number given is that of no kind. */
     KT_REFUSED_REQUEST = 6,
     /* The log is empty, larger than KT_TREE_SIZE_LIMIT, or smaller than the one in the state. */
     KT_REFUSED_TREE_SIZE = 7,
@@ -118,9 +135,12 @@ enum {
     KT_REFUSED_LADDER = 13,
     /* The log contradicts the one in the state: a full subtree has another value. */
     KT_REFUSED_FULL_SUBTREE = 14,
-    /* The signed text is not that of this configuration, tree size and root. */
+    /* The signed text is not that of this configuration, tree size and root. Never answered by kt_signed_text. */
     KT_REFUSED_SIGNED_TEXT = 15,
-    /* In a search, the value is longer than the output bytes, or the monitoring map would have more than KT_MAP_LIMIT entries. */
+    /*
+     * kt_search: the value is longer than the output bytes, or the monitoring map would have more than KT_MAP_LIMIT entries.
+     * kt_signed_text: the text does not fit into the buffer from the offset on.
+     */
     KT_REFUSED_ROOM = 16
 };
 
@@ -137,13 +157,9 @@ enum {
  *   clock          the time now, in milliseconds, counted as the log counts
  *   vrf_outputs    records of KT_VRF_RECORD_LENGTH bytes, by rising version: a version of
  *                  KT_VERSION_LENGTH bytes, the highest byte first, and its VRF output
- *   signed_text    the bytes that the log has signed for this tree head
+ *   signed_text    the bytes that the log has signed for this tree head, from kt_signed_text
  *   output         lent for the value
  *   new_state      lent for the new state's text
- *
- * No signature and no VRF proof is verified here: an acceptance means something only
- * if the caller has verified the signature of signed_text and the proof of every VRF
- * output with the keys of this configuration.
  *
  * Accepts exactly when none of the refusals applies. Then it writes the value to the
  * first bytes of output and the new state's text to the first bytes of new_state,
@@ -152,7 +168,7 @@ enum {
  * answer is its number alone: both lengths are 0, and the old text stays good.
  *
  * The time grows with the length of what is given, some 12 ns a byte at most on a
- * common computer, and a call takes less than 48 KiB of stack (measured).
+ * common computer, and a call takes less than 50 KiB of stack (measured).
  */
 uint64_t kt_search(const uint8_t *response, size_t response_length,
                    const uint8_t *configuration, size_t configuration_length,
@@ -186,6 +202,39 @@ uint64_t kt_monitor(const uint8_t *response, size_t response_length,
                     const uint8_t *vrf_outputs, size_t vrf_outputs_length,
                     const uint8_t *signed_text, size_t signed_text_length,
                     uint8_t *new_state, size_t new_state_length);
+
+/*
+ * The text that the log must have signed with a response to a search (KT_KIND_SEARCH) or to
+ * monitoring (KT_KIND_MONITOR): TreeHeadTBS, which is the configuration as given, the size of
+ * the log in 8 bytes, the highest byte first, and the root of its tree in KT_DIGEST_LENGTH
+ * bytes. What is given is as for kt_search, without a signed text; no bytes are lent for a
+ * value or a new state.
+ *
+ *   kind           KT_KIND_SEARCH or KT_KIND_MONITOR
+ *   buffer         lent for the text
+ *   offset         how many bytes of the buffer stand before the text
+ *
+ * If none of the refusals up to KT_REFUSED_FULL_SUBTREE applies and the text fits into the
+ * buffer from the offset on: writes it there, leaves the bytes before and after it as they
+ * are, and answers its length, at least KT_SIGNED_TEXT_LEAST. Else it writes nothing and
+ * answers the number of the refusal, which is less. It never answers KT_ACCEPTED. Any offset
+ * may be given: one at the end of the buffer or past it leaves no room, KT_REFUSED_ROOM.
+ * KT_SIGNED_TEXT_LIMIT bytes from the offset on are always enough.
+ *
+ * Given the same and this text, and KT_STATE_TEXT_LENGTH bytes for the new state, kt_monitor
+ * accepts; so does kt_search, unless KT_REFUSED_ROOM applies to it.
+ *
+ * Time and stack are as for kt_search.
+ */
+uint64_t kt_signed_text(uint32_t kind,
+                        const uint8_t *response, size_t response_length,
+                        const uint8_t *configuration, size_t configuration_length,
+                        const uint8_t *state, size_t state_length,
+                        const uint8_t *identifier, size_t identifier_length,
+                        uint64_t clock,
+                        const uint8_t *vrf_outputs, size_t vrf_outputs_length,
+                        uint8_t *buffer, size_t buffer_length,
+                        uint64_t offset);
 
 #ifdef __cplusplus
 }
