@@ -16,7 +16,6 @@
 #include <stdlib.h>
 #include <string.h>
 
-#include "calls.h"
 #include "kt.h"
 
 enum { CALL_SEARCH, CALL_MONITOR, CALL_SIGNED_TEXT, CALL_LADDER, CALL_SHA256 };

@@ -6,8 +6,16 @@
 #include <stdlib.h>
 #include <string.h>
 
-#include "calls.h"
 #include "kt.h"
+
+/* What the calls are given, as parameters, and handed on. */
+#define INPUTS                                                                                             \
+    const uint8_t *response, size_t response_length, const uint8_t *configuration,                         \
+        size_t configuration_length, const uint8_t *state, size_t state_length, const uint8_t *identifier, \
+        size_t identifier_length, uint64_t clock, const uint8_t *vrf_outputs, size_t vrf_outputs_length
+#define SIGNED const uint8_t *signed_text, size_t signed_text_length
+#define OUTPUT uint8_t *output, size_t output_length
+#define NEW_STATE uint8_t *new_state, size_t new_state_length
 
 #define GIVEN                                                                                          \
     response, response_length, configuration, configuration_length, state, state_length, identifier, \
@@ -65,7 +73,7 @@ uint64_t __wrap_kt_signed_text(uint32_t kind, INPUTS, OUTPUT, uint64_t offset)
     if (fault("byte before the offset") && answer > KT_REFUSED_ROOM && offset > 0)
         output[offset - 1] ^= 1;
     if (fault("no room passed over") && answer == KT_REFUSED_ROOM)
-        return 72;
+        return KT_SIGNED_TEXT_LEAST;
     return answer;
 }
 

@@ -5,7 +5,7 @@ use crate::base::{self, question, Base, Plan};
 use crate::case::Case;
 use crate::damage::leaves::misplaced;
 use crate::damage::Damage;
-use crate::honest::extremes::with_greatest;
+use crate::honest::extremes::{text_lengths, with_greatest};
 use crate::honest::maps::plain_log;
 use crate::limits;
 use honest_log::ladder::binary_ladder;
@@ -25,10 +25,46 @@ pub fn cases() -> Vec<Case> {
     list
 }
 
-/// The greatest version has a ladder of 64 steps; the number above it is no version.
+/// The cases that are stored as folders (`tests/worked`), by the folder's name and their own.
+const WORKED: [(&str, &str); 9] = [
+    ("greatest-version", "ladder of 2^32 - 2 by 64 versions"),
+    (
+        "past-greatest-version",
+        "t = 2^32 - 1 with a ladder of its own",
+    ),
+    ("same-size", "search with n = 11 and m = 11"),
+    ("smaller-size", "search with n = 10 and m = 11"),
+    (
+        "identifier-off-by-a-bit",
+        "search of 13 after 10: identifier off by one bit",
+    ),
+    (
+        "time-at-bound",
+        "search of 13 after 10: last time at clock + max_ahead",
+    ),
+    (
+        "time-past-bound",
+        "search of 13 after 10: last time one past clock + max_ahead",
+    ),
+    ("full-map-new-position", "48 pairs and new position"),
+    ("full-map-old-position", "48 pairs and old position"),
+];
+
+/// Those cases and a search that finds a value of no bytes, each with the folder's name.
+pub fn worked() -> Vec<(&'static str, Case)> {
+    let cases = cases();
+    let named = |name: &str| cases.iter().find(|case| case.name == name);
+    let found = |(folder, name)| (folder, named(name).expect(name).clone());
+    let mut list = WORKED.map(found).to_vec();
+    list.push(("empty-value", text_lengths(1, 0, 0, &[])));
+    list
+}
+
+/// The greatest version has a ladder of 64 steps, all looked up at one entry, so that the program
+/// reads the response too; the number above it is no version.
 fn targets() -> Vec<Case> {
     let log = with_greatest(limits::VERSION, VrfRule::Hashed { seed: 1 });
-    let question = question(&log, b"hub", 0, &[], 5);
+    let question = question(&log, b"hub", 0, &[], 4);
     let base = Base::new("ladder of 2^32 - 2", Kind::Search, &log, question);
     assert_eq!(binary_ladder(limits::VERSION).len(), 64);
     let past = Damage::on_exchange(8, "target 2^32 - 1", |exchange| {

@@ -5,9 +5,11 @@ use std::fmt;
 
 #[derive(Default)]
 pub struct Tally {
-    /// By the number answered; 0 is acceptance.
+    /// Searches and monitorings by the number answered; 0 is acceptance.
     by_number: [u64; NUMBERS],
-    /// Calls whose answer is no such number: signed texts, ladders, digests.
+    /// Signed texts by the number answered; 0 is a text that was written.
+    signed_texts: [u64; NUMBERS],
+    /// Ladders and digests.
     others: u64,
     pub differences: Vec<String>,
 }
@@ -15,9 +17,27 @@ pub struct Tally {
 /// With more differences than this a run ends early.
 pub const ENOUGH: usize = 10;
 
+/// The refusal that needs a signed text to be given.
+const WITHOUT_TEXT: usize = 15;
+
+/// What was answered how often.
+fn write_counts(f: &mut fmt::Formatter, first: &str, counts: &[u64; NUMBERS]) -> fmt::Result {
+    write!(f, "{first} {}", counts[0])?;
+    for (number, count) in counts.iter().enumerate().skip(1) {
+        write!(f, ", {number}: {count}")?;
+    }
+    Ok(())
+}
+
 impl Tally {
     pub fn count(&mut self, number: u8) {
         self.by_number[usize::from(number)] += 1;
+    }
+
+    /// A signed text, by the answer: its length, or a number, which is less than any length.
+    pub fn count_signed_text(&mut self, answer: u64) {
+        let number = usize::try_from(answer).unwrap_or(NUMBERS);
+        self.signed_texts[if number < NUMBERS { number } else { 0 }] += 1;
     }
 
     pub fn count_other(&mut self) {
@@ -36,24 +56,31 @@ impl Tally {
         for (sum, count) in self.by_number.iter_mut().zip(other.by_number) {
             *sum += count;
         }
+        for (sum, count) in self.signed_texts.iter_mut().zip(other.signed_texts) {
+            *sum += count;
+        }
         self.others += other.others;
         self.differences.extend(other.differences);
     }
 
-    /// Nothing differed, and every number was answered.
+    /// Nothing differed, and every number was answered; by signed texts, if there were any, every one but 15.
     pub fn passes(&self) -> bool {
-        self.differences.is_empty() && self.by_number.iter().all(|&count| count > 0)
+        let lacks = |number: &usize| self.signed_texts[*number] == 0;
+        let lacking: Vec<usize> = (0..NUMBERS).filter(lacks).collect();
+        self.differences.is_empty()
+            && self.by_number.iter().all(|&count| count > 0)
+            && (lacking == [WITHOUT_TEXT] || lacking.len() == NUMBERS)
     }
 }
 
 impl fmt::Display for Tally {
     fn fmt(&self, f: &mut fmt::Formatter) -> fmt::Result {
-        write!(f, "accepted {}", self.by_number[0])?;
-        for (number, count) in self.by_number.iter().enumerate().skip(1) {
-            write!(f, ", {number}: {count}")?;
+        write_counts(f, "accepted", &self.by_number)?;
+        if self.signed_texts != [0; NUMBERS] {
+            write_counts(f, "\nsigned texts", &self.signed_texts)?;
         }
         if self.others > 0 {
-            write!(f, ", other calls {}", self.others)?;
+            write!(f, "\nladders and digests {}", self.others)?;
         }
         for difference in &self.differences {
             write!(f, "\ndiffers: {difference}")?;

@@ -198,7 +198,8 @@ fn call(library: &mut Library, request: &Request, own: bool, tally: &mut Tally) 
     }
     match request.call {
         Call::Search | Call::Monitor => tally.count(expected.word as u8),
-        _ => tally.count_other(),
+        Call::SignedText => tally.count_signed_text(expected.word),
+        Call::Ladder | Call::Sha256 => tally.count_other(),
     }
     if let Some(what) = library::difference(&library.call(request)?, &expected) {
         tally.differs(format!("{name}: {:?} {what}", request.call));

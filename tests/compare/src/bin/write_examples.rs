@@ -1,8 +1,9 @@
-//! Writes the example folders: `write_examples DIRECTORY`. Each has the program's six files, the line it prints in `line` and,
-//! where it accepts, what it writes. `examples/README.md` explains them.
+//! Writes the example folders and paper 01's worked examples, under the places they have in the repository:
+//! `write_examples DIRECTORY`. Each has the program's six files, the line it prints in `line` and, where it accepts, what it
+//! writes. `examples/README.md` explains them.
 
 use compare::case::{Answer, Inputs};
-use compare::program;
+use compare::{examples, program};
 use honest_log::model::{Digest, Exchange, Settings, State};
 use honest_log::{Addition, Contents, Log, Question, VrfRule};
 use second::sha256::sha256;
@@ -21,7 +22,13 @@ const HOUR: u64 = 3_600_000;
 fn main() -> io::Result<()> {
     let directory = env::args().nth(1).expect("usage: write_examples DIRECTORY");
     let directory = Path::new(&directory);
+    for (name, case) in examples::worked() {
+        let answer = case.answer.expect("an example's answer is known");
+        let folder = directory.join("tests/worked").join(name);
+        write_folder(&folder, &case.inputs, &answer)?;
+    }
 
+    let directory = &directory.join("examples");
     let log = log(b"turbine-7: third image key");
     let first = question(0x10, &State::new(TURBINE), 6);
     let search = log.search(&first).expect("the label has versions").exchange;
@@ -123,18 +130,20 @@ fn question(first: u8, state: &State, size: u64) -> Question {
 
 /// Writes an example that is answered with a number, 0 being acceptance.
 fn write(directory: &Path, name: &str, exchange: &Exchange, number: u8) -> io::Result<()> {
-    let folder = directory.join(name);
-    fs::create_dir_all(&folder)?;
+    let answer = Answer::of(number, exchange);
+    write_folder(&directory.join(name), &Inputs::of(exchange), &answer)
+}
+
+fn write_folder(folder: &Path, inputs: &Inputs, answer: &Answer) -> io::Result<()> {
+    fs::create_dir_all(folder)?;
     let put = |name: &str, bytes: &[u8]| fs::write(folder.join(name), bytes);
-    let inputs = Inputs::of(exchange);
     put("request", &inputs.request())?;
     put("response", &inputs.response)?;
     put("settings", &inputs.settings)?;
     put("state", &inputs.state)?;
     put("sheet", &inputs.sheet)?;
     put("signed", &inputs.signed)?;
-    let answer = Answer::of(number, exchange);
-    put("line", program::line(&answer).as_bytes())?;
+    put("line", program::line(answer).as_bytes())?;
     if let Answer::Accepted(acceptance) = answer {
         put("state.new", &acceptance.state)?;
         if let Some(value) = &acceptance.value {

@@ -83,7 +83,7 @@ fn texts() -> Vec<Case> {
 }
 
 /// A search that needs all the room it is lent.
-fn text_lengths(label: usize, value: usize, old_size: u64, pairs: &[(u64, u32)]) -> Case {
+pub fn text_lengths(label: usize, value: usize, old_size: u64, pairs: &[(u64, u32)]) -> Case {
     let mut plan = Plan::new(&vec![b'l'; label], 2, &[(0, 0), (1, 1)]);
     plan.others = 0;
     plan.contents = ContentRule {
