@@ -44,7 +44,7 @@ impl Inputs {
         }
     }
 
-    /// All but the signed text, as the plain function takes them.
+    /// All but the signed text, as the calls take them.
     pub fn arguments(&self) -> Arguments<'_> {
         Arguments {
             response: &self.response,

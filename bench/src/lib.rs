@@ -3,6 +3,7 @@
 pub mod answers;
 pub mod hostile;
 pub mod inputs;
+pub mod library;
 pub mod stack;
 
 /// A small generator (xorshift, 64 bits) with a fixed seed, so that every run has the same inputs.

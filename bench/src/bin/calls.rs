@@ -1,54 +1,14 @@
-//! Measures the proved search and monitoring and the plain ones on the same inputs, long ones and hostile ones, in one
+//! Measures the proved calls for responses and the plain ones on the same inputs, long ones and hostile ones, in one
 //! run; both must answer the same. Of the proved ones it also measures the stack.
 
 use bench::inputs::Inputs;
-use bench::{answers, hostile, stack, Random};
+use bench::{answers, hostile, library, stack, Random};
 use honest_log::model::{Exchange, Kind};
-use second::{calls, limits};
+use second::calls::{self, Arguments};
+use second::limits;
 use std::hint::black_box;
 use std::process::exit;
 use std::time::{Duration, Instant};
-
-#[link(name = "verifier", kind = "static")]
-extern "C" {
-    fn kt_search(
-        response: *const u8,
-        response_length: usize,
-        configuration: *const u8,
-        configuration_length: usize,
-        state: *const u8,
-        state_length: usize,
-        identifier: *const u8,
-        identifier_length: usize,
-        clock: u64,
-        vrf_outputs: *const u8,
-        vrf_outputs_length: usize,
-        signed_text: *const u8,
-        signed_text_length: usize,
-        output: *mut u8,
-        output_length: usize,
-        new_state: *mut u8,
-        new_state_length: usize,
-    ) -> u64;
-
-    fn kt_monitor(
-        response: *const u8,
-        response_length: usize,
-        configuration: *const u8,
-        configuration_length: usize,
-        state: *const u8,
-        state_length: usize,
-        identifier: *const u8,
-        identifier_length: usize,
-        clock: u64,
-        vrf_outputs: *const u8,
-        vrf_outputs_length: usize,
-        signed_text: *const u8,
-        signed_text_length: usize,
-        new_state: *mut u8,
-        new_state_length: usize,
-    ) -> u64;
-}
 
 /// The lengths of the long responses; the last is the longest that a call takes.
 const LENGTHS: [usize; 3] = [100_000, 500_000, limits::RESPONSE];
@@ -59,12 +19,56 @@ const MOST_CALLS: u128 = 1_000;
 /// The bits of an answer that are the number.
 const NUMBER: u64 = 0xff;
 
+/// The calls that are measured.
+#[derive(Clone, Copy, PartialEq, Eq)]
+enum Call {
+    Search,
+    Monitor,
+    SignedText,
+}
+
+impl Call {
+    /// The two for an input: the one that judges the response, and the one for its signed text.
+    fn both(inputs: &Inputs) -> [Call; 2] {
+        match inputs.kind {
+            Kind::Search => [Call::Search, Call::SignedText],
+            Kind::Monitor => [Call::Monitor, Call::SignedText],
+        }
+    }
+
+    /// The call and its inputs in a few words.
+    fn name(self, inputs: &Inputs) -> String {
+        let (word, name) = (inputs.kind.word(), &inputs.name);
+        match self {
+            Call::Search | Call::Monitor => format!("{word} {name}"),
+            Call::SignedText => format!("signed {word} {name}"),
+        }
+    }
+
+    /// What of an answer is shown: the number; for a signed text all of it, which is a length or a number.
+    fn shown(self, answer: u64) -> u64 {
+        match self {
+            Call::Search | Call::Monitor => answer & NUMBER,
+            Call::SignedText => answer,
+        }
+    }
+
+    /// What must be shown: the number, or the length of the signed text where no check before 15 refuses.
+    fn due(self, inputs: &Inputs) -> u64 {
+        match (self, inputs.number) {
+            (Call::SignedText, 0 | 15 | 16) => inputs.signed_text.len() as u64,
+            (_, number) => number,
+        }
+    }
+}
+
 /// What a call is lent, and what it answered.
 #[derive(PartialEq, Eq)]
 struct Reply {
     answer: u64,
     output: Vec<u8>,
     new_state: Vec<u8>,
+    buffer: Vec<u8>,
 }
 
 impl Reply {
@@ -73,121 +77,109 @@ impl Reply {
             answer: u64::MAX,
             output: vec![0xee; limits::VALUE],
             new_state: vec![0xee; limits::STATE_TEXT],
+            buffer: vec![0xee; limits::SIGNED_TEXT],
         }
     }
 }
 
-/// Calls a function of the library on all inputs, and on the bytes lent to it.
-macro_rules! call {
-    ($function:ident, $inputs:expr $(, $lent:expr)*) => {
-        $function(
-            $inputs.response.as_ptr(),
-            $inputs.response.len(),
-            $inputs.configuration.as_ptr(),
-            $inputs.configuration.len(),
-            $inputs.state.as_ptr(),
-            $inputs.state.len(),
-            $inputs.identifier.as_ptr(),
-            $inputs.identifier.len(),
-            $inputs.clock,
-            $inputs.vrf_outputs.as_ptr(),
-            $inputs.vrf_outputs.len(),
-            $inputs.signed_text.as_ptr(),
-            $inputs.signed_text.len()
-            $(, $lent.as_mut_ptr(), $lent.len())*
-        )
-    };
+/// The three calls of the proved or of the plain side.
+struct Side {
+    search: fn(&Arguments, &[u8], &mut [u8], &mut [u8]) -> u64,
+    monitor: fn(&Arguments, &[u8], &mut [u8]) -> u64,
+    signed_text: fn(u32, &Arguments, &mut [u8], u64) -> u64,
 }
 
-/// The proved call.
-fn proved(inputs: &Inputs, reply: &mut Reply) {
-    // Safe: all pointers come from slices and go with the lengths of these slices.
-    reply.answer = unsafe {
-        match inputs.kind {
-            Kind::Search => call!(kt_search, inputs, reply.output, reply.new_state),
-            Kind::Monitor => call!(kt_monitor, inputs, reply.new_state),
-        }
-    };
+const PROVED: Side = Side {
+    search: library::search,
+    monitor: library::monitor,
+    signed_text: library::signed_text,
+};
+
+const PLAIN: Side = Side {
+    search: calls::search,
+    monitor: calls::monitor,
+    signed_text: calls::signed_text,
+};
+
+impl Side {
+    /// Makes a call.
+    fn make(&self, call: Call, inputs: &Inputs, reply: &mut Reply) {
+        let (arguments, signed) = (&inputs.arguments(), &inputs.signed_text);
+        let (output, new_state) = (&mut reply.output, &mut reply.new_state);
+        reply.answer = match call {
+            Call::Search => (self.search)(arguments, signed, output, new_state),
+            Call::Monitor => (self.monitor)(arguments, signed, new_state),
+            Call::SignedText => {
+                let kind = match inputs.kind {
+                    Kind::Search => 0,
+                    Kind::Monitor => 1,
+                };
+                (self.signed_text)(kind, arguments, &mut reply.buffer, 0)
+            }
+        };
+    }
 }
 
-/// The plain call.
-fn plain(inputs: &Inputs, reply: &mut Reply) {
-    let (arguments, signed) = (inputs.arguments(), &inputs.signed_text);
-    let (output, new_state) = (&mut reply.output, &mut reply.new_state);
-    reply.answer = match inputs.kind {
-        Kind::Search => calls::search(&arguments, signed, output, new_state),
-        Kind::Monitor => calls::monitor(&arguments, signed, new_state),
-    };
-}
-
-/// Compares the answers and all lent bytes, and the number with the one that is due.
-fn compare(inputs: &Inputs) {
+/// Compares the answers and all lent bytes, and what is shown of them with what is due.
+fn compare(call: Call, inputs: &Inputs) {
     let (mut one, mut other) = (Reply::new(), Reply::new());
-    proved(inputs, &mut one);
-    plain(inputs, &mut other);
-    if one != other || one.answer & NUMBER != inputs.number {
-        let (name, length) = (&inputs.name, inputs.response.len());
+    PROVED.make(call, inputs, &mut one);
+    PLAIN.make(call, inputs, &mut other);
+    if one != other || call.shown(one.answer) != call.due(inputs) {
         eprintln!(
-            "calls: {} {name}, {length} bytes: proved {:#x}, plain {:#x}, due {}",
-            inputs.kind.word(),
+            "calls: {}, {} bytes: proved {:#x}, plain {:#x}, due {}",
+            call.name(inputs),
+            inputs.response.len(),
             one.answer,
             other.answer,
-            inputs.number
+            call.due(inputs)
         );
         exit(1);
     }
 }
 
-type Call = fn(&Inputs, &mut Reply);
-
-/// The time of some calls.
-fn time(call: Call, inputs: &Inputs, reply: &mut Reply, calls: u32) -> Duration {
+/// The time of a call that is made so many times.
+fn time(side: &Side, call: Call, inputs: &Inputs, reply: &mut Reply, times: u32) -> Duration {
     let start = Instant::now();
-    for _ in 0..calls {
-        call(black_box(inputs), black_box(reply));
+    for _ in 0..times {
+        side.make(call, black_box(inputs), black_box(reply));
     }
     start.elapsed()
 }
 
-/// How many calls make a run.
-fn calls_of(call: Call, inputs: &Inputs, reply: &mut Reply) -> u32 {
-    let one = time(call, inputs, reply, 1).as_nanos().max(1);
-    (RUN.as_nanos() / one).clamp(1, MOST_CALLS) as u32
-}
-
 /// The best times of a proved and of a plain call, in seconds; they take turns, so that both meet
 /// the same state of the machine.
-fn best(inputs: &Inputs) -> (f64, f64) {
+fn best(call: Call, inputs: &Inputs) -> (f64, f64) {
     let mut reply = Reply::new();
-    let both: [Call; 2] = [proved, plain];
-    let calls = both.map(|call| calls_of(call, inputs, &mut reply));
+    let sides = [PROVED, PLAIN];
+    // How many calls make a run.
+    let times = [0, 1].map(|which| {
+        let one = time(&sides[which], call, inputs, &mut reply, 1);
+        (RUN.as_nanos() / one.as_nanos().max(1)).clamp(1, MOST_CALLS) as u32
+    });
     let mut best = [f64::INFINITY; 2];
     for _ in 0..RUNS {
         for which in 0..2 {
-            let run = time(both[which], inputs, &mut reply, calls[which]);
-            best[which] = best[which].min(run.as_secs_f64() / f64::from(calls[which]));
+            let run = time(&sides[which], call, inputs, &mut reply, times[which]);
+            best[which] = best[which].min(run.as_secs_f64() / f64::from(times[which]));
         }
     }
     (best[0], best[1])
 }
 
-/// Measures one input, prints its line, and gives the stack that the proved call took.
-fn measure(inputs: &Inputs) -> usize {
-    compare(inputs);
-    let (proved_time, plain_time) = best(inputs);
-    let mut reply = Reply::new();
-    let stack = stack::used(&mut || proved(inputs, &mut reply));
+/// Measures the time of a call and prints its line.
+fn measure(call: Call, inputs: &Inputs, stack: usize) {
+    let (proved, plain) = best(call, inputs);
     let length = inputs.response.len();
     println!(
-        "{:<60} {length:>9} {:>6} {:>11.2} {:>11.2} {:>7.3} {:>8.3} {stack:>7}",
-        format!("{} {}", inputs.kind.word(), inputs.name),
-        reply.answer & NUMBER,
-        proved_time * 1e6,
-        plain_time * 1e6,
-        proved_time / plain_time,
-        proved_time * 1e9 / length as f64,
+        "{:<62} {length:>9} {:>6} {:>11.2} {:>11.2} {:>7.3} {:>8.3} {stack:>7}",
+        call.name(inputs),
+        call.due(inputs),
+        proved * 1e6,
+        plain * 1e6,
+        proved / plain,
+        proved * 1e9 / length as f64,
     );
-    stack
 }
 
 /// Long answers, hostile responses beside them, and answers of the largest logs.
@@ -216,13 +208,25 @@ fn all_inputs() -> Vec<Inputs> {
 
 fn main() {
     println!(
-        "{:<60} {:>9} {:>6} {:>11} {:>11} {:>7} {:>8} {:>7}",
-        "call", "bytes", "number", "proved us", "plain us", "ratio", "ns/byte", "stack"
+        "{:<62} {:>9} {:>6} {:>11} {:>11} {:>7} {:>8} {:>7}",
+        "call", "bytes", "answer", "proved us", "plain us", "ratio", "ns/byte", "stack"
     );
-    let stacks = all_inputs().iter().map(measure).max();
+    let mut largest = [0; 3];
+    for inputs in all_inputs() {
+        for call in Call::both(&inputs) {
+            compare(call, &inputs);
+            let mut reply = Reply::new();
+            let stack = stack::used(&mut || PROVED.make(call, &inputs, &mut reply));
+            largest[call as usize] = stack.max(largest[call as usize]);
+            // Both calls make the same checks before 15: a line for each is only printed where all pass.
+            if call != Call::SignedText || inputs.number == 0 {
+                measure(call, &inputs, stack);
+            }
+        }
+    }
+    let [search, monitor, signed_text] = largest;
     println!(
-        "largest stack of a proved call: {} bytes (a call that does nothing: {})",
-        stacks.unwrap_or(0),
+        "largest stack in bytes: search {search}, monitor {monitor}, signed text {signed_text} (a call that does nothing: {})",
         stack::used(&mut || ())
     );
 }

@@ -1,40 +1,21 @@
 //! Compares the proved SHA-256 with the plain one, then measures both in one run.
 //! With the argument `compare` it only compares.
 
-use bench::Random;
+use bench::{library, Random};
 use second::sha256::sha256;
 use std::hint::black_box;
 use std::process::exit;
 use std::time::{Duration, Instant};
-
-#[link(name = "verifier", kind = "static")]
-extern "C" {
-    fn kt_sha256(message: *const u8, message_len: usize, digest: *mut u8, digest_len: usize)
-        -> u64;
-}
 
 const MIB: usize = 1 << 20;
 const SHORT: usize = 65;
 const COUNT: usize = 20_000;
 const RUNS: usize = 9;
 
-/// Calls the proved function with all of `room` for the digest, and gives its answer.
-fn proved_into(message: &[u8], room: &mut [u8]) -> u64 {
-    // Safe: both pointers come from slices and go with the lengths of these slices.
-    unsafe {
-        kt_sha256(
-            message.as_ptr(),
-            message.len(),
-            room.as_mut_ptr(),
-            room.len(),
-        )
-    }
-}
-
 /// The proved function in the shape of the plain one.
 fn proved(message: &[u8]) -> [u8; 32] {
     let mut digest = [0; 32];
-    proved_into(message, &mut digest);
+    library::sha256(message, &mut digest);
     digest
 }
 
@@ -51,7 +32,7 @@ fn compare(message: &[u8]) {
         // Exactly enough room and more than enough: the bytes after the digest stay.
         for room in [32, 40] {
             let mut buffer = [filling; 48];
-            if proved_into(message, &mut buffer[..room]) != 32 {
+            if library::sha256(message, &mut buffer[..room]) != 32 {
                 fail(
                     &format!("the answer is not 32 with {room} bytes of room"),
                     message.len(),
@@ -67,7 +48,7 @@ fn compare(message: &[u8]) {
         // Too little room: nothing is written.
         for room in [0, 1, 31] {
             let mut buffer = [filling; 48];
-            if proved_into(message, &mut buffer[..room]) != 0 {
+            if library::sha256(message, &mut buffer[..room]) != 0 {
                 fail(
                     &format!("the answer is not 0 with {room} bytes of room"),
                     message.len(),

@@ -1,13 +1,8 @@
 //! Compares the proved ladders with the plain ones: the answer, the versions, and every byte that must not change.
 
-use bench::Random;
+use bench::{library, Random};
 use second::calls::ladder;
 use std::process::exit;
-
-#[link(name = "verifier", kind = "static")]
-extern "C" {
-    fn kt_ladder(version: u32, versions: *mut u8, versions_len: usize) -> u64;
-}
 
 const ROOM: usize = 264;
 
@@ -15,8 +10,7 @@ const ROOM: usize = 264;
 fn compare(version: u32, room: usize, filling: u8) {
     let mut proved = [filling; ROOM + 8];
     let mut plain = proved;
-    // Safe: the pointer comes from a slice and goes with the length of this slice.
-    let answer = unsafe { kt_ladder(version, proved[..room].as_mut_ptr(), room) };
+    let answer = library::ladder(version, &mut proved[..room]);
     if answer != ladder(version, &mut plain[..room]) || proved != plain {
         eprintln!("ladder: a difference at version {version} with {room} bytes of room");
         exit(1);
