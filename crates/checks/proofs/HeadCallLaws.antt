@@ -1,23 +1,22 @@
 -- Laws of the head of a log that a response shows, from what is found at the places of its entries and nodes (src/head.rt).
 use mathlib.Core.Path.{_≡_, refl, sym, ap, _∙_}
 use mathlib.Core.Bool.{true, not}
-use mathlib.Core.List.{List, [], _++_, map, flatten, append-nil}
+use mathlib.Core.List.{List, [], _++_, map, append-nil}
 use mathlib.Core.Option.{some, Option·some-injective}
 use Prim.Native.Nat.{ℕ}
 use lib.Count.{ones}
 use borrow.Author.Tests.{eqb-true}
 use Rattle.lists.specs.Lists.{Bytes, runs}
 use Rattle.lists.proofs.ListLaws.{choose-true, bind-some, provided-true, equal-same}
-use Rattle.hash.specs.Bytes.{padded}
 use Rattle.lines.specs.Line.{endedLines, openRest, readLines, readLine, writeLine, leading}
 use Rattle.lines.specs.Readings.{partOf}
 use Rattle.lines.proofs.LineLaws.{lineText, write-line, line-read, linesText, text-written, joined-lines, leading-was, leading-each}
-use Rattle.tree.specs.LogTree.{fullValues, keptValuesMet}
+use Rattle.tree.specs.LogTree.{keptValuesMet}
 use Rattle.tree.specs.LogText.{nodesIn as nodesThere}
 use Rattle.tree.specs.LogHead.{Head, knownIn, isWalkable, walkOver, logHead, headWith}
 use Rattle.tree.specs.declared.log_head.LogHead.{LogHead}
 use Rattle.tree.proofs.LogTextLaws.{IsValue, nodes-written}
-use Rattle.rules.specs.Limits.{hashLength, valuesBlockLength}
+use Rattle.rules.specs.Limits.{hashLength}
 use Rattle.rules.specs.Response.{Parts}
 use Rattle.rules.specs.ResponseText.{nodeForm, readNode}
 use Rattle.rules.specs.Refusals.{Call, known, logWalk, logRoot, historyDiffers}
@@ -25,7 +24,7 @@ use Rattle.rules.proofs.NextStateLaws.{size-was}
 use Rattle.inputs.specs.declared.response.Response.{Response}
 use Rattle.inputs.specs.Response.{entriesIn, nodesIn, partsIn, AllRead}
 use Rattle.checks.specs.Entries.{EntriesStand}
-use Rattle.checks.specs.Calls.{entriesText, IsHead}
+use Rattle.checks.specs.Calls.{entriesText, IsHead, valuesBlock}
 use Rattle.checks.proofs.AskedCallLaws.{logged-positions, stand-walkable}
 
 -- ---- nodes
@@ -58,7 +57,7 @@ abbrev headOf : Call → Head
 headOf c =
     record {
       root = logRoot c;
-      values = padded valuesBlockLength (flatten (fullValues (c .parts .size) (known c) (logWalk c) (c .parts .nodes)));
+      values = valuesBlock c;
       met = keptValuesMet (known c) (logWalk c) (c .parts .nodes);
     }
 

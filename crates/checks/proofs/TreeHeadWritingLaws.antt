@@ -13,18 +13,12 @@ use Rattle.hash.specs.Bytes.{bigEndian}
 use Rattle.hash.proofs.BytesLaws.{length-bigEndian, tail-part}
 use Rattle.lines.specs.Writing.{placeAfter, putAt}
 use Rattle.lines.proofs.WritingLaws.{put-fits}
-use Rattle.rules.specs.Limits.{hashLength}
 use Rattle.rules.specs.Configuration.{treeHead}
 use Rattle.rules.specs.Calls.{placed}
 use Rattle.inputs.specs.StateWriter.{Wrote}
 use Rattle.inputs.proofs.StateWriterLaws.{then-put}
 
 -- ---- part by part
-
--- the bytes of a tree head: those of the configuration, and 40
-pub head-length : (a : Bytes) (n : ℕ) (r : Bytes) → length r ≡ hashLength → length (treeHead a n r) ≡ length a + 40
-unfolding treeHead
-head-length a n r h = omega (arith, length-append (a ++ bigEndian 8 n) r, length-append a (bigEndian 8 n), length-bigEndian 8 n, h)
 
 -- a text put behind another that was written is both written as one
 put-behind : (s t u : Bytes) (at : ℕ) {s′ s″ : Bytes} → length t ≡ at → length (t ++ u) ≤ length s → s′ ≡ written s 0 t → s″ ≡ putAt s′ at u

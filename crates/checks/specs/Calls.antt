@@ -172,11 +172,15 @@ pub record IsGiven (c : Call) (text : Bytes) (r : Response) (size′ time′ clo
   pub behind : c .configuration .maxBehind ≡ behind′
   pub outputs : readOutputs outputs′ ≡ some (c .outputs)
 
+-- the block of the values of the full subtrees afterwards
+abbrev pub valuesBlock : Call → Bytes
+valuesBlock c = padded valuesBlockLength (flatten (fullValues (c .parts .size) (known c) (logWalk c) (c .parts .nodes)))
+
 -- the head of the log, of a call to which 7 does not apply, and whose entries rise and are in the log
 pub record ShowsHead (c : Call) (h : LogHead) (block : Bytes) : Type 0 where
   pub met : historyDiffers c ≡ not (h .met)
   pub root : h .root ≡ logRoot c
-  pub values : block ≡ padded valuesBlockLength (flatten (fullValues (c .parts .size) (known c) (logWalk c) (c .parts .nodes)))
+  pub values : block ≡ valuesBlock c
 
 abbrev pub IsHead : Bytes → Response → List ℕ → ℕ → Bytes → LogHead → Bytes → Type 0
 IsHead text r places size kept h block =

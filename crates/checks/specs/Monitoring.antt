@@ -2,7 +2,7 @@
 use mathlib.Core.Path.{_≡_}
 use mathlib.Core.Logic.{_⊎_}
 use mathlib.Core.Bool.{Bool, true, false, _&&_}
-use mathlib.Core.List.{List, [], _∷_, _++_, map, flatten, List·Memᴰ}
+use mathlib.Core.List.{List, [], _∷_, _++_, map, List·Memᴰ}
 use mathlib.Core.Option.{some}
 use Prim.Native.Nat.{ℕ, _≤_, _<_}
 use lib.Count.{ones}
@@ -11,13 +11,11 @@ use lib.ListN.{length, take, getD}
 use lib.Seq.{sets}
 use Rattle.lists.specs.Choice.{given}
 use Rattle.lists.specs.Lists.{Bytes, all, same, lastOr, runs}
-use Rattle.hash.specs.Bytes.{padded}
-use Rattle.tree.specs.LogTree.{fullValues}
-use Rattle.rules.specs.Limits.{responseLimit, vrfOutputsLimit, treeSizeLimit, greatestVersion, mapLimit, versionBound, hashLength, valuesBlockLength}
+use Rattle.rules.specs.Limits.{responseLimit, vrfOutputsLimit, treeSizeLimit, greatestVersion, mapLimit, versionBound, hashLength}
 use Rattle.rules.specs.VrfOutputs.{VrfOutput, readOutputs, hasOutput}
 use Rattle.rules.specs.Response.{monitor, monitored, Step, Lookup, Entry, isIncluded}
 use Rattle.rules.specs.Monitoring.{askedByMonitoring, versionsOf as versionsAsked}
-use Rattle.rules.specs.Refusals.{Call, Judgement, tried, known, logWalk, logRoot, lastTime, commitmentAsked, lookupHolds, lookupsHold, notAsAsked, outputMissing, checks}
+use Rattle.rules.specs.Refusals.{Call, Judgement, tried, logRoot, lastTime, commitmentAsked, lookupHolds, lookupsHold, notAsAsked, outputMissing, checks}
 use Rattle.rules.specs.Refusals.{lastChecks}
 use Rattle.rules.specs.Calls.{numberOf}
 use Rattle.inputs.specs.declared.state.State.{State as StateBlock}
@@ -32,7 +30,7 @@ use Rattle.checks.specs.declared.monitoring_checks.Sections.{Sections}
 use Rattle.checks.specs.declared.monitoring_checks.Checked.{Checked}
 use Rattle.checks.specs.declared.monitored_asked.MonitoredAsked.{MonitoredAsked}
 use Rattle.checks.specs.declared.monitored_shown.MonitoredShown.{MonitoredShown}
-use Rattle.checks.specs.Calls.{blockAfter, numberTried, stepsText, entriesText, rules9, rules11, rules9to13, rules9to14, IsCall, IsGiven}
+use Rattle.checks.specs.Calls.{blockAfter, numberTried, stepsText, entriesText, rules9, rules11, rules9to13, rules9to14, IsCall, IsGiven, valuesBlock}
 use Rattle.checks.specs.Sections.{CommitmentAt, readLookup}
 use Rattle.checks.specs.Steps.{versionsOf}
 use Rattle.checks.specs.Entries.{EntriesStand, versionsOf as lookupVersionsOf}
@@ -201,7 +199,7 @@ AreMonitoringPlaces text r s places =
 pub record LeavesMonitored (c : Call) (k : Checked) (block : Bytes) : Type 0 where
   pub time : k .time ≡ lastTime c
   pub root : k .root ≡ logRoot c
-  pub values : block ≡ padded valuesBlockLength (flatten (fullValues (c .parts .size) (known c) (logWalk c) (c .parts .nodes)))
+  pub values : block ≡ valuesBlock c
 
 -- 9 to 14, of a call to which none of 6 to 8 applies
 abbrev pub IsMonitoringChecked : Bytes → Response → List ℕ → List ℕ → ℕ → ℕ → Bytes → ℕ → ℕ → ℕ → Bytes → Checked → Bytes → Type 0

@@ -1,22 +1,20 @@
 -- A search as the library makes it (paper 01, Sixteen numbers): how its answer stands for that of the rules.
 use mathlib.Core.Path.{_≡_}
 use mathlib.Core.Bool.{Bool, true, false}
-use mathlib.Core.List.{List, [], _++_, map, flatten}
+use mathlib.Core.List.{List, [], _++_, map}
 use mathlib.Core.Option.{some, Option·getD}
 use Prim.Native.Nat.{ℕ, _≤_, _<_}
 use lib.Count.{ones}
 use lib.ListN.{length, take}
 use Rattle.lists.specs.Lists.{Bytes, all, first, lastOr, runs}
-use Rattle.hash.specs.Bytes.{padded}
 use Rattle.tree.specs.Ladder.{ladder}
-use Rattle.tree.specs.LogTree.{fullValues}
 use Rattle.lines.specs.Hex.{readHex}
 use Rattle.lines.specs.Readings.{partOf}
-use Rattle.rules.specs.Limits.{responseLimit, treeSizeLimit, greatestVersion, labelLimit, openingLength, valueLimit, hashLength, valuesBlockLength}
+use Rattle.rules.specs.Limits.{responseLimit, treeSizeLimit, greatestVersion, labelLimit, openingLength, valueLimit, hashLength}
 use Rattle.rules.specs.VrfOutputs.{readOutputs, hasOutput}
 use Rattle.rules.specs.Response.{search, Target, Finding, searched, monitored, Entry, stepVersions}
 use Rattle.rules.specs.Search.{isComplete}
-use Rattle.rules.specs.Refusals.{Call, Judgement, refused, passed, tried, known, logWalk, logRoot, lastTime, commitmentAsked, lookupsHold, notAsAsked, outputMissing, checks, lastChecks}
+use Rattle.rules.specs.Refusals.{Call, Judgement, refused, passed, tried, logRoot, lastTime, commitmentAsked, lookupsHold, notAsAsked, outputMissing, checks, lastChecks}
 use Rattle.rules.specs.Calls.{numberOf, valueOf, outputAfter}
 use Rattle.inputs.specs.declared.state.State.{State as StateBlock}
 use Rattle.inputs.specs.State.{stateOf}
@@ -26,7 +24,7 @@ use Rattle.inputs.specs.declared.response.Response.{Response}
 use Rattle.inputs.specs.declared.response.ReadResponse.the-variants.{Read}
 use Rattle.inputs.specs.Response.{stepsIn, entriesIn, partsIn, Places}
 use Rattle.checks.specs.declared.search.SearchAnswer.{SearchAnswer}
-use Rattle.checks.specs.Calls.{blockAfter, numberTried, stepsText, entriesText, rules9, rules11, rules9to13, rules9to14, rules16, IsCall, IsGiven}
+use Rattle.checks.specs.Calls.{blockAfter, numberTried, stepsText, entriesText, rules9, rules11, rules9to13, rules9to14, rules16, IsCall, IsGiven, valuesBlock}
 use Rattle.checks.specs.Steps.{CommitmentsAt}
 use Rattle.checks.specs.Entries.{EntriesStand}
 use Rattle.checks.specs.Lookups.{allWanted}
@@ -133,7 +131,7 @@ pub record Leaves (c : Call) (t : ℕ) (k : Checked) (block : Bytes) : Type 0 wh
   pub position : k .position ≡ entry .position
   pub time : k .time ≡ lastTime c
   pub root : k .root ≡ logRoot c
-  pub values : block ≡ padded valuesBlockLength (flatten (fullValues (c .parts .size) (known c) (logWalk c) (c .parts .nodes)))
+  pub values : block ≡ valuesBlock c
 
 -- 9 to 14, of a call to which none of 6 to 8 applies
 abbrev pub IsChecked : Bytes → Response → Bytes → ℕ → ℕ → Bytes → ℕ → ℕ → ℕ → Bytes → Checked → Bytes → Type 0

@@ -34,13 +34,13 @@ use Rattle.rules.specs.ResponseText.{headForm, targetForm, entryForm, no
 use Rattle.rules.specs.ResponseText.{readEntryLine, readItem, grouped, readBody, readRest, readKindLine, readParts, readResponse}
 use Rattle.rules.specs.Search.{Asked, askedBySearch, isComplete, putEntry, mapAfterSearch}
 use Rattle.rules.specs.Monitoring.{versionsReaching, versionsShown, monitoredPositions, askedByMonitoring, mapAfterMonitoring}
-use Rattle.rules.specs.Refusals.{Inputs, Call, Judgement, passed, reading, validState, readCall}
+use Rattle.rules.specs.Refusals.{Inputs, Call, passed, reading, validState, readCall}
 use Rattle.rules.specs.Refusals.{sameKind, kindAsked, foreign, sizeWrong, targetWrongIn, targetWrong, askedBy, asked, entriesAsked, logWalk, notAsAsked}
 use Rattle.rules.specs.Refusals.{lastTime, known, historyDiffers, mapAfterBy, mapAfter, roomMissingFor, roomMissing, checks, lastChecks, judge}
 use Rattle.rules.specs.Calls.{Arguments, libraryInputs, judgeSearch, judgeMonitoring, nextState}
 use Rattle.rules.proofs.MapLaws.{Stand, monitored-on-frontier}
 use Rattle.rules.proofs.StateLaws.{valid-was, valid-is}
-use Rattle.rules.proofs.RefusalLaws.{NoneApplies, refused-not-passed, accepted-meaning}
+use Rattle.rules.proofs.RefusalLaws.{NoneApplies, accepted-meaning, readings-were}
 
 -- ---- what reading a response yields
 
@@ -154,34 +154,18 @@ pub record Accepted (c : Call) : Type 0 where
   pub reads : readResponse (c .inputs .response) ≡ some (c .parts)
   pub unrefused : NoneApplies (checks ++ lastChecks) c
 
--- where a reading passes, what it yields was handed on
-reading-passed : {A : Type 0} (k : ℕ) (o : Option A) (next : A → Judgement) (c : Call) → reading k o next ≡ passed c → (a : A) × (o ≡ some a) × (next a ≡ passed c)
-unfolding reading
-reading-passed k none next c e = absurd (refused-not-passed k c e)
-reading-passed k (some a) next c e = (a, refl, e)
-
 -- a state that is handed on is valid
 valid-handed : (o : Option State) (s : State) → validState o ≡ some s → isValid s ≡ true
 unfolding validState
 valid-handed none s e = absurd (Option·none-ne-some s e)
 valid-handed (some t) s e = let (v, q) = provided-some (isValid t) t s e in subst (λ (x : State). isValid x ≡ true) q v
 
--- judgements that let calls pass are equal only where the calls are
-passed-injective : (c d : Call) → passed c ≡ passed d → c ≡ d
-passed-injective c d e = cc
-
 -- a call as read has what it was given, a valid state, and the parts of its response
 pub call-read : (s : Option State) (i : Inputs) (c : Call) → readCall s i ≡ passed c
     → (c .inputs ≡ i) × (isValid (c .state) ≡ true) × (readResponse (c .inputs .response) ≡ some (c .parts))
-unfolding readCall
 call-read s i c e =
-    let (_, _, e1) = reading-passed 1 _ _ c e in
-    let (f, _, e2) = reading-passed 2 _ _ c e1 in
-    let (t, v, e3) = reading-passed 3 (validState s) _ c e2 in
-    let (o, _, e4) = reading-passed 4 _ _ c e3 in
-    let (p, r, e5) = reading-passed 5 (readResponse (i .response)) _ c e4 in
-    let q = passed-injective (record { inputs = i; configuration = f; state = t; outputs = o; parts = p }) c e5 in
-    subst (λ (d : Call). (d .inputs ≡ i) × (isValid (d .state) ≡ true) × (readResponse (d .inputs .response) ≡ some (d .parts))) q (refl, valid-handed s t v, r)
+    let h = readings-were s i c e in
+    (h .inputs, valid-handed s (c .state) (h .state), rw (h .inputs) (h .parts))
 
 -- a call that passes is accepted
 pub accepted-call : (s : Option State) (i : Inputs) (c : Call) → judge s i ≡ passed c → (c .inputs ≡ i) × Accepted c
@@ -559,7 +543,7 @@ unfolding judgeSearch
 search-target s a signed output c e = found-by-search (c .parts .finding) (kind-was s searchKind a signed (length output) c e)
 
 -- what is of the kind of monitoring has none
-found-by-monitoring : (f : Finding) → sameKind (kindOf f) monitor ≡ true → f ≡ monitored
+pub found-by-monitoring : (f : Finding) → sameKind (kindOf f) monitor ≡ true → f ≡ monitored
 unfolding sameKind kindOf
 found-by-monitoring (searched t) h = absurd (false≢true h)
 found-by-monitoring monitored h = refl

@@ -8,8 +8,12 @@ use Prim.Native.Nat.{ℕ, _≤_}
 use native.Mathlib.Omega.{arith}
 use Rattle.lists.specs.Choice.{choose}
 use Rattle.lists.specs.Lists.{Bytes}
+use Rattle.lists.proofs.ListLaws.{provided-true, provided-some}
+use Rattle.rules.specs.Configuration.{readConfiguration}
+use Rattle.rules.specs.VrfOutputs.{readOutputs}
 use Rattle.rules.specs.State.{State}
-use Rattle.rules.specs.Refusals.{Inputs, Call, Judgement, refused, passed, reading, readCall, Rule, checks, lastChecks, tried, triedAfter, judge}
+use Rattle.rules.specs.ResponseText.{readResponse}
+use Rattle.rules.specs.Refusals.{Inputs, Call, Judgement, refused, passed, reading, lengthsFit, validState, readCall, Rule, checks, lastChecks, tried, triedAfter, judge}
 use Rattle.rules.specs.Calls.{numberOf, stateAfter, valueOf, writtenFirst, outputAfter, textOf, textAfter}
 use Rattle.rules.specs.Consistency.{accepted, acceptedCalls}
 
@@ -91,6 +95,44 @@ pub after-refused : (xs ys : List Rule) (j : Judgement) (k : ℕ) → triedAfter
 unfolding triedAfter
 after-refused xs ys (refused n) k e = e
 after-refused xs ys (passed c) k e = tried-append xs ys c ∙ ap (triedAfter ys) e
+
+-- ---- what is read of a call: 1 to 5
+
+-- the readings of a call, each with what it yields
+pub record Readings (s : Option State) (i : Inputs) (c : Call) : Type 0 where
+  pub fits : lengthsFit i ≡ true
+  pub configuration : readConfiguration (i .configuration) ≡ some (c .configuration)
+  pub state : validState s ≡ some (c .state)
+  pub outputs : readOutputs (i .vrfOutputs) ≡ some (c .outputs)
+  pub parts : readResponse (i .response) ≡ some (c .parts)
+  pub inputs : c .inputs ≡ i
+
+-- where a reading passes, what it yields is handed on
+reading-by : {A R : Type 0} (k : ℕ) (o : Option A) (next : A → Judgement) (c : Call) → reading k o next ≡ passed c
+    → ((a : A) → o ≡ some a → next a ≡ passed c → R) → R
+unfolding reading
+reading-by k none next c e f = absurd (refused-not-passed k c e)
+reading-by k (some a) next c e f = f a refl e
+
+-- a call that was read has had its readings
+pub readings-were : (s : Option State) (i : Inputs) (c : Call) → readCall s i ≡ passed c → Readings s i c
+unfolding readCall
+readings-were s i c e =
+    reading-by 1 _ _ c e λ _ f e1.
+    reading-by 2 (readConfiguration (i .configuration)) _ c e1 λ g r2 e2.
+    reading-by 3 (validState s) _ c e2 λ t r3 e3.
+    reading-by 4 (readOutputs (i .vrfOutputs)) _ c e3 λ o r4 e4.
+    reading-by 5 (readResponse (i .response)) _ c e4 λ p r5 e5.
+    let d : Call = record { inputs = i; configuration = g; state = t; outputs = o; parts = p } in
+    let q : d ≡ c = cc in
+    subst (Readings s i) q
+    (record { fits = provided-some (lengthsFit i) i _ f .0; configuration = r2; state = r3; outputs = r4; parts = r5; inputs = refl })
+
+-- with its readings a call is read
+pub readings-pass : (s : Option State) (i : Inputs) (c : Call) → Readings s i c → readCall s i ≡ passed c
+unfolding readCall reading
+readings-pass s i c h =
+    rw (provided-true (lengthsFit i) i (h .fits), h .configuration, h .state, h .outputs, h .parts, ← h .inputs) refl
 
 -- ---- search and monitoring
 

@@ -1,8 +1,8 @@
 -- The signed text (specs/Calls.antt, judgeUnsigned and treeHeadOf): how long it is, and that the search or monitoring that is given it goes through,
 -- but for 16 in a search.
-use mathlib.Core.Path.{_≡_, refl, sym, ap, _∙_, subst}
+use mathlib.Core.Path.{_≡_, refl, sym, ap, _∙_}
 use mathlib.Core.Logic.{_⊎_, inl, inr}
-use mathlib.Core.Bool.{Bool, true, false, not, false≢true}
+use mathlib.Core.Bool.{Bool, true, false, not}
 use mathlib.Core.List.{[]}
 use mathlib.Core.Option.{Option, none, some, Option·elim}
 use Prim.Native.Nat.{ℕ, _+_, _≤_}
@@ -12,65 +12,24 @@ use lib.ListN.{length}
 use borrow.Author.Tests.{le-leb, leb-true, not-false}
 use Rattle.lists.specs.Choice.{choose}
 use Rattle.lists.specs.Lists.{Bytes, every, written}
-use Rattle.lists.proofs.ListLaws.{choose-true, choose-by, provided-true, provided-some, all-implied, every-cons, equal-same}
+use Rattle.lists.proofs.ListLaws.{choose-true, choose-by, all-implied, every-cons, equal-same}
 use Rattle.hash.specs.Sha256.{digestLength}
 use Rattle.tree.proofs.WalkValueLaws.{value-length}
 use Rattle.rules.specs.Limits.{responseLimit, configurationLimit, signedTextLimit, signedTextLeast, vrfOutputsLimit, identifierLength, stateTextLimit}
-use Rattle.rules.specs.Configuration.{readConfiguration}
-use Rattle.rules.specs.VrfOutputs.{readOutputs}
 use Rattle.rules.specs.State.{State}
 use Rattle.rules.specs.StateText.{readState}
-use Rattle.rules.specs.Response.{Kind, search as searchKind, monitor, Finding, searched, monitored, kindOf}
+use Rattle.rules.specs.Response.{Kind, search as searchKind, monitor}
 use Rattle.rules.specs.Response.{Result, included, absent, otherLeaf, Lookup, Entry}
-use Rattle.rules.specs.ResponseText.{readResponse}
-use Rattle.rules.specs.Refusals.{Inputs, Call, Judgement, refused, passed, reading, lengthsFit, validState, readCall}
-use Rattle.rules.specs.Refusals.{sameKind, kindAsked, foreign, sizeWrong, targetWrong, asked, logWalk, notAsAsked, outputMissing, lastTime, timesWrong}
+use Rattle.rules.specs.Refusals.{Inputs, Call, Judgement, refused, passed, lengthsFit, readCall}
+use Rattle.rules.specs.Refusals.{kindAsked, foreign, sizeWrong, targetWrong, asked, logWalk, notAsAsked, outputMissing, lastTime, timesWrong}
 use Rattle.rules.specs.Refusals.{commitmentOf, terminal, lookupHolds, lookupsHold, lookupFails, resultsWrong, known, historyDiffers, logRoot, treeHeadOf}
 use Rattle.rules.specs.Refusals.{headDiffers, roomMissingFor, roomMissing, checks, lastChecks, tried, triedAfter, judge, judgeWithoutHead}
 use Rattle.rules.specs.Calls.{Arguments, libraryInputs, judgeSearch, judgeMonitoring, numberOf, judgeUnsigned, placed, signedTextAfter}
 use Rattle.rules.specs.Calls.{textJudged, roomJudged, ktSearch, ktMonitor, kindNumbered, ktSignedText}
 use Rattle.rules.proofs.ConfigurationLaws.{configuration-least, head-length}
 use Rattle.rules.proofs.StateLaws.{valid-was}
-use Rattle.rules.proofs.RefusalLaws.{NoneApplies, IsNumber, refused-not-passed, after-passed, after-refused, rest-tried, sixteen-numbers}
-use Rattle.rules.proofs.NextStateLaws.{response-bounds, call-read, own-was}
-
--- ---- what is read of a call
-
--- the readings of a call, each with what it yields
-record Readings (s : Option State) (i : Inputs) (c : Call) : Type 0 where
-  fits : lengthsFit i ≡ true
-  configuration : readConfiguration (i .configuration) ≡ some (c .configuration)
-  state : validState s ≡ some (c .state)
-  outputs : readOutputs (i .vrfOutputs) ≡ some (c .outputs)
-  parts : readResponse (i .response) ≡ some (c .parts)
-  inputs : c .inputs ≡ i
-
--- where a reading passes, what it yields is handed on
-reading-by : {A R : Type 0} (k : ℕ) (o : Option A) (next : A → Judgement) (c : Call) → reading k o next ≡ passed c
-    → ((a : A) → o ≡ some a → next a ≡ passed c → R) → R
-unfolding reading
-reading-by k none next c e f = absurd (refused-not-passed k c e)
-reading-by k (some a) next c e f = f a refl e
-
--- a call that was read has had its readings
-readings-were : (s : Option State) (i : Inputs) (c : Call) → readCall s i ≡ passed c → Readings s i c
-unfolding readCall
-readings-were s i c e =
-    reading-by 1 _ _ c e λ _ f e1.
-    reading-by 2 (readConfiguration (i .configuration)) _ c e1 λ g r2 e2.
-    reading-by 3 (validState s) _ c e2 λ t r3 e3.
-    reading-by 4 (readOutputs (i .vrfOutputs)) _ c e3 λ o r4 e4.
-    reading-by 5 (readResponse (i .response)) _ c e4 λ p r5 e5.
-    let d : Call = record { inputs = i; configuration = g; state = t; outputs = o; parts = p } in
-    let q : d ≡ c = cc in
-    subst (Readings s i) q
-    (record { fits = provided-some (lengthsFit i) i _ f .0; configuration = r2; state = r3; outputs = r4; parts = r5; inputs = refl })
-
--- with its readings a call is read
-readings-pass : (s : Option State) (i : Inputs) (c : Call) → Readings s i c → readCall s i ≡ passed c
-unfolding readCall reading
-readings-pass s i c h =
-    rw (provided-true (lengthsFit i) i (h .fits), h .configuration, h .state, h .outputs, h .parts, ← h .inputs) refl
+use Rattle.rules.proofs.RefusalLaws.{Readings, readings-were, readings-pass, NoneApplies, IsNumber, refused-not-passed, after-passed, after-refused, rest-tried, sixteen-numbers}
+use Rattle.rules.proofs.NextStateLaws.{response-bounds, call-read, own-was, found-by-monitoring}
 
 -- ---- the call without a signed text
 
@@ -226,20 +185,14 @@ module _ (st : Option State) (kind : Option Kind) (a : Arguments) (c : Call) (e 
 
 -- ---- search and monitoring with the signed text
 
--- what is of the kind of monitoring asks for no room
-monitoring-room : (f : Finding) (c : Call) → sameKind (kindOf f) monitor ≡ true → roomMissingFor f c ≡ false
-unfolding sameKind kindOf roomMissingFor
-monitoring-room (searched t) c h = absurd (false≢true h)
-monitoring-room monitored c h = refl
-
 -- monitoring that yields a signed text is accepted with it
 pub monitoring-accepted : (st : Option State) (a : Arguments) (c : Call) → judgeUnsigned st (some monitor) a ≡ passed c
     → numberOf (judgeMonitoring st a (treeHeadOf c)) ≡ 0
-unfolding judgeMonitoring numberOf roomMissing kindAsked checks libraryInputs choose Option·elim
+unfolding judgeMonitoring numberOf roomMissing roomMissingFor kindAsked checks libraryInputs choose Option·elim
 monitoring-accepted st a c e =
     let d = signedCall st (some monitor) a c e 0 in
     let k : kindAsked d ≡ true = own-was d (signed-checks st (some monitor) a c e 0 .0) .0 in
-    let r : roomMissing d ≡ false = monitoring-room (c .parts .finding) d k in
+    let r : roomMissing d ≡ false = rw (found-by-monitoring (c .parts .finding) k) refl in
     rw (signed-judged st (some monitor) a c e 0, r) refl
 
 -- a search that yields one is accepted with it, or refused with 16

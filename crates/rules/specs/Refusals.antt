@@ -25,7 +25,7 @@ use Rattle.rules.specs.Monitoring.{askedByMonitoring, versionsOf, mapAft
 
 -- what a call is given besides the state
 pub record Inputs : Type 0 where
-  pub limit : ℕ  -- bytes of a response: the library's or the program's
+  pub limit : ℕ  -- the most bytes of a response
   pub kind : Option Kind  -- none where what was asked for is no kind
   pub response : Bytes
   pub configuration : Bytes

@@ -12,6 +12,8 @@ use Rattle.verifier.specs.declared.request.Asked.{Asked}
 use Rattle.verifier.specs.declared.request.Asked.the-variants.{Search, Monitor, Nothing}
 use Rattle.verifier.specs.declared.request.Request.{Request as RequestBlock}
 
+-- ==== for contracts of private functions alone
+
 -- the room for an identifier
 abbrev pub identifierRoom : ℕ
 identifierRoom = 64
@@ -25,8 +27,6 @@ askedKind Nothing = none
 -- the request of a struct
 unfoldable pub requestIn : RequestBlock → Request
 requestIn b = record { kind = askedKind (b .asked); identifier = take (b .length) (b .identifier); clock = b .clock }
-
--- ==== for contracts of private functions alone
 
 -- identifier and clock stand in a line from a place on, or the request is broken
 abbrev pub IsFields : Asked → Bytes → ℕ → RequestBlock → Type 0

@@ -5,7 +5,9 @@ use native.Mathlib.Omega.{arith}
 use lib.ListN.{length, length-drop}
 use Rattle.hash.proofs.BytesLaws.{tail-part}
 use Rattle.rules.specs.Configuration.{treeHead}
-use Rattle.checks.proofs.TreeHeadWritingLaws.{head-length, placed-over, placed-fits}
+use Rattle.rules.specs.Limits.{hashLength}
+use Rattle.rules.proofs.ConfigurationLaws.{head-length}
+use Rattle.checks.proofs.TreeHeadWritingLaws.{placed-over, placed-fits}
 use borrow.Author.Needs.{needs}
 use Rattle.checks.proofs.tree_head.place_tree_head.Statement.{statement}
 use Rattle.checks.proofs.tree_head.place_tree_head.Tie as tie
@@ -14,7 +16,9 @@ use Rattle.checks.proofs.tree_head.place_tree_head.Tie as tie
 text-length : (S : tie.Start)
     → let a = S .args in
     length (treeHead (a .configuration .now) (a .size) (a .root)) ≡ length (a .configuration .now) + 40
-text-length S = head-length (S .args .configuration .now) (S .args .size) (S .args .root) (search needs)
+text-length S =
+    let l : length (S .args .root) ≡ hashLength = search needs in
+    omega (arith, head-length (S .args .configuration .now) (S .args .size) (S .args .root), l)
 
 -- past the tests there is room for it
 room : (E : tie.Else3)
