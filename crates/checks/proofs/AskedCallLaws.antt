@@ -22,7 +22,7 @@ use Rattle.rules.specs.VrfOutputs.{readOutputs, hasOutput}
 use Rattle.rules.specs.Response.{Target, Finding, searched, Lookup, Entry, Parts, stepVersions, lookupVersions, entryPositions, logEntry}
 use Rattle.rules.specs.Search.{askedBySearch, Asked as AskedEntry}
 use Rattle.rules.specs.Refusals.{Call, askedBy, asked, stepsAskedBy, commitmentAsked, lookupsAsked, entriesAsked, logWalk, notAsAsked, outputMissing}
-use Rattle.rules.proofs.NextStateLaws.{positions-asked, marked-positions, frontier-shown}
+use Rattle.rules.proofs.AcceptedLaws.{positions-asked, marked-positions, frontier-shown}
 use Rattle.inputs.specs.declared.response.Response.{Response}
 use Rattle.inputs.specs.declared.response_lines.Kind.the-variants.{Search}
 use Rattle.inputs.specs.Response.{stepsIn, entriesIn, partsIn, Counted}

@@ -12,7 +12,7 @@ use Rattle.rules.specs.Response.{Kind as KindOf, Parts}
 use Rattle.rules.specs.Refusals.{Inputs, Call, checks}
 use Rattle.rules.specs.Calls.{libraryInputs}
 use Rattle.rules.proofs.RefusalLaws.{NoneApplies}
-use Rattle.rules.proofs.NextStateLaws.{size-was}
+use Rattle.rules.proofs.AcceptedLaws.{size-was}
 use Rattle.inputs.specs.declared.response_lines.Kind.{Kind}
 use Rattle.inputs.specs.declared.response_lines.Kind.the-variants.{Search}
 use Rattle.inputs.specs.declared.response.Response.{Response}

@@ -22,7 +22,7 @@ use Rattle.rules.specs.Limits.{treeSizeLimit, greatestVersion}
 use Rattle.rules.specs.State.{versions}
 use Rattle.rules.specs.Response.{Parts, kindOf}
 use Rattle.rules.specs.Refusals.{Call, rule, kindAsked, sameKind, foreign, sizeWrong, targetWrong, targetWrongIn}
-use Rattle.rules.proofs.NextStateLaws.{own-was}
+use Rattle.rules.proofs.AcceptedLaws.{own-was}
 use Rattle.inputs.specs.declared.response_lines.Kind.{Kind}
 use Rattle.inputs.specs.declared.response_lines.Kind.the-variants.{Search, Monitor}
 use Rattle.inputs.specs.declared.response.Response.{Response}

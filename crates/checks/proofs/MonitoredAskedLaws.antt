@@ -23,7 +23,7 @@ use Rattle.rules.specs.Response.{monitored, Lookup, Entry, Parts, stepVersions,
 use Rattle.rules.specs.Search.{Asked}
 use Rattle.rules.specs.Monitoring.{versionsReaching, versionsShown, monitoredPositions, askedByMonitoring, versionsOf as versionsAsked}
 use Rattle.rules.specs.Refusals.{Call, askedBy, stepsAskedBy, commitmentAsked, lookupsAsked, entriesAsked, notAsAsked, outputMissing}
-use Rattle.rules.proofs.NextStateLaws.{positions-asked, marked-positions}
+use Rattle.rules.proofs.AcceptedLaws.{positions-asked, marked-positions}
 use Rattle.inputs.specs.State.{mapOf}
 use Rattle.inputs.specs.declared.response_lines.Kind.the-variants.{Monitor}
 use Rattle.inputs.specs.declared.response.Response.{Response}

@@ -13,7 +13,7 @@ use Rattle.rules.specs.State.{State}
 use Rattle.rules.specs.Response.{search as searchKind, Parts}
 use Rattle.rules.specs.Refusals.{Inputs, Call, refused, tried, checks, lastChecks}
 use Rattle.rules.specs.Calls.{libraryInputs, outputAfter}
-use Rattle.rules.proofs.NextStateLaws.{own-was}
+use Rattle.rules.proofs.AcceptedLaws.{own-was}
 use Rattle.inputs.specs.declared.response_lines.Kind.the-variants.{Search}
 use Rattle.inputs.specs.declared.response.Response.{Response}
 use Rattle.inputs.specs.declared.state.State.{State as StateBlock}

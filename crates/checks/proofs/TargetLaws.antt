@@ -12,7 +12,7 @@ use Rattle.rules.specs.Limits.{openingLength, valueLimit}
 use Rattle.rules.specs.Response.{Target, searched, Parts}
 use Rattle.rules.specs.ResponseText.{readResponse}
 use Rattle.rules.specs.Refusals.{Call}
-use Rattle.rules.proofs.NextStateLaws.{response-bounds}
+use Rattle.rules.proofs.PartsLaws.{TargetFits, FindingFits, response-fits}
 use Rattle.inputs.specs.declared.response_lines.Kind.{Kind}
 use Rattle.inputs.specs.declared.response_lines.Kind.the-variants.{Search}
 use Rattle.inputs.specs.declared.response.Response.{Response}
@@ -45,4 +45,6 @@ module _ (text : Bytes) (r : Response) (kind : r .kind ≡ Search) where
   -- its opening and its value have the lengths that the form of a target line asks for
   pub target-lengths : readResponse text ≡ some (partsIn text r)
       → (length (spelled (partOf text (r .target .opening))) ≡ openingLength) × (length (spelled (partOf text (r .target .value))) ≤ valueLimit)
-  target-lengths e = let h = response-bounds text (partsIn text r) e .target in rw search-found at h
+  target-lengths e =
+      let h : TargetFits (targetIn text r) = subst FindingFits search-found (response-fits text (partsIn text r) e .finding) in
+      (h .opening, h .value)

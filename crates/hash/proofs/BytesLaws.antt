@@ -19,6 +19,23 @@ byte-at [] i h = omega arith
 byte-at (x ∷ s) zero h = h .0
 byte-at (x ∷ s) (suc i) h = byte-at s i (h .1)
 
+-- zeros are bytes
+pub bytes-zeros : (n : ℕ) → AreBytes (replicate n 0)
+bytes-zeros zero = tt
+bytes-zeros (suc n) = (omega arith, bytes-zeros n)
+
+-- so is the front of bytes
+pub bytes-take : (k : ℕ) (s : List ℕ) → AreBytes s → AreBytes (take k s)
+bytes-take zero s h = tt
+bytes-take (suc k) [] h = tt
+bytes-take (suc k) (b ∷ s) h = (h .0, bytes-take k s (h .1))
+
+-- and what follows it
+pub bytes-drop : (k : ℕ) (s : List ℕ) → AreBytes s → AreBytes (drop k s)
+bytes-drop zero s h = h
+bytes-drop (suc k) [] h = tt
+bytes-drop (suc k) (b ∷ s) h = bytes-drop k s (h .1)
+
 -- ---- numbers
 
 pub bytes-bigEndian : (n x : ℕ) → AreBytes (bigEndian n x)

@@ -1,19 +1,21 @@
 -- Laws of HMAC (specs/Hmac.antt).
 use mathlib.Core.Path.{_≡_, refl, ap, _∙_}
+use mathlib.Core.Bool.{Bool, true, false, cond}
 use mathlib.Core.List.{List, [], _∷_, _++_, map}
-use Prim.Native.Nat.{ℕ, _+_, _≤_, _<_}
+use Prim.Native.Nat.{ℕ, _+_, _-_, _≤_, _<_}
 use native.Mathlib.Numerals.{add-one}
 use native.Mathlib.Omega.{arith}
 use borrow.Author.Tests.{le-leb, lt-leb}
-use lib.Bits.{bitXor}
+use lib.Bits.{bitXor, xor-lt}
+use lib.Dec.{leb}
 use lib.ListN.{length, getD, take, set, replicate}
 use lib.Seq.{paste, take-suc, take-suc-set}
 use Rattle.hash.specs.declared.hasher.Hasher.{Hasher}
-use Rattle.hash.specs.Bytes.{AreBytes}
+use Rattle.hash.specs.Bytes.{AreBytes, padded}
 use Rattle.hash.specs.Sha256.{sha256}
 use Rattle.hash.specs.Hasher.{started, updated, closed}
 use Rattle.hash.specs.Hmac.{keyBlock, xored, innerKey, outerKey, innerString, outerString, hmac, begun, ended}
-use Rattle.hash.proofs.BytesLaws.{padded-first}
+use Rattle.hash.proofs.BytesLaws.{bytes-append, bytes-zeros, padded-first}
 use Rattle.hash.proofs.MessageLaws.{length-digest, bytes-digest}
 use Rattle.hash.proofs.HasherLaws.{updated-append, closed-updated}
 
@@ -67,3 +69,29 @@ length-hmac k m = length-digest (outerString k m)
 pub bytes-hmac : (k m : List ℕ) → AreBytes (hmac k m)
 unfolding hmac
 bytes-hmac k m = bytes-digest (outerString k m)
+
+-- ---- the two strings that are hashed are byte strings
+
+-- a block of bytes whose bits are flipped is one of bytes
+bytes-xored : (x : ℕ) (s : List ℕ) → x < 256 → AreBytes s → AreBytes (xored x s)
+unfolding xored
+bytes-xored x [] h b = tt
+bytes-xored x (y ∷ s) h b = (xor-lt 8 y x (b .0) h, bytes-xored x s h (b .1))
+
+-- so is the key's
+bytes-key : (k : List ℕ) → AreBytes k → AreBytes (keyBlock k)
+unfolding keyBlock padded
+bytes-key k h = go (leb (length k) 64)
+  where
+    go : (t : Bool) → AreBytes (padded 64 (cond t k (sha256 k)))
+    go true = bytes-append k (replicate (64 - length k) 0) h (bytes-zeros (64 - length k))
+    go false = bytes-append (sha256 k) (replicate (64 - length (sha256 k)) 0) (bytes-digest k) (bytes-zeros (64 - length (sha256 k)))
+
+pub bytes-inner : (k m : List ℕ) → AreBytes k → AreBytes m → AreBytes (innerString k m)
+unfolding innerString innerKey
+bytes-inner k m h b = bytes-append (innerKey k) m (bytes-xored 0x36 (keyBlock k) (omega arith) (bytes-key k h)) b
+
+pub bytes-outer : (k m : List ℕ) → AreBytes k → AreBytes (outerString k m)
+unfolding outerString outerKey
+bytes-outer k m h =
+    bytes-append (outerKey k) (sha256 (innerString k m)) (bytes-xored 0x5c (keyBlock k) (omega arith) (bytes-key k h)) (bytes-digest (innerString k m))

@@ -10,9 +10,9 @@ use lib.ListN.{length, getD, take, drop, replicate, length-drop, take-append-dro
 use lib.Seq.{drop-cons, drop-at, length-take-le, take-add}
 use borrow.Author.Tests.{eq-eqb, ne-eqb, eqb-true}
 use Rattle.lists.specs.Lists.{Bytes, all, runs}
-use Rattle.lists.proofs.ListLaws.{all-cons}
+use Rattle.lists.proofs.ListLaws.{all-cons, at-all}
 use Rattle.hash.specs.Bytes.{padded}
-use Rattle.tree.proofs.RunLaws.{runs-joined}
+use Rattle.tree.proofs.RunLaws.{runs-joined, runs-sized}
 use Rattle.inputs.specs.State.{zerosFrom}
 
 -- ---- a test of all elements from a place on
@@ -93,9 +93,4 @@ joined-padded k n m vs e h = rw (← e) (runs-joined k vs (replicate (m - length
 
 -- runs within the list have their length
 pub runs-whole : (n k : ℕ) (s : Bytes) → k * n ≤ length s → all (λ (v : Bytes). eqb (length v) k) (runs n k s) ≡ true
-unfolding runs all
-runs-whole zero k s h = refl
-runs-whole (suc n) k s h =
-    let e : length (take k s) ≡ k = length-take-le k s (omega arith) in
-    let i = runs-whole n k (drop k s) (omega (arith, length-drop k s)) in
-    rw (eq-eqb (length (take k s)) k e) i
+runs-whole n k s h = at-all (λ (v : Bytes). eqb (length v) k) (runs n k s) (λ v m. eq-eqb (length v) k (runs-sized n k s h v m))

@@ -1,4 +1,5 @@
 pub mod Computing
 pub mod ListLaws
+pub mod MemberLaws
 pub mod RisingLaws
 pub mod SameLaws

@@ -5,6 +5,8 @@ pub mod MapLaws
 pub mod EncodingLaws
 pub mod ConfigurationLaws
 pub mod RefusalLaws
+pub mod PartsLaws
+pub mod AcceptedLaws
 pub mod NextStateLaws
 pub mod SignedTextLaws
 pub mod ProgramLaws

@@ -21,7 +21,7 @@ use Rattle.rules.specs.Refusals.{Inputs, Call, Judgement, refused, passe
 use Rattle.rules.specs.Calls.{Arguments, libraryInputs, numberOf}
 use Rattle.rules.specs.Program.{Files, within, readRequest, requested, judgeAsked, judgeFiles}
 use Rattle.rules.proofs.RefusalLaws.{refuses, sixteen-numbers, number-refused}
-use Rattle.rules.proofs.NextStateLaws.{call-read}
+use Rattle.rules.proofs.AcceptedLaws.{call-read}
 
 -- ---- a file
 

@@ -29,7 +29,9 @@ use Rattle.rules.specs.Calls.{textJudged, roomJudged, ktSearch, ktMonito
 use Rattle.rules.proofs.ConfigurationLaws.{configuration-least, head-length}
 use Rattle.rules.proofs.StateLaws.{valid-was}
 use Rattle.rules.proofs.RefusalLaws.{Readings, readings-were, readings-pass, NoneApplies, IsNumber, refused-not-passed, after-passed, after-refused, rest-tried, sixteen-numbers}
-use Rattle.rules.proofs.NextStateLaws.{response-bounds, call-read, own-was, found-by-monitoring}
+use Rattle.rules.proofs.PartsLaws.{response-fits}
+use Rattle.rules.proofs.AcceptedLaws.{call-read, own-was}
+use Rattle.rules.proofs.NextStateLaws.{found-by-monitoring}
 
 -- ---- the call without a signed text
 
@@ -54,7 +56,7 @@ module _ (st : Option State) (kind : Option Kind) (a : Arguments) (c : Call) (e 
   unfolding logRoot known
   root-length =
       let (_, v, r) = call-read st (libraryInputs kind a [] 0) c (unsigned-meaning .0) in
-      value-length (known c) (logWalk c) (c .parts .nodes) (valid-was (c .state) v .valueLength) (response-bounds (c .inputs .response) (c .parts) r .nodes)
+      value-length (known c) (logWalk c) (c .parts .nodes) (valid-was (c .state) v .valueLength) (response-fits (c .inputs .response) (c .parts) r .nodes)
 
   -- the configuration is as given
   given-configuration : c .inputs .configuration ≡ a .configuration

@@ -2,10 +2,8 @@
 use mathlib.Core.Path.{_≡_, refl, sym, ap, _∙_, subst}
 use mathlib.Core.Logic.{_⊎_, inl, inr}
 use mathlib.Core.Bool.{Bool, true, false}
-use mathlib.Core.List.{List, [], _∷_, _++_, List·Memᴰ, List·Memᴰ·head, List·Memᴰ·tail, List·Memᴰ·cases-cons, List·Memᴰ·not-nil, List·Memᴰ·append-cases}
-use Prim.Native.Nat.{ℕ, zero, suc}
-use native.Mathlib.Omega.{arith}
-use lib.ListN.{length, take, drop, replicate}
+use mathlib.Core.List.{List, [], _∷_, _++_, List·Memᴰ, List·Memᴰ·head, List·Memᴰ·tail, List·Memᴰ·cases-cons, List·Memᴰ·not-nil}
+use lib.ListN.{length, take, drop}
 use lib.Seq.{take-at, drop-at, drop-append-seam}
 use Rattle.lists.specs.Lists.{Bytes, same}
 use Rattle.lists.proofs.ListLaws.{same-true, same-false}
@@ -67,31 +65,6 @@ Sized S = Each (λ (x : Bytes). length x ≡ digestLength) S
 
 abbrev pub ByteStrings : List Bytes → Type 0
 ByteStrings S = Each AreBytes S
-
--- Zeros are bytes.
-pub bytes-zeros : (n : ℕ) → AreBytes (replicate n 0)
-bytes-zeros zero = tt
-bytes-zeros (suc n) = (omega arith, bytes-zeros n)
-
--- Whatever it is, it holds of each string where there are none.
-pub each-nil : (P : Bytes → Type 0) → Each P []
-each-nil P x m = absurd (List·Memᴰ·not-nil m)
-
--- What holds of a first string and of each other holds of each.
-pub each-cons : (P : Bytes → Type 0) (s : Bytes) (S : List Bytes) → P s → Each P S → Each P (s ∷ S)
-each-cons P s S h f x m = go (List·Memᴰ·cases-cons m)
-  where
-    go : (x ≡ s) ⊎ List·Memᴰ x S → P x
-    go (inl e) = subst P (sym e) h
-    go (inr n) = f x n
-
--- What holds of each string of two lists holds of each of both joined.
-pub each-append : (P : Bytes → Type 0) (S T : List Bytes) → Each P S → Each P T → Each P (S ++ T)
-each-append P S T f g x m = go (List·Memᴰ·append-cases S m)
-  where
-    go : List·Memᴰ x S ⊎ List·Memᴰ x T → P x
-    go (inl n) = f x n
-    go (inr n) = g x n
 
 -- every string of the first list is one of the second
 abbrev pub Within : List Bytes → List Bytes → Type 0

@@ -10,8 +10,8 @@ use lib.Pow.{pow-pos}
 use Rattle.lists.specs.Lists.{Bytes, any}
 use Rattle.lists.proofs.ListLaws.{choose-by}
 use Rattle.tree.specs.SearchTree.{power}
-use Rattle.tree.specs.LogTree.{Range, sameRange, splitAt, leftHalf, rightHalf, fullFrom, fullSubtrees, isFull, holdsFull, isShown, Walk, nodeCount, Known, valueAmong, value, keptValuesMet, fullValues, walkStrings, walkOf}
-use Rattle.tree.proofs.CollisionLaws.{Sized, Within}
+use Rattle.tree.specs.LogTree.{Range, sameRange, splitAt, leftHalf, rightHalf, fullFrom, fullSubtrees, isFull, holdsFull, isShown, Walk, parent, nodeCount, Known, valueAmong, value, fullValues, walkOf}
+use Rattle.tree.proofs.CollisionLaws.{Sized}
 use Rattle.tree.proofs.PowerLaws.{power-unique, power-of-power, split-unique, left-half, halves-meet}
 use Rattle.tree.proofs.FullLaws.{fullFrom-none, fullFrom-more}
 use Rattle.tree.proofs.SubtreeLaws.{Subtree, whole, cut, subtree-root, subtree-halves}
@@ -19,7 +19,6 @@ use Rattle.tree.proofs.FullBlockLaws.{same-range, listed-full, full-cut
 use Rattle.tree.proofs.HoldingLaws.{LiesIn, range-equal, inside-shown, holds-full}
 use Rattle.tree.proofs.WalkCaseLaws.{Walks, keeps, takes, shows, splits, walk-cases, walks-over}
 use Rattle.tree.proofs.WalkValueLaws.{full-values-one, full-values-both, sized-drop}
-use Rattle.tree.proofs.WalkPathLaws.{met-parent, strings-left, strings-right}
 
 -- ---- values in the order of subtrees
 
@@ -44,15 +43,18 @@ matched-among {P} (both {r = x} {l} {v} {vs} p t) r e =
 
 -- ---- the walk of a full subtree
 
--- v is the value of a walk of the subtree r that meets the kept values and hashes strings of S
-pub record Part (k : Known) (ps : List ℕ) (S : List Bytes) (r : Range) (v : Bytes) : Type 0 where
+-- v is the value of a walk of the subtree r of which, with its nodes, P holds
+pub record Part (k : Known) (ps : List ℕ) (P : Walk → List Bytes → Type 0) (r : Range) (v : Bytes) : Type 0 where
   pub walked : Walk
   pub nodes : List Bytes
   pub walks : Walks (k .size) ps r walked
   pub sized : Sized nodes
-  pub met : keptValuesMet k walked nodes ≡ true
-  pub listed : Within (walkStrings k walked nodes) S
+  pub holds : P walked nodes
   pub is-value : value k walked nodes ≡ v
+
+-- what holds of a walk with two children holds of both
+abbrev pub OfHalves : (Walk → List Bytes → Type 0) → Type 0
+OfHalves P = (r : Range) (x y : Walk) (ns : List Bytes) → P (parent r x y) ns → P x ns × P y (drop (nodeCount x) ns)
 
 -- A range as wide as a power of two has one full subtree, itself.
 full-from-power : (f e : ℕ) (r : Range) → r .width ≡ 2 ^ e → fullFrom (suc f) (r .start) (r .width) ≡ r ∷ []
@@ -82,7 +84,7 @@ by-width (cut e q w l u t) a b = b e l u
 abbrev AllFull : ℕ → List Range → Type 0
 AllFull n l = (g : Range) → List·Memᴰ g l → isFull n g ≡ true
 
-module _ (n : ℕ) (k : Known) (ps : List ℕ) (S : List Bytes) (last : List·Memᴰ (n - 1) ps ⊎ (k .size ≡ n)) where
+module _ (n : ℕ) (k : Known) (ps : List ℕ) (P : Walk → List Bytes → Type 0) (halves : OfHalves P) (last : List·Memᴰ (n - 1) ps ⊎ (k .size ≡ n)) where
   -- A subtree that ends at n and holds a full subtree of n is not given.
   tail-walked : (r f : Range) → 0 < r .width → r .start + r .width ≡ n → isFull n f ≡ true → LiesIn r f → isShown ps r ≡ false → holdsFull (k .size) r ≡ false → ⊥
   tail-walked r f w t e l s h = go last
@@ -92,55 +94,53 @@ module _ (n : ℕ) (k : Known) (ps : List ℕ) (S : List Bytes) (last : List·Me
       go (inr q) = false≢true (sym h ∙ holds-full (k .size) r f (subst (λ (m : ℕ). isFull m f ≡ true) (sym q) e) l)
 
   abbrev Parts : List Range → List Bytes → Type 0
-  Parts l vs = Matched (Part k ps S) l vs
+  Parts l vs = Matched (Part k ps P) l vs
 
   -- The whole of a walk is a part.
-  part-all : {r : Range} {w : Walk} → Walks (k .size) ps r w → (ns : List Bytes) → Sized ns → keptValuesMet k w ns ≡ true → Within (walkStrings k w ns) S
-      → Part k ps S r (value k w ns)
-  part-all {w} t ns d m g = record { walked = w; nodes = ns; walks = t; sized = d; met = m; listed = g; is-value = refl }
+  part-all : {r : Range} {w : Walk} → Walks (k .size) ps r w → (ns : List Bytes) → Sized ns → P w ns → Part k ps P r (value k w ns)
+  part-all {w} t ns d m = record { walked = w; nodes = ns; walks = t; sized = d; holds = m; is-value = refl }
 
   -- A subtree as wide as a power of two hands on its own value.
   part-alone : {r : Range} {w : Walk} → Walks (k .size) ps r w → (f e : ℕ) → r .width ≡ 2 ^ e → AllFull n (fullFrom (suc f) (r .start) (r .width))
-      → (ns : List Bytes) → Sized ns → keptValuesMet k w ns ≡ true → Within (walkStrings k w ns) S
-      → Parts (fullFrom (suc f) (r .start) (r .width)) (fullValues n k w ns)
-  part-alone {r} t f e q full ns d m g =
+      → (ns : List Bytes) → Sized ns → P w ns → Parts (fullFrom (suc f) (r .start) (r .width)) (fullValues n k w ns)
+  part-alone {r} t f e q full ns d m =
       let h : isFull n r ≡ true = full r (rw (full-from-power f e r q) (List·Memᴰ·head refl)) in
-      rw (full-from-power f e r q, full-values-one n r _ k ns (walks-over t) h) (both (part-all t ns d m g) none)
+      rw (full-from-power f e r q, full-values-one n r _ k ns (walks-over t) h) (both (part-all t ns d m) none)
 
   -- The values that a walk of a subtree which ends at n hands on are those of walks of the full subtrees of n in it. If the subtree is as wide as a power of two, it
   -- is one. Else it is not retained, nor given; it splits, its left half is a full subtree of n, and the others are those of its right half.
   full-parts : {r : Range} {w : Walk} → Walks (k .size) ps r w → (f : ℕ) → Subtree n r → r .width ≤ f → r .start + r .width ≡ n
-      → AllFull n (fullFrom f (r .start) (r .width)) → (ns : List Bytes) → Sized ns → keptValuesMet k w ns ≡ true → Within (walkStrings k w ns) S
+      → AllFull n (fullFrom f (r .start) (r .width)) → (ns : List Bytes) → Sized ns → P w ns
       → Parts (fullFrom f (r .start) (r .width)) (fullValues n k w ns)
-  full-parts t zero s h tl full ns d m g = by-width s (λ e q. let z = pow-pos e in absurd (omega arith)) (λ e l u. absurd (omega arith))
-  full-parts (keeps {r} a b) (suc f) s h tl full ns d m g = by-width s (λ e q. part-alone (keeps a b) f e q full ns d m g)
+  full-parts t zero s h tl full ns d m = by-width s (λ e q. let z = pow-pos e in absurd (omega arith)) (λ e l u. absurd (omega arith))
+  full-parts (keeps {r} a b) (suc f) s h tl full ns d m = by-width s (λ e q. part-alone (keeps a b) f e q full ns d m)
       (λ e l u. absurd (false≢true (sym (full-cut (k .size) e (r .start) (r .width) l u) ∙ b)))
-  full-parts (takes {r} a b) (suc f) s h tl full ns d m g = by-width s (λ e q. part-alone (takes a b) f e q full ns d m g)
+  full-parts (takes {r} a b) (suc f) s h tl full ns d m = by-width s (λ e q. part-alone (takes a b) f e q full ns d m)
       (λ e l u.
       let p = pow-pos e in
       let (ls, lw) = left-half r in
       let (hs, hw) = halves-meet r (omega arith) in
       absurd (tail-walked r (leftHalf r) (omega arith) tl (full (leftHalf r) (rw (full-from-halves f e r l u) (List·Memᴰ·head refl))) (omega arith, omega arith) a b))
-  full-parts (shows {r} w) (suc f) s h tl full ns d m g = part-alone (shows w) f 0 w full ns d m g
-  full-parts (splits {r} {x} {y} w a b) (suc f) s h tl full ns d m g = by-width s (λ e q. part-alone (splits w a b) f e q full ns d m g)
+  full-parts (shows {r} w) (suc f) s h tl full ns d m = part-alone (shows w) f 0 w full ns d m
+  full-parts (splits {r} {x} {y} w a b) (suc f) s h tl full ns d m = by-width s (λ e q. part-alone (splits w a b) f e q full ns d m)
       (λ e l u.
       let p = pow-pos e in
       let sp = split-unique e (r .width) l (omega arith) in
       let (ls, lw) = left-half r in
       let (hs, hw) = halves-meet r w in
-      let (_, mx, my) = met-parent k r x y ns m in
+      let (mx, my) = halves r x y ns m in
       let q = full-from-halves f e r l u in
       let fl : isFull n (leftHalf r) ≡ true = full (leftHalf r) (rw q (List·Memᴰ·head refl)) in
       let ms = drop (nodeCount x) ns in
       let dm = sized-drop (nodeCount x) ns d in
       rw (q, full-values-both n r x y k ns (full-cut n e (r .start) (r .width) l u), full-values-one n (leftHalf r) x k ns (walks-over a) fl)
-      (both (part-all a ns d mx (strings-left k r x y ns S g))
-      (full-parts b f (subtree-halves n r s w .1) (omega arith) (omega arith) (λ z i. full z (rw q (List·Memᴰ·tail i))) ms dm my (strings-right k r x y ns S g))))
+      (both (part-all a ns d mx)
+      (full-parts b f (subtree-halves n r s w .1) (omega arith) (omega arith) (λ z i. full z (rw q (List·Memᴰ·tail i))) ms dm my)))
 
   -- The values that a walk of n entries hands on are those of walks of the full subtrees of n.
-  pub full-values-parts : 0 < n → (ns : List Bytes) → Sized ns → keptValuesMet k (walkOf n (k .size) ps) ns ≡ true
-      → Within (walkStrings k (walkOf n (k .size) ps) ns) S → Matched (Part k ps S) (fullSubtrees n) (fullValues n k (walkOf n (k .size) ps) ns)
+  pub full-values-parts : 0 < n → (ns : List Bytes) → Sized ns → P (walkOf n (k .size) ps) ns
+      → Matched (Part k ps P) (fullSubtrees n) (fullValues n k (walkOf n (k .size) ps) ns)
   unfolding walkOf fullSubtrees
-  full-values-parts h ns d m g =
+  full-values-parts h ns d m =
       let r : Range = record { start = 0; width = n } in
-      full-parts (walk-cases n (k .size) ps r h (omega arith)) n (subtree-root n h) (omega arith) (omega arith) (λ z i. listed-full n z i) ns d m g
+      full-parts (walk-cases n (k .size) ps r h (omega arith)) n (subtree-root n h) (omega arith) (omega arith) (λ z i. listed-full n z i) ns d m

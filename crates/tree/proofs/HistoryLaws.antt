@@ -16,7 +16,7 @@ use Rattle.lists.proofs.RisingLaws.{rising-tail, rising-first}
 use Rattle.hash.specs.Bytes.{bigEndian, padded}
 use Rattle.hash.specs.Sha256.{digestLength, sha256}
 use Rattle.hash.proofs.BytesLaws.{length-bigEndian}
-use Rattle.tree.specs.LogTree.{LogEntry, logLeafString, Range, fullSubtrees, isFull, walk, walkOf, Known, valueAmong, keptValue, stringAt, value, keptValuesMet, fullValues, walkStrings}
+use Rattle.tree.specs.LogTree.{LogEntry, logLeafString, Range, fullSubtrees, isFull, Walk, walk, walkOf, Known, valueAmong, keptValue, stringAt, value, keptValuesMet, fullValues, walkStrings}
 use Rattle.tree.specs.LogHead.{blockLength, positions, walkOver}
 use Rattle.tree.specs.Collisions.{Broken}
 use Rattle.tree.proofs.CollisionLaws.{Sized, _>>=_, append-split, ByteStrings, Within, same-string}
@@ -27,8 +27,8 @@ use Rattle.tree.proofs.RunLaws.{runs-joined}
 use Rattle.tree.proofs.PathLaws.{Path, path-one, path-from, path-within}
 use Rattle.tree.proofs.WalkCaseLaws.{Walks, walk-cases}
 use Rattle.tree.proofs.WalkValueLaws.{full-values-length}
-use Rattle.tree.proofs.WalkPathLaws.{shown-path, shown-listed, kept-path}
-use Rattle.tree.proofs.FullValueLaws.{matched-length, matched-among, Part, full-values-parts}
+use Rattle.tree.proofs.WalkPathLaws.{met-parent, strings-left, strings-right, shown-path, shown-listed, kept-path}
+use Rattle.tree.proofs.FullValueLaws.{matched-length, matched-among, Part, OfHalves, full-values-parts}
 
 -- ---- the string of an entry
 
@@ -74,14 +74,24 @@ pub record Binds (m : ℕ) (values : List Bytes) (p : ℕ) (x : Bytes) (S : List
   pub listed : List·Memᴰ x S
   pub path : Path S p (sha256 x) full (valueAmong (fullSubtrees m) values full)
 
--- What the laws ask of a walk over n entries: it does not shorten the log, it meets the kept values, it shows entry n - 1 unless nothing is new, and kept values and
--- nodes are as long as digests.
+-- What the laws ask of a walk over n entries: it does not shorten the log, it shows entry n - 1 unless nothing is new, and kept values and nodes are as long as
+-- digests.
 pub record Follows (n : ℕ) (k : Known) (ps : List ℕ) (nodes : List Bytes) : Type 0 where
   pub grown : k .size ≤ n
   pub last : List·Memᴰ (n - 1) ps ⊎ (k .size ≡ n)
-  pub met : keptValuesMet k (walkOf n (k .size) ps) nodes ≡ true
   pub values-sized : Sized (k .values)
   pub nodes-sized : Sized nodes
+
+-- and of one whose state is to bind what it shows, or what the state before binds: it meets the kept values, and the strings that it hashes stand in a list
+pub record Meets (k : Known) (S : List Bytes) (w : Walk) (nodes : List Bytes) : Type 0 where
+  pub met : keptValuesMet k w nodes ≡ true
+  pub listed : Within (walkStrings k w nodes) S
+
+-- Both children of a walk that does so do.
+meets-halves : (k : Known) (S : List Bytes) → OfHalves (Meets k S)
+meets-halves k S r x y ns h =
+    let (_, a, b) = met-parent k r x y ns (h .met) in
+    (record { met = a; listed = strings-left k r x y ns S (h .listed) }, record { met = b; listed = strings-right k r x y ns S (h .listed) })
 
 -- A full subtree of n is a subtree of n.
 full-subtree : (n : ℕ) (g : Range) → isFull n g ≡ true → Subtree n g
@@ -90,19 +100,19 @@ full-subtree n g h =
     subst (λ (r : Range). Subtree n r) (sym (range-equal g (block (b .level) (b .number)) (b .starts) (b .wide))) (whole (b .level) (b .number) (b .ends))
 
 -- The value handed on of a full subtree is the value of a walk of it.
-handed-part : (n : ℕ) (k : Known) (ps : List ℕ) (ns S : List Bytes) → Follows n k ps ns → 0 < n → Within (walkStrings k (walkOf n (k .size) ps) ns) S
-    → (g : Range) → isFull n g ≡ true → Part k ps S g (valueAmong (fullSubtrees n) (fullValues n k (walkOf n (k .size) ps) ns) g)
+handed-part : (n : ℕ) (k : Known) (ps : List ℕ) (ns S : List Bytes) → Follows n k ps ns → 0 < n → Meets k S (walkOf n (k .size) ps) ns
+    → (g : Range) → isFull n g ≡ true → Part k ps (Meets k S) g (valueAmong (fullSubtrees n) (fullValues n k (walkOf n (k .size) ps) ns) g)
 unfolding isFull
-handed-part n k ps ns S w h f g e = matched-among (full-values-parts n k ps S (w .last) h ns (w .nodes-sized) (w .met) f) g e
+handed-part n k ps ns S w h f g e = matched-among (full-values-parts n k ps (Meets k S) (meets-halves k S) (w .last) h ns (w .nodes-sized) f) g e
 
 -- What the state before binds, the value of a walk of the full subtree of n that holds the entry leads down to.
 part-carries : (n : ℕ) (k : Known) (ps : List ℕ) (S : List Bytes) (p : ℕ) (x : Bytes) (g : Range) (v : Bytes) → k .size ≤ n → Sized (k .values)
-    → Binds (k .size) (k .values) p x S → isFull n g ≡ true → Inside g p → Part k ps S g v → Path S p (sha256 x) g v
+    → Binds (k .size) (k .values) p x S → isFull n g ≡ true → Inside g p → Part k ps (Meets k S) g v → Path S p (sha256 x) g v
 unfolding keptValue
 part-carries n k ps S p x g v h d b e i c =
     path-from (c .is-value)
-    (kept-path k ps d n S p (sha256 x) (b .full) (b .is-full) (b .inside) (b .path) (c .walks) (full-subtree n g e) (c .nodes) (c .sized) (c .met)
-    (full-grows (k .size) n p (b .full) g h (b .is-full) e (b .inside) i) (c .listed))
+    (kept-path k ps d n S p (sha256 x) (b .full) (b .is-full) (b .inside) (b .path) (c .walks) (full-subtree n g e) (c .nodes) (c .sized) (c .holds .met)
+    (full-grows (k .size) n p (b .full) g h (b .is-full) e (b .inside) i) (c .holds .listed))
 
 -- ---- the laws
 
@@ -144,7 +154,7 @@ binds-one {m} {vs} {p} {x} {y} {S} s b c = do
 
 -- A walk's new state binds each shown entry to its string. The value handed on of the full subtree that holds the entry is that of a walk of this subtree, which
 -- leads down to the entry.
-pub walk-binds : (n : ℕ) (k : Known) (ps : List ℕ) (ns S : List Bytes) → Follows n k ps ns → Within (walkStrings k (walkOf n (k .size) ps) ns) S
+pub walk-binds : (n : ℕ) (k : Known) (ps : List ℕ) (ns S : List Bytes) → Follows n k ps ns → Meets k S (walkOf n (k .size) ps) ns
     → (p : ℕ) → p < n → List·Memᴰ p ps → Binds n (fullValues n k (walkOf n (k .size) ps) ns) p (stringAt (k .entries) p) S
 walk-binds n k ps ns S w f p h i =
     let (g, e, j) = entry-in-full n p h in
@@ -153,13 +163,13 @@ walk-binds n k ps ns S w f p h i =
       full = g;
       is-full = e;
       inside = j;
-      listed = shown-listed k ps (w .values-sized) S (c .walks) (c .nodes) p i j (c .listed);
-      path = path-from (c .is-value) (shown-path k ps (w .values-sized) S (c .walks) (c .nodes) p (c .sized) i j (c .listed));
+      listed = shown-listed k ps (w .values-sized) S (c .walks) (c .nodes) p i j (c .holds .listed);
+      path = path-from (c .is-value) (shown-path k ps (w .values-sized) S (c .walks) (c .nodes) p (c .sized) i j (c .holds .listed));
     }
 
 -- A walk's new state binds all that the state before binds. The full subtree of m that holds the entry lies in the full subtree of n that does, and the value handed
 -- on of this one leads down to the value kept of that one, and on from there.
-pub walk-carries-in : (n : ℕ) (k : Known) (ps : List ℕ) (ns S : List Bytes) → Follows n k ps ns → Within (walkStrings k (walkOf n (k .size) ps) ns) S
+pub walk-carries-in : (n : ℕ) (k : Known) (ps : List ℕ) (ns S : List Bytes) → Follows n k ps ns → Meets k S (walkOf n (k .size) ps) ns
     → (p : ℕ) (x : Bytes) → Binds (k .size) (k .values) p x S → Binds n (fullValues n k (walkOf n (k .size) ps) ns) p x S
 walk-carries-in n k ps ns S w f p x b =
     let l = binds-below (k .size) (k .values) p x S b in
@@ -169,10 +179,10 @@ walk-carries-in n k ps ns S w f p x b =
     record { full = g; is-full = e; inside = j; listed = b .listed; path = part-carries n k ps S p x g _ u (w .values-sized) b e j c }
 
 -- The same, with the strings of the walk put after those that bound the entry before.
-pub walk-carries : (n : ℕ) (k : Known) (ps : List ℕ) (ns R : List Bytes) → Follows n k ps ns → (p : ℕ) (x : Bytes) → Binds (k .size) (k .values) p x R
+pub walk-carries : (n : ℕ) (k : Known) (ps : List ℕ) (ns R : List Bytes) → Follows n k ps ns → keptValuesMet k (walkOf n (k .size) ps) ns ≡ true → (p : ℕ) (x : Bytes) → Binds (k .size) (k .values) p x R
     → Binds n (fullValues n k (walkOf n (k .size) ps) ns) p x (R ++ walkStrings k (walkOf n (k .size) ps) ns)
-walk-carries n k ps ns R w p x b =
-    walk-carries-in n k ps ns (R ++ walkStrings k (walkOf n (k .size) ps) ns) w (λ y m. Memᴰ·append-right R m) p x
+walk-carries n k ps ns R w t p x b =
+    walk-carries-in n k ps ns (R ++ walkStrings k (walkOf n (k .size) ps) ns) w (record { met = t; listed = λ y m. Memᴰ·append-right R m }) p x
     (binds-within (λ y m. Memᴰ·append-left (walkStrings k (walkOf n (k .size) ps) ns) m) b)
 
 -- A walk of one full subtree of n, with entries shown or none, whose value is the one that a state of n entries keeps of this subtree: that state binds all that
@@ -189,14 +199,14 @@ subtree-carries n f k ps ns S g vs h d t e l m w q p x i b =
       listed = b .listed;
       path =
           part-carries n k ps S p x g _ h d b e i
-          (record { walked = walk f (k .size) ps g; nodes = ns; walks = walk-cases f (k .size) ps g (omega arith) l; sized = t; met = m; listed = w; is-value = q });
+          (record { walked = walk f (k .size) ps g; nodes = ns; walks = walk-cases f (k .size) ps g (omega arith) l; sized = t; holds = record { met = m; listed = w }; is-value = q });
     }
 
 -- A walk hands on as many values as n has ones.
 pub full-values-count : (n : ℕ) (k : Known) (ps : List ℕ) (ns : List Bytes) → Follows n k ps ns → 0 < n
     → length (fullValues n k (walkOf n (k .size) ps) ns) ≡ ones n
 full-values-count n k ps ns w h =
-    sym (matched-length (full-values-parts n k ps (walkStrings k (walkOf n (k .size) ps) ns) (w .last) h ns (w .nodes-sized) (w .met) (λ y m. m))) ∙ full-length n
+    sym (matched-length (full-values-parts n k ps (λ _ _. Unit {0}) (λ _ _ _ _ _. (tt, tt)) (w .last) h ns (w .nodes-sized) tt)) ∙ full-length n
 
 -- The values read from the block of a walk's values, as many as n has ones, are those values.
 pub block-values : (n : ℕ) (k : Known) (ns : List Bytes) → Follows n k (positions (k .entries)) ns → 0 < n

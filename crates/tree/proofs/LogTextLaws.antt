@@ -12,7 +12,7 @@ use Rattle.lists.specs.Lists.{Bytes, runs}
 use Rattle.lists.proofs.ListLaws.{Lacks, all-lacks}
 use Rattle.hash.specs.Bytes.{AreBytes}
 use Rattle.hash.specs.Sha256.{digestLength}
-use Rattle.hash.proofs.BytesLaws.{bytes-append}
+use Rattle.hash.proofs.BytesLaws.{bytes-append, bytes-zeros, bytes-take, bytes-drop}
 use Rattle.lines.specs.Number.{readNumber, decimal, ascii}
 use Rattle.lines.specs.Hex.{dash, hexDigit, hex, hexField}
 use Rattle.lines.specs.Field.{exactly, readField, writeField, writeFields}
@@ -25,7 +25,6 @@ use Rattle.lines.proofs.LineLaws.{read-field}
 use Rattle.lines.proofs.ReadingLaws.{number-empty, digest-was, digest-long}
 use Rattle.tree.specs.LogTree.{zeros}
 use Rattle.tree.specs.LogText.{numberIn, valueDigits, valueIn, valuesIn, entryIn, nodeWord, nodeLine, nodesIn}
-use Rattle.tree.proofs.CollisionLaws.{bytes-zeros}
 use Rattle.tree.proofs.RunLaws.{length-runs, mapped-run, mapped-none, length-texts, runs-texts, length-joined, runs-joined, drop-take}
 
 -- ---- numbers
@@ -243,17 +242,6 @@ drop-hex (suc k) [] = drop-nil (2 * suc k)
 drop-hex (suc k) (b ∷ s) =
     let e : 2 * suc k ≡ suc (suc (2 * k)) = omega arith in
     rw e (drop-hex k s)
-
--- the first of some bytes, and the others, are bytes
-bytes-take : (k : ℕ) (s : Bytes) → AreBytes s → AreBytes (take k s)
-bytes-take zero s h = tt
-bytes-take (suc k) [] h = tt
-bytes-take (suc k) (b ∷ s) h = (h .0, bytes-take k s (h .1))
-
-bytes-drop : (k : ℕ) (s : Bytes) → AreBytes s → AreBytes (drop k s)
-bytes-drop zero s h = h
-bytes-drop (suc k) [] h = tt
-bytes-drop (suc k) (b ∷ s) h = bytes-drop k s (h .1)
 
 -- the values of runs of digits are the runs of the bytes
 values-runs : (n : ℕ) (s : Bytes) → AreBytes s → n * digestLength ≤ length s → map valueIn (runs n valueDigits (hex s)) ≡ runs n digestLength s

@@ -8,14 +8,15 @@ use native.Mathlib.Omega.{arith}
 use lib.ListN.{length, take}
 use Rattle.lists.specs.Lists.{Bytes, same}
 use Rattle.lists.proofs.ListLaws.{and-holds, same-false}
+use Rattle.lists.proofs.MemberLaws.{each-nil, each-cons, each-append}
 use Rattle.hash.specs.Bytes.{AreBytes}
 use Rattle.hash.specs.Sha256.{digestLength, sha256}
-use Rattle.hash.proofs.BytesLaws.{bytes-append}
+use Rattle.hash.proofs.BytesLaws.{bytes-append, bytes-zeros}
 use Rattle.hash.proofs.MessageLaws.{length-digest, bytes-digest}
 use Rattle.tree.specs.LogTree.{zeros}
 use Rattle.tree.specs.Collisions.{Broken}
 use Rattle.tree.specs.PrefixTree.{prefixLeafString, prefixParentString, bits, Terminal, ownLeaf, emptyPlace, foreignLeaf, terminalStrings, terminalValue, parentOver, valueAbove, stringsAbove, lookupRoot, lookupStrings, terminalFits}
-use Rattle.tree.proofs.CollisionLaws.{_>>=_, settled, Sized, append-cancel, append-split, ByteStrings, bytes-zeros, each-nil, each-cons, each-append, Within, colliding, zero-valued, same-string}
+use Rattle.tree.proofs.CollisionLaws.{_>>=_, settled, Sized, append-cancel, append-split, ByteStrings, Within, colliding, zero-valued, same-string}
 
 -- What is taken from a lookup of an output: siblings along its bits lead from what stands at its place up to the root, by strings of a list.
 pub record LeadsTo (S : List Bytes) (o : Bytes) (t : Terminal) (root : Bytes) : Type 0 where

@@ -5,8 +5,11 @@ use Prim.Native.Nat.{ℕ, zero, suc, _+_, _*_, _≤_, _<_}
 use native.Mathlib.Numerals.{add-one}
 use native.Mathlib.Omega.{arith}
 use lib.ListN.{length, take, drop, getD, set, length-append, length-drop, length-map, List·getD-map, List·getD-eq-default}
-use lib.Seq.{take-nil, take-suc, take-suc-set, take-at, drop-at, drop-drop, getD-drop}
+use lib.Seq.{take-nil, take-suc, take-suc-set, take-at, drop-at, drop-drop, getD-drop, length-take-le}
 use Rattle.lists.specs.Lists.{runs}
+use Rattle.lists.proofs.MemberLaws.{each-nil, each-cons}
+use Rattle.hash.specs.Bytes.{AreBytes}
+use Rattle.hash.proofs.BytesLaws.{bytes-take, bytes-drop}
 
 -- within a list it does not matter what stands beyond its end
 getD-any : {A : Type 0} (l : List A) (i : ℕ) (d e : A) → i < length l → getD l i d ≡ getD l i e
@@ -45,6 +48,14 @@ module _ {A : Type 0} where
   pub mapped-none : {B : Type 0} (f : List A → B) (n k : ℕ) (s : List A) (i : ℕ) (d : B) → n ≤ i → getD (map f (runs n k s)) i d ≡ d
   mapped-none f n k s i d h =
       List·getD-eq-default (map f (runs n k s)) d {n = i} (omega (arith, length-map (runs n k s) f, length-runs n k s))
+
+  -- each has k elements, where there are enough
+  pub runs-sized : (n k : ℕ) (s : List A) → k * n ≤ length s → (v : List A) → List·Memᴰ v (runs n k s) → length v ≡ k
+  unfolding runs
+  runs-sized zero k s h = each-nil (λ (v : List A). length v ≡ k)
+  runs-sized (suc n) k s h =
+      each-cons (λ (v : List A). length v ≡ k) (take k s) (runs n k (drop k s)) (length-take-le k s (omega arith))
+      (runs-sized n k (drop k s) (omega (arith, length-drop k s)))
 
   -- texts of k elements each, one after the other, are k times as long as there are texts
   pub length-texts : {B : Type 0} (k : ℕ) (text : B → List A) (xs : List B) → ((b : B) → List·Memᴰ b xs → length (text b) ≡ k)
@@ -85,6 +96,13 @@ module _ {A : Type 0} where
   drop-take zero n s = let e : 0 + n ≡ n = omega arith in rw e refl
   drop-take (suc m) n [] = rw (take-nil {A = A} (suc m + n), take-nil {A = A} n) refl
   drop-take (suc m) n (x ∷ s) = let e : suc m + n ≡ suc (m + n) = omega arith in rw e (drop-take m n s)
+
+-- the runs of bytes are bytes
+pub runs-bytes : (n k : ℕ) (s : List ℕ) → AreBytes s → (v : List ℕ) → List·Memᴰ v (runs n k s) → AreBytes v
+unfolding runs
+runs-bytes zero k s h = each-nil AreBytes
+runs-bytes (suc n) k s h =
+    each-cons AreBytes (take k s) (runs n k (drop k s)) (bytes-take k s h) (runs-bytes n k (drop k s) (bytes-drop k s h))
 
 -- one element more of a run that is copied
 pub copied-step : (r s : List ℕ) (n k : ℕ) → k < length r → n + k < length s → take k r ≡ take k (drop n s)

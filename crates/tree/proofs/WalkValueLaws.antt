@@ -9,12 +9,13 @@ use lib.ListN.{length, getD, drop, length-replicate}
 use Rattle.lists.specs.Choice.{choose}
 use Rattle.lists.specs.Lists.{Bytes}
 use Rattle.lists.proofs.ListLaws.{choose-by}
+use Rattle.lists.proofs.MemberLaws.{each-nil, each-cons, each-append}
 use Rattle.hash.specs.Bytes.{AreBytes, bigEndian}
 use Rattle.hash.specs.Sha256.{digestLength, sha256}
-use Rattle.hash.proofs.BytesLaws.{bytes-append, bytes-bigEndian}
+use Rattle.hash.proofs.BytesLaws.{bytes-append, bytes-zeros, bytes-bigEndian}
 use Rattle.hash.proofs.MessageLaws.{length-digest, bytes-digest}
 use Rattle.tree.specs.LogTree.{LogEntry, logLeafString, hashContent, logParentString, Range, sameRange, fullSubtrees, isFull, Walk, retained, given, shown, parent, nodeCount, widthOf, Known, zeros, valueAmong, keptValue, stringAt, value, fullValues, walkStrings}
-use Rattle.tree.proofs.CollisionLaws.{ByteStrings, Sized, bytes-zeros, each-nil, each-cons, each-append, Each}
+use Rattle.tree.proofs.CollisionLaws.{ByteStrings, Sized, Each}
 use Rattle.tree.proofs.WalkCaseLaws.{Over}
 
 -- ---- what holds of each value of a list

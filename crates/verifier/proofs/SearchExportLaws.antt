@@ -12,7 +12,8 @@ use Rattle.rules.specs.StateText.{readState}
 use Rattle.rules.specs.Response.{search as searchKind, Finding, searched, monitored}
 use Rattle.rules.specs.Refusals.{Inputs, Judgement, refused, passed, judge}
 use Rattle.rules.specs.Calls.{Arguments, libraryInputs, judgeSearch, valueFound, valueOf, writtenFirst, outputAfter, ktSearch, textAfter, answerWord}
-use Rattle.rules.proofs.NextStateLaws.{TargetFits, response-bounds, accepted-call}
+use Rattle.rules.proofs.PartsLaws.{FindingFits, response-fits}
+use Rattle.rules.proofs.AcceptedLaws.{accepted-call}
 use Rattle.inputs.specs.declared.state.State.{State as StateBlock}
 use Rattle.inputs.specs.State.{stateOf}
 use Rattle.inputs.specs.StateWriter.{textFor}
@@ -21,9 +22,9 @@ use Rattle.checks.specs.Search.{searchAnswer}
 use Rattle.verifier.proofs.CallExportLaws.{refusal-answered, text-refused, room-refused, call-judged, call-refused, call-answered}
 
 -- a value of a length that a response may have
-found-short : (f : Finding) → TargetFits f → length (Option·getD (valueFound f) []) ≤ valueLimit
+found-short : (f : Finding) → FindingFits f → length (Option·getD (valueFound f) []) ≤ valueLimit
 unfolding valueFound
-found-short (searched t) h = h .1
+found-short (searched t) h = h .value
 found-short monitored h = omega arith
 
 -- is that of a call
@@ -35,7 +36,7 @@ value-short s i = go (judge s i) refl
     go (refused k) q = omega arith
     go (passed c) q =
         let (_, h) = accepted-call s i c q in
-        found-short (c .parts .finding) (response-bounds (c .inputs .response) (c .parts) (h .reads) .target)
+        found-short (c .parts .finding) (response-fits (c .inputs .response) (c .parts) (h .reads) .finding)
 
 -- that of a search's answer
 pub search-short : (a : Arguments) (signed output : Bytes) (b : StateBlock) (r : SearchAnswer) → r ≡ searchAnswer b (judgeSearch (stateOf b) a signed output)

@@ -1,0 +1,204 @@
+-- Accepted calls (specs/Refusals.antt): what none of the rules 6 to 16 applying says of them, and what they show.
+use mathlib.Core.Path.{_≡_, refl, ap, ap₂, _∙_, subst}
+use mathlib.Core.Logic.{inl}
+use mathlib.Core.Bool.{true, false, _||_, false≢true}
+use mathlib.Core.List.{List, [], _∷_, _++_, map, List·Memᴰ}
+use mathlib.Core.Option.{Option, none, some, Option·none-ne-some}
+use Prim.Native.Nat.{ℕ, _≤_, _<_}
+use native.Mathlib.Omega.{arith}
+use lib.Dec.{eqb, ltb}
+use borrow.Author.Tests.{ltb-false, eqb-true, eqb-false, not-false}
+use Rattle.lists.specs.Lists.{Bytes}
+use Rattle.lists.proofs.ListLaws.{and-holds, or-fails, provided-some, every-cons, same-true, mapped-at}
+use Rattle.tree.specs.Ladder.{ladder}
+use Rattle.tree.specs.SearchTree.{frontier, frontierAndPaths}
+use Rattle.tree.specs.LogTree.{LogEntry, logLeafString, stringAt}
+use Rattle.tree.proofs.AskedLaws.{Entries, frontier-entries, paths-entries}
+use Rattle.tree.proofs.HistoryLaws.{Follows, string-of-entry}
+use Rattle.rules.specs.Limits.{treeSizeLimit}
+use Rattle.rules.specs.State.{MapEntry, State, positions, isValid}
+use Rattle.rules.specs.Response.{Target, Finding, searched, monitored, Entry, entryPositions, stepVersions, logEntry}
+use Rattle.rules.specs.ResponseText.{readResponse}
+use Rattle.rules.specs.Search.{Asked, askedBySearch}
+use Rattle.rules.specs.Monitoring.{versionsReaching, versionsShown, monitoredPositions, askedByMonitoring}
+use Rattle.rules.specs.Refusals.{Inputs, Call, passed, validState, readCall}
+use Rattle.rules.specs.Refusals.{kindAsked, foreign, sizeWrong, targetWrong, askedBy, asked, stepsAskedBy, entriesAsked, logWalk, notAsAsked, outputMissing, timesWrong, lookupFails, resultsWrong}
+use Rattle.rules.specs.Refusals.{known, historyDiffers, headDiffers, roomMissing, checks, lastChecks, judge}
+use Rattle.rules.proofs.StateLaws.{valid-was}
+use Rattle.rules.proofs.RefusalLaws.{NoneApplies, accepted-meaning, readings-were}
+use Rattle.rules.proofs.PartsLaws.{response-fits}
+
+-- ---- accepted calls
+
+-- what acceptance says of a call as read
+pub record Accepted (c : Call) : Type 0 where
+  pub valid : isValid (c .state) ≡ true
+  pub reads : readResponse (c .inputs .response) ≡ some (c .parts)
+  pub unrefused : NoneApplies (checks ++ lastChecks) c
+
+-- a state that is handed on is valid
+valid-handed : (o : Option State) (s : State) → validState o ≡ some s → isValid s ≡ true
+unfolding validState
+valid-handed none s e = absurd (Option·none-ne-some s e)
+valid-handed (some t) s e = let (v, q) = provided-some (isValid t) t s e in subst (λ (x : State). isValid x ≡ true) q v
+
+-- a call as read has what it was given, a valid state, and the parts of its response
+pub call-read : (s : Option State) (i : Inputs) (c : Call) → readCall s i ≡ passed c
+    → (c .inputs ≡ i) × (isValid (c .state) ≡ true) × (readResponse (c .inputs .response) ≡ some (c .parts))
+call-read s i c e =
+    let h = readings-were s i c e in
+    (h .inputs, valid-handed s (c .state) (h .state), rw (h .inputs) (h .parts))
+
+-- a call that passes is accepted
+pub accepted-call : (s : Option State) (i : Inputs) (c : Call) → judge s i ≡ passed c → (c .inputs ≡ i) × Accepted c
+accepted-call s i c e =
+    let (r, h) = accepted-meaning s i c e in
+    let (q, v, p) = call-read s i c r in
+    (q, record { valid = v; reads = p; unrefused = h })
+
+-- ---- the entries shown
+
+-- the positions of entries that are as asked are those asked for
+pub positions-asked : (f : Finding) (wanted : List Asked) (es : List Entry) → entriesAsked f wanted es ≡ true
+    → map (λ (e : Entry). e .position) es ≡ map (λ (a : Asked). a .position) wanted
+unfolding entriesAsked
+positions-asked f [] [] h = refl
+positions-asked f [] (e ∷ es) h = absurd (false≢true h)
+positions-asked f (a ∷ rest) [] h = absurd (false≢true h)
+positions-asked f (a ∷ rest) (e ∷ es) h =
+    let (i, r) = and-holds _ (entriesAsked f rest es) h in
+    let (p, _) = and-holds (eqb (e .position) (a .position)) _ i in
+    ap₂ _∷_ (eqb-true (e .position) (a .position) p) (positions-asked f rest es r)
+
+-- the positions of entries asked for at some positions are these
+pub marked-positions : (versions : ℕ → List ℕ) (ps : List ℕ)
+    → map (λ (a : Asked). a .position) (map (λ (p : ℕ). record { position = p; versions = versions p }) ps) ≡ ps
+marked-positions versions [] = refl
+marked-positions versions (p ∷ ps) = ap (λ (l : List ℕ). p ∷ l) (marked-positions versions ps)
+
+-- a search asks for the frontier
+search-asks : (n t : ℕ) → map (λ (a : Asked). a .position) (askedBySearch n t) ≡ frontier n
+unfolding askedBySearch
+search-asks n t = marked-positions (λ _. ladder t) (frontier n)
+
+-- monitoring asks for the frontier and right paths
+monitoring-asks : (n : ℕ) (es : List MapEntry) → map (λ (a : Asked). a .position) (askedByMonitoring n es) ≡ frontierAndPaths n (positions es)
+unfolding askedByMonitoring monitoredPositions
+monitoring-asks n es = marked-positions (λ (x : ℕ). versionsShown (versionsReaching n es x)) (frontierAndPaths n (positions es))
+
+-- what is asked for are rising entries of the log up to its last
+asked-entries : (f : Finding) (n : ℕ) (es : List MapEntry) → Entries n (map (λ (a : Asked). a .position) (askedBy f n es))
+unfolding askedBy
+asked-entries (searched t) n es = rw (search-asks n (t .version)) (frontier-entries n)
+asked-entries monitored n es = rw (monitoring-asks n es) (paths-entries n (positions es))
+
+-- ---- rules that do not apply
+
+module _ (c : Call) where
+  -- where 6 does not, the response is of the kind asked for, and has the label of the state
+  pub own-was : foreign c ≡ false → (kindAsked c ≡ true) × (c .parts .label ≡ c .state .label)
+  unfolding foreign
+  own-was e = let (a, l) = and-holds _ _ (not-false _ e) in (and-holds _ _ a .0, same-true _ _ l)
+
+  -- where 7 does not, the log has entries, not too many, and no fewer than before
+  pub size-was : sizeWrong c ≡ false → (0 < c .parts .size) × (c .parts .size ≤ treeSizeLimit) × (c .state .size ≤ c .parts .size)
+  unfolding sizeWrong
+  size-was e =
+      let (a, d) = or-fails (eqb (c .parts .size) 0 || ltb treeSizeLimit (c .parts .size)) (ltb (c .parts .size) (c .state .size)) e in
+      let (z, l) = or-fails (eqb (c .parts .size) 0) (ltb treeSizeLimit (c .parts .size)) a in
+      (omega (arith, eqb-false (c .parts .size) 0 z), ltb-false treeSizeLimit (c .parts .size) l, ltb-false (c .parts .size) (c .state .size) d)
+
+  module _ (e : notAsAsked c ≡ false) where
+    -- where 9 does not, the entries are at the positions asked for
+    pub shown-asked : entryPositions (c .parts) ≡ map (λ (a : Asked). a .position) (asked c)
+    unfolding notAsAsked
+    shown-asked =
+        let (_, a) = every-cons _ _ (not-false _ e) in
+        let (_, b) = every-cons _ _ a in
+        positions-asked (c .parts .finding) (asked c) (c .parts .entries) (every-cons _ _ b .0)
+
+    -- in a search at those of the frontier
+    pub frontier-shown : (t : Target) → c .parts .finding ≡ searched t → entryPositions (c .parts) ≡ frontier (c .parts .size)
+    unfolding asked askedBy
+    frontier-shown t f = shown-asked ∙ rw f (search-asks (c .parts .size) (t .version))
+
+    -- and its steps are those of the ladder
+    pub ladder-steps : (t : Target) → c .parts .finding ≡ searched t → stepVersions (c .parts) ≡ ladder (t .version)
+    unfolding notAsAsked stepsAskedBy
+    ladder-steps t f = same-true _ _ (every-cons _ _ (not-false _ e) .0) ∙ rw f refl
+
+-- ---- all of them
+
+-- none of 6 to 16 applies
+pub record Unrefused (c : Call) : Type 0 where
+  pub own : foreign c ≡ false
+  pub size : sizeWrong c ≡ false
+  pub target : targetWrong c ≡ false
+  pub asAsked : notAsAsked c ≡ false
+  pub outputs : outputMissing c ≡ false
+  pub times : timesWrong c ≡ false
+  pub lookups : lookupFails c ≡ false
+  pub results : resultsWrong c ≡ false
+  pub history : historyDiffers c ≡ false
+  pub head : headDiffers c ≡ false
+  pub room : roomMissing c ≡ false
+
+module _ (c : Call) (h : Accepted c) where
+  -- none of them applies to an accepted call
+  pub rules-passed : Unrefused c
+  unfolding checks lastChecks
+  rules-passed =
+      let r6 = h .unrefused in
+      let r9 = r6 .1 .1 .1 in
+      let r12 = r9 .1 .1 .1 in
+      let r15 = r12 .1 .1 .1 in
+      record {
+        own = r6 .0;
+        size = r6 .1 .0;
+        target = r6 .1 .1 .0;
+        asAsked = r9 .0;
+        outputs = r9 .1 .0;
+        times = r9 .1 .1 .0;
+        lookups = r12 .0;
+        results = r12 .1 .0;
+        history = r12 .1 .1 .0;
+        head = r15 .0;
+        room = r15 .1 .0;
+      }
+
+  -- the log has entries, not too many, and no fewer than before
+  pub size-fits : (0 < c .parts .size) × (c .parts .size ≤ treeSizeLimit) × (c .state .size ≤ c .parts .size)
+  size-fits = size-was c (rules-passed .size)
+
+  -- the entries shown are rising entries of the log up to its last
+  pub shown-entries : Entries (c .parts .size) (entryPositions (c .parts))
+  unfolding asked
+  shown-entries =
+      rw (shown-asked c (rules-passed .asAsked)) (asked-entries (c .parts .finding) (c .parts .size) (c .state .monitoringMap))
+
+  -- a search shows the frontier
+  pub search-shows : (t : Target) → c .parts .finding ≡ searched t → entryPositions (c .parts) ≡ frontier (c .parts .size)
+  search-shows t f = frontier-shown c (rules-passed .asAsked) t f
+
+  -- the walk shows the last entry, and kept values and nodes are as long as digests
+  pub call-follows : Follows (c .parts .size) (known c) (entryPositions (c .parts)) (c .parts .nodes)
+  unfolding known
+  call-follows =
+      let (p, _, g) = size-fits in
+      record {
+        grown = g;
+        last = inl (shown-entries .last p);
+        values-sized = valid-was (c .state) (h .valid) .valueLength;
+        nodes-sized = response-fits (c .inputs .response) (c .parts) (h .reads) .nodes;
+      }
+
+  -- where the walk shows an entry, it hashes the entry's leaf string
+  pub shown-string : (e : Entry) → List·Memᴰ e (c .parts .entries) → stringAt (known c .entries) (e .position) ≡ logLeafString (logEntry e)
+  unfolding known logEntry
+  shown-string e m =
+      string-of-entry (map logEntry (c .parts .entries)) (logEntry e) (rw (kept-positions (c .parts .entries)) (shown-entries .rises))
+      (mapped-at logEntry (c .parts .entries) e m)
+    where
+      kept-positions : (es : List Entry) → map (λ (x : LogEntry). x .position) (map logEntry es) ≡ map (λ (x : Entry). x .position) es
+      kept-positions [] = refl
+      kept-positions (x ∷ es) = ap (λ (l : List ℕ). x .position ∷ l) (kept-positions es)
