@@ -8,6 +8,10 @@ pub mod RefusalLaws
 pub mod PartsLaws
 pub mod AcceptedLaws
 pub mod NextStateLaws
+pub mod OutputLaws
+pub mod CommitmentLaws
+pub mod HashedLaws
+pub mod ChainConsistencyLaws
 pub mod SignedTextLaws
 pub mod ProgramLaws
 pub mod Running
