@@ -20,6 +20,7 @@ use Rattle.tree.specs.PrefixTree.{lookupStrings}
 use Rattle.tree.proofs.CollisionLaws.{ByteStrings, Within}
 use Rattle.tree.proofs.WalkValueLaws.{ByteEntries, bytes-walk, full-values-bytes}
 use Rattle.tree.proofs.LookupLaws.{TerminalBytes, bytes-lookup}
+use Rattle.rules.specs.Limits.{vrfOutputLength}
 use Rattle.rules.specs.VrfOutputs.{VrfOutput, outputOf}
 use Rattle.rules.specs.State.{State, isValid, HasBytes}
 use Rattle.rules.specs.Response.{Target, Finding, searched, monitored, Step, Result, included, absent, otherLeaf, Lookup, Entry, logEntry}
@@ -31,7 +32,7 @@ use Rattle.rules.specs.Hashed.{hashedByLookup, hashedByEntry, hashedByFi
 use Rattle.rules.specs.Consistency.{AreByteInputs, IsByteState}
 use Rattle.rules.proofs.RefusalLaws.{accepted-meaning, readings-were}
 use Rattle.rules.proofs.PartsLaws.{CommitmentFits, StepFits, OtherLeafFits, FindingFits, LookupFits, EntryFits, PartsFit, response-fits}
-use Rattle.rules.proofs.OutputLaws.{outputs-bytes, output-by}
+use Rattle.rules.proofs.OutputLaws.{outputs-sized, outputs-bytes, output-by}
 
 -- ---- where they stand
 
@@ -56,10 +57,11 @@ finding-listed c x m = Memᴰ·append-right (walkStrings (known c) (logWalk c) (
 
 -- ---- bytes
 
--- the strings of a call that was read have bytes, where what it was given has
+-- the strings of a call that was read have bytes, where what it was given has; outputs and parts have the lengths that reading asks for
 pub record ByteCall (c : Call) : Type 0 where
   pub state : HasBytes (c .state)
   pub outputs : (x : VrfOutput) → List·Memᴰ x (c .outputs) → AreBytes (x .output)
+  pub outputLength : (x : VrfOutput) → List·Memᴰ x (c .outputs) → length (x .output) ≡ vrfOutputLength
   pub parts : PartsFit (c .parts)
 
 -- a state that is handed on is the one given
@@ -74,6 +76,7 @@ call-bytes s i c b h e =
     record {
       state = state-bytes s (c .state) b (r .state);
       outputs = outputs-bytes (i .vrfOutputs) (c .outputs) (h .vrfOutputs) (r .outputs);
+      outputLength = outputs-sized (i .vrfOutputs) (c .outputs) (r .outputs);
       parts = response-fits (i .response) (c .parts) (r .parts);
     }
 

@@ -11,6 +11,7 @@ pub mod NextStateLaws
 pub mod OutputLaws
 pub mod CommitmentLaws
 pub mod HashedLaws
+pub mod SearchConsistencyLaws
 pub mod ChainConsistencyLaws
 pub mod SignedTextLaws
 pub mod ProgramLaws
