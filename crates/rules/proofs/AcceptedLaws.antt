@@ -4,11 +4,10 @@ use mathlib.Core.Logic.{inl}
 use mathlib.Core.Bool.{true, false, _||_, false≢true}
 use mathlib.Core.List.{List, [], _∷_, _++_, map, List·Memᴰ}
 use mathlib.Core.Option.{Option, none, some, Option·none-ne-some}
-use Prim.Native.Nat.{ℕ, _≤_, _<_}
+use Prim.Native.Nat.{ℕ, _^_, _≤_, _<_}
 use native.Mathlib.Omega.{arith}
 use lib.Dec.{eqb, ltb}
 use borrow.Author.Tests.{ltb-false, eqb-true, eqb-false, not-false}
-use Rattle.lists.specs.Lists.{Bytes}
 use Rattle.lists.proofs.ListLaws.{and-holds, or-fails, provided-some, every-cons, same-true, mapped-at}
 use Rattle.tree.specs.Ladder.{ladder}
 use Rattle.tree.specs.SearchTree.{frontier, frontierAndPaths}
@@ -22,7 +21,7 @@ use Rattle.rules.specs.ResponseText.{readResponse}
 use Rattle.rules.specs.Search.{Asked, askedBySearch}
 use Rattle.rules.specs.Monitoring.{versionsReaching, versionsShown, monitoredPositions, askedByMonitoring}
 use Rattle.rules.specs.Refusals.{Inputs, Call, passed, validState, readCall}
-use Rattle.rules.specs.Refusals.{kindAsked, foreign, sizeWrong, targetWrong, askedBy, asked, stepsAskedBy, entriesAsked, logWalk, notAsAsked, outputMissing, timesWrong, lookupFails, resultsWrong}
+use Rattle.rules.specs.Refusals.{kindAsked, foreign, sizeWrong, targetWrong, askedBy, asked, stepsAskedBy, entriesAsked, notAsAsked, outputMissing, timesWrong, lookupFails, resultsWrong}
 use Rattle.rules.specs.Refusals.{known, historyDiffers, headDiffers, roomMissing, checks, lastChecks, judge}
 use Rattle.rules.proofs.StateLaws.{valid-was}
 use Rattle.rules.proofs.RefusalLaws.{NoneApplies, accepted-meaning, readings-were}
@@ -202,3 +201,7 @@ module _ (c : Call) (h : Accepted c) where
       kept-positions : (es : List Entry) → map (λ (x : LogEntry). x .position) (map logEntry es) ≡ map (λ (x : Entry). x .position) es
       kept-positions [] = refl
       kept-positions (x ∷ es) = ap (λ (l : List ℕ). x .position ∷ l) (kept-positions es)
+
+  -- its time has 8 bytes
+  pub shown-time : (e : Entry) → List·Memᴰ e (c .parts .entries) → e .time < 2 ^ 64
+  shown-time e m = let t = response-fits (c .inputs .response) (c .parts) (h .reads) .entries e m .time in omega arith

@@ -2,7 +2,7 @@
 -- value, so they are equal, so HMAC's inner strings have one value too; these are equal, and so are the texts after the key. In a text the opening has a fixed
 -- length, the label is the same, and the value's length stands before it.
 use mathlib.Core.Path.{_≡_, refl, sym, _∙_}
-use mathlib.Core.Logic.{_⊎_, inl, inr}
+use mathlib.Core.Logic.{_⊎_, inl}
 use mathlib.Core.List.{List, _++_, List·Memᴰ, List·Memᴰ·head, List·Memᴰ·tail}
 use Prim.Native.Nat.{ℕ}
 use native.Mathlib.Omega.{arith}

@@ -1,8 +1,6 @@
 -- The strings that an accepted call hashed (specs/Hashed.antt): they are byte strings, and where each kind of them stands.
-use mathlib.Core.Path.{_≡_, refl, sym, ap, _∙_, subst}
-use mathlib.Core.Logic.{_⊎_, inl, inr}
-use mathlib.Core.Bool.{Bool, true, false}
-use mathlib.Core.List.{List, [], _∷_, _++_, flatMap, map, List·Memᴰ, Memᴰ·append-left, Memᴰ·append-right}
+use mathlib.Core.Path.{_≡_, refl, subst}
+use mathlib.Core.List.{List, [], _∷_, _++_, flatMap, List·Memᴰ, Memᴰ·append-left, Memᴰ·append-right}
 use mathlib.Core.Option.{Option, none, some, Option·getD, Option·none-ne-some, bind}
 use Prim.Native.Nat.{ℕ}
 use native.Mathlib.Omega.{arith}
@@ -15,15 +13,14 @@ use Rattle.hash.specs.Bytes.{AreBytes, bigEndian}
 use Rattle.hash.specs.Hmac.{innerString, outerString}
 use Rattle.hash.proofs.BytesLaws.{bytes-append, bytes-bigEndian}
 use Rattle.hash.proofs.HmacLaws.{bytes-inner, bytes-outer, bytes-hmac}
-use Rattle.tree.specs.LogTree.{LogEntry, walkStrings}
-use Rattle.tree.specs.PrefixTree.{lookupStrings}
+use Rattle.tree.specs.LogTree.{walkStrings}
 use Rattle.tree.proofs.CollisionLaws.{ByteStrings, Within}
 use Rattle.tree.proofs.WalkValueLaws.{ByteEntries, bytes-walk, full-values-bytes}
 use Rattle.tree.proofs.LookupLaws.{TerminalBytes, bytes-lookup}
 use Rattle.rules.specs.Limits.{vrfOutputLength}
 use Rattle.rules.specs.VrfOutputs.{VrfOutput, outputOf}
 use Rattle.rules.specs.State.{State, isValid, HasBytes}
-use Rattle.rules.specs.Response.{Target, Finding, searched, monitored, Step, Result, included, absent, otherLeaf, Lookup, Entry, logEntry}
+use Rattle.rules.specs.Response.{Finding, searched, monitored, Step, Result, included, absent, otherLeaf, Lookup, Entry, logEntry}
 use Rattle.rules.specs.Encoding.{opaque}
 use Rattle.rules.specs.Commitment.{commitmentKey, commitmentValue, commitmentTo, commitmentStrings}
 use Rattle.rules.specs.Refusals.{Inputs, Call, passed, validState, known, logWalk, terminal, stepCommitment, commitmentBy, commitmentOf, judge}
@@ -83,9 +80,31 @@ call-bytes s i c b h e =
 -- the key of commitments
 bytes-key : AreBytes commitmentKey
 unfolding commitmentKey
-bytes-key =
-    (omega arith, (omega arith, (omega arith, (omega arith, (omega arith, (omega arith, (omega arith, (omega arith,
-    (omega arith, (omega arith, (omega arith, (omega arith, (omega arith, (omega arith, (omega arith, (omega arith, tt))))))))))))))))
+bytes-key = (
+  omega arith,
+  (
+    omega arith,
+    (
+      omega arith,
+      (
+        omega arith,
+        (
+          omega arith,
+          (
+            omega arith,
+            (
+              omega arith,
+              (
+                omega arith,
+                (omega arith, (omega arith, (omega arith, (omega arith, (omega arith, (omega arith, (omega arith, (omega arith, tt)))))))),
+              ),
+            ),
+          ),
+        ),
+      ),
+    ),
+  ),
+)
 
 -- the text of a commitment
 bytes-text : (o l v : Bytes) → AreBytes o → AreBytes l → AreBytes v → AreBytes (commitmentValue o l v)

@@ -11,8 +11,9 @@ pub mod NextStateLaws
 pub mod OutputLaws
 pub mod CommitmentLaws
 pub mod HashedLaws
-pub mod SearchConsistencyLaws
-pub mod ChainConsistencyLaws
+pub mod OriginLaws
+pub mod AgreeingSearchesLaws
+pub mod AgreeingChainsLaws
 pub mod SignedTextLaws
 pub mod ProgramLaws
 pub mod Running

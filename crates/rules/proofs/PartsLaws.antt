@@ -1,6 +1,6 @@
 -- What reading a response yields (specs/ResponseText.antt): every byte string has bytes, and numbers and strings keep the limits of their fields.
-use mathlib.Core.Path.{_≡_, refl, ap, subst}
-use mathlib.Core.Logic.{_⊎_, inl, inr, ⊎-elim}
+use mathlib.Core.Path.{_≡_, refl, subst}
+use mathlib.Core.Logic.{_⊎_, ⊎-elim}
 use mathlib.Core.List.{List, [], _∷_, List·Memᴰ, List·Memᴰ·head, List·Memᴰ·tail}
 use mathlib.Core.Option.{Option, none, some, Option·map, Option·some-injective, Option·none-ne-some}
 use Prim.Native.Nat.{ℕ, _/_, _≤_}
@@ -127,10 +127,11 @@ grouped-fit (lookupItem l ∷ is) h =
     (each-cons LookupFits l (grouped is .0) (h (lookupItem l) (List·Memᴰ·head refl)) f, g)
 grouped-fit (entryItem e ∷ is) h =
     let (f, g) = grouped-fit is (λ i m. h i (List·Memᴰ·tail m)) in
-    let x = h (entryItem e) (List·Memᴰ·head refl) in
-    (each-nil LookupFits,
-    each-cons EntryFits (record { position = e .position; time = e .time; prefixRoot = e .prefixRoot; lookups = grouped is .0 }) (grouped is .1)
-    (record { time = x .time; root = x .root; lookups = f }) g)
+    let x = h (entryItem e) (List·Memᴰ·head refl) in (
+      each-nil LookupFits,
+      each-cons EntryFits (record { position = e .position; time = e .time; prefixRoot = e .prefixRoot; lookups = grouped is .0 }) (grouped is .1)
+          (record { time = x .time; root = x .root; lookups = f }) g,
+    )
 
 -- ---- nodes
 
@@ -212,7 +213,7 @@ parts-fit (l ∷ h ∷ ls) p e =
     let ((kind, (identifier, (label, _))), k, t) = bind-some (orElse (readKindLine search l) (readKindLine monitor l)) _ p e in
     let ((n, _), _, u) = bind-some (readLine headForm h) _ p t in
     let b = ⊎-elim (kind-line-fits search l (kind, (identifier, (label, tt)))) (kind-line-fits monitor l (kind, (identifier, (label, tt))))
-            (orElse-some (readKindLine search l) (readKindLine monitor l) (kind, (identifier, (label, tt))) k) in
+    (orElse-some (readKindLine search l) (readKindLine monitor l) (kind, (identifier, (label, tt))) k) in
     rest-fits kind identifier label n ls p b u
 
 -- a response that reads

@@ -24,6 +24,7 @@ pub mod BitLaws
 pub mod ClimbLaws
 pub mod TerminalLaws
 pub mod LookupLaws
+pub mod OriginLaws
 pub mod RunLaws
 pub mod LogTextLaws
 pub mod CursorLaws

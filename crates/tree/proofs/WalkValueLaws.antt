@@ -21,13 +21,13 @@ use Rattle.tree.proofs.WalkCaseLaws.{Over}
 -- ---- what holds of each value of a list
 
 -- What holds of each holds of each after the first ones.
-each-drop : (P : Bytes → Type 0) (i : ℕ) (vs : List Bytes) → Each P vs → Each P (drop i vs)
+pub each-drop : (P : Bytes → Type 0) (i : ℕ) (vs : List Bytes) → Each P vs → Each P (drop i vs)
 each-drop P zero vs h = h
 each-drop P (suc i) [] h = h
 each-drop P (suc i) (v ∷ vs) h = each-drop P i vs (λ x m. h x (List·Memᴰ·tail m))
 
 -- What holds of each and of zeros holds of the first one, missing or not.
-each-first : (P : Bytes → Type 0) (vs : List Bytes) → P zeros → Each P vs → P (getD vs 0 zeros)
+pub each-first : (P : Bytes → Type 0) (vs : List Bytes) → P zeros → Each P vs → P (getD vs 0 zeros)
 each-first P [] z h = z
 each-first P (v ∷ vs) z h = h v (List·Memᴰ·head refl)
 
@@ -53,20 +53,20 @@ full-values-both c z x y k nodes h = rw h refl
 
 -- ---- values
 
+-- What holds of zeros and of each kept value holds of the value kept of a subtree.
+pub among-by : (P : Bytes → Type 0) → P zeros → (l : List Range) (vs : List Bytes) (r : Range) → Each P vs → P (valueAmong l vs r)
+unfolding valueAmong
+among-by P empty [] vs r h = empty
+among-by P empty (x ∷ l) vs r h =
+    choose-by P (sameRange r x) (λ _. getD vs 0 zeros) (λ _. valueAmong l (drop 1 vs) r)
+    (λ _. each-first P vs empty h) (λ _. among-by P empty l (drop 1 vs) r (each-drop P 1 vs h))
+
 -- What holds of zeros, of each digest, of each kept value and of each node holds of every value that a walk works out.
 module _ (P : Bytes → Type 0) (empty : P zeros) (digest : (x : Bytes) → P (sha256 x)) where
-  -- It holds of the value kept of a subtree.
-  pub among-by : (l : List Range) (vs : List Bytes) (r : Range) → Each P vs → P (valueAmong l vs r)
-  unfolding valueAmong
-  among-by [] vs r h = empty
-  among-by (x ∷ l) vs r h =
-      choose-by P (sameRange r x) (λ _. getD vs 0 zeros) (λ _. valueAmong l (drop 1 vs) r)
-      (λ _. each-first P vs empty h) (λ _. among-by l (drop 1 vs) r (each-drop P 1 vs h))
-
   -- It holds of the value of a walk.
   pub value-by : (k : Known) (w : Walk) (ns : List Bytes) → Each P (k .values) → Each P ns → P (value k w ns)
   unfolding value keptValue
-  value-by k (retained r) ns h i = among-by (fullSubtrees (k .size)) (k .values) r h
+  value-by k (retained r) ns h i = among-by P empty (fullSubtrees (k .size)) (k .values) r h
   value-by k (given r) ns h i = each-first P ns empty i
   value-by k (shown p) ns h i = digest (stringAt (k .entries) p)
   value-by k (parent r x y) ns h i = digest (logParentString (widthOf x) (value k x ns) (widthOf y) (value k y (drop (nodeCount x) ns)))

@@ -9,16 +9,16 @@
 -- 5. A commitment is to one opening and one value.
 use mathlib.Core.Path.{_≡_, refl, sym, ap, _∙_, subst}
 use mathlib.Core.Logic.{_⊎_, inl, inr}
-use mathlib.Core.Bool.{Bool, true, false, not, _&&_, cond, false≢true}
-use mathlib.Core.List.{List, [], _∷_, _++_, map, List·Memᴰ, List·Memᴰ·head, List·Memᴰ·tail, Memᴰ·append-left, Memᴰ·append-right}
-use Prim.Native.Nat.{ℕ, _-_, _≤_, _<_, _^_}
+use mathlib.Core.Bool.{Bool, true, false, not, _&&_, false≢true}
+use mathlib.Core.List.{List, [], _∷_, _++_, map, List·Memᴰ, List·Memᴰ·head, Memᴰ·append-left, Memᴰ·append-right}
+use Prim.Native.Nat.{ℕ, _-_, _≤_, _<_}
 use native.Mathlib.Omega.{arith}
 use native.Mathlib.Decide.{decLe}
-use lib.Dec.{eqb, leb, ltb}
+use lib.Dec.{eqb, ltb}
 use lib.ListN.{length}
-use borrow.Author.Tests.{le-leb, lt-leb, le-ltb, lt-ltb, eq-eqb, not-false}
+use borrow.Author.Tests.{le-leb, lt-leb, le-ltb, eq-eqb, not-false}
 use Rattle.lists.specs.Choice.{choose}
-use Rattle.lists.specs.Lists.{Bytes, all, lastOr, same, rising}
+use Rattle.lists.specs.Lists.{Bytes, all, lastOr, same}
 use Rattle.lists.proofs.ListLaws.{and-holds, choose-true, choose-false, all-at, same-true, mapped-at}
 use Rattle.lists.proofs.RisingLaws.{last-largest}
 use Rattle.lists.proofs.MemberLaws.{each-append, at-mapped, last-mapped, last-listed}
@@ -26,25 +26,26 @@ use Rattle.hash.specs.Bytes.{AreBytes}
 use Rattle.hash.specs.Sha256.{digestLength}
 use Rattle.tree.specs.Ladder.{ladder}
 use Rattle.tree.specs.LogTree.{Walk, walkOf, stringAt, value, walkStrings}
-use Rattle.tree.specs.PrefixTree.{Terminal, ownLeaf, emptyPlace, foreignLeaf, lookupRoot, terminalFits}
+use Rattle.tree.specs.PrefixTree.{Terminal, ownLeaf, lookupRoot, terminalFits}
 use Rattle.tree.specs.Collisions.{Broken}
-use Rattle.tree.proofs.CollisionLaws.{_>>=_, settled, ByteStrings, Within}
-use Rattle.tree.proofs.LadderLaws.{Parted, ladder-split, ladder-own}
+use Rattle.tree.proofs.CollisionLaws.{_>>=_, ByteStrings, Within}
+use Rattle.tree.proofs.LadderLaws.{ladder-split, ladder-own}
 use Rattle.tree.proofs.LookupLaws.{LeadsTo, leads-within, Absent, fits-absent, one-commitment, not-both}
 use Rattle.tree.proofs.HistoryLaws.{walks-agree, entry-string-one}
-use Rattle.rules.specs.Limits.{openingLength, numberBound}
-use Rattle.rules.specs.VrfOutputs.{VrfOutput, hasOutput, outputOf}
+use Rattle.rules.specs.Limits.{openingLength}
+use Rattle.rules.specs.VrfOutputs.{hasOutput, outputOf}
 use Rattle.rules.specs.Response.{Target, Finding, searched, Result, included, absent, otherLeaf, Lookup, Entry, isIncluded, stepVersions, lookupVersions, entryPositions, logEntry}
-use Rattle.rules.specs.Commitment.{commitmentTo, commitmentStrings}
+use Rattle.rules.specs.Commitment.{commitmentTo}
 use Rattle.rules.specs.Search.{resultFits, isComplete, endsEarly, earlyThenComplete}
-use Rattle.rules.specs.Refusals.{Call, passed, known, logWalk, logRoot, outputMissing, commitmentBy, commitmentOf, terminal, untried, lookupHolds, lookupsHold, lookupFails, resultsWrongIn, resultsWrong, judge}
-use Rattle.rules.specs.Hashed.{hashedByLookup, hashedByFinding, hashed}
+use Rattle.rules.specs.Refusals.{Call, known, logWalk, logRoot, outputMissing, commitmentBy, commitmentOf, terminal, untried, lookupHolds, lookupsHold, lookupFails, resultsWrongIn, resultsWrong}
+use Rattle.rules.specs.Hashed.{hashedByLookup, hashed}
 use Rattle.rules.specs.Consistency.{OutputsAgree, SearchesAgree}
-use Rattle.rules.proofs.PartsLaws.{OtherLeafFits, LookupFits, TargetFits, FindingFits, PartsFit}
-use Rattle.rules.proofs.AcceptedLaws.{Accepted, accepted-call, rules-passed, ladder-steps, size-fits, shown-entries, call-follows, shown-string}
-use Rattle.rules.proofs.OutputLaws.{outputs-sized, output-of}
+use Rattle.rules.proofs.PartsLaws.{OtherLeafFits, FindingFits}
+use Rattle.rules.proofs.AcceptedLaws.{Accepted, accepted-call, rules-passed, ladder-steps, size-fits, shown-entries, call-follows, shown-string, shown-time}
+use Rattle.rules.proofs.OutputLaws.{output-of}
 use Rattle.rules.proofs.CommitmentLaws.{commitment-one}
-use Rattle.rules.proofs.HashedLaws.{ByteCall, walk-listed, lookup-listed, finding-listed, call-bytes, bytes-hashed}
+use Rattle.rules.proofs.HashedLaws.{ByteCall, walk-listed, lookup-listed, call-bytes, bytes-hashed}
+use Rattle.rules.proofs.OriginLaws.{strings-listed}
 
 -- ---- what a search shows of a prefix tree
 
@@ -58,13 +59,13 @@ record Shows (S : List Bytes) (output : ℕ → Bytes) (t : ℕ) (root commitmen
 abbrev OutputsFit : (ℕ → Bytes) → ℕ → Type 0
 OutputsFit output t = (v : ℕ) → List·Memᴰ v (ladder t) → length (output v) ≡ digestLength
 
--- and are those of the versions of another ladder
-abbrev Alike : (ℕ → Bytes) → (ℕ → Bytes) → ℕ → ℕ → Type 0
-Alike output output′ t t′ = (v : ℕ) → List·Memᴰ v (ladder t) → List·Memᴰ v (ladder t′) → output v ≡ output′ v
+-- the outputs of the versions that two ladders have in common are equal
+abbrev SameOutputs : (ℕ → Bytes) → (ℕ → Bytes) → ℕ → ℕ → Type 0
+SameOutputs output output′ t t′ = (v : ℕ) → List·Memᴰ v (ladder t) → List·Memᴰ v (ladder t′) → output v ≡ output′ v
 
 module _ (S : List Bytes) (bytes : ByteStrings S) (root : Bytes) where
   -- 3: a greater target breaks SHA-256
-  none-greater : (o o′ : ℕ → Bytes) (t t′ : ℕ) (d d′ : Bytes) → t < t′ → OutputsFit o t → Alike o o′ t t′ → Shows S o t root d → Shows S o′ t′ root d′ → Broken S
+  none-greater : (o o′ : ℕ → Bytes) (t t′ : ℕ) (d d′ : Bytes) → t < t′ → OutputsFit o t → SameOutputs o o′ t t′ → Shows S o t root d → Shows S o′ t′ root d′ → Broken S
   none-greater o o′ t t′ d d′ l z a h h′ =
       let p = ladder-split t t′ l in
       let v = p .version in
@@ -75,7 +76,7 @@ module _ (S : List Bytes) (bytes : ByteStrings S) (root : Bytes) where
       not-both S bytes (o v) root b x (z v m) n (subst (λ (u : Bytes). LeadsTo S u (ownLeaf b) root) (sym (a v m m′)) k′) k
 
   -- so the targets are equal
-  versions-one : (o o′ : ℕ → Bytes) (t t′ : ℕ) (d d′ : Bytes) → OutputsFit o t → OutputsFit o′ t′ → Alike o o′ t t′ → Shows S o t root d → Shows S o′ t′ root d′
+  versions-one : (o o′ : ℕ → Bytes) (t t′ : ℕ) (d d′ : Bytes) → OutputsFit o t → OutputsFit o′ t′ → SameOutputs o o′ t t′ → Shows S o t root d → Shows S o′ t′ root d′
       → (t ≡ t′) ⊎ Broken S
   versions-one o o′ t t′ d d′ z z′ a h h′ = go (decLe t′ t) (decLe t t′)
     where
@@ -85,7 +86,7 @@ module _ (S : List Bytes) (bytes : ByteStrings S) (root : Bytes) where
       go (yes p) (no q) = inr (none-greater o′ o t′ t d′ d (omega arith) z′ (λ v m′ m. sym (a v m m′)) h′ h)
 
   -- 4: and their leaves have one commitment
-  commitments-one : (o o′ : ℕ → Bytes) (t : ℕ) (d d′ : Bytes) → Alike o o′ t t → Shows S o t root d → Shows S o′ t root d′ → (d ≡ d′) ⊎ Broken S
+  commitments-one : (o o′ : ℕ → Bytes) (t : ℕ) (d d′ : Bytes) → SameOutputs o o′ t t → Shows S o t root d → Shows S o′ t root d′ → (d ≡ d′) ⊎ Broken S
   commitments-one o o′ t d d′ a h h′ =
       one-commitment S bytes (o t) root d d′ (h .own)
       (subst (λ (u : Bytes). LeadsTo S u (ownLeaf d′) root) (sym (a t (ladder-own t) (ladder-own t))) (h′ .own))
@@ -257,23 +258,20 @@ module _ (c : Call) (h : Accepted c) (b : ByteCall c) (t : Target) (f : c .parts
           let z = l .is-version in
           let n = not-found (t .version) (l .lookup) (l .fits) (omega arith) in
           let u = untried-not (l .lookup) n in
-          rw z (terminal c (l .lookup .version) (l .lookup .result),
-          absent-is c (l .lookup .version) (l .lookup .result) (outputOf (c .outputs) (l .lookup .version)) (length (l .lookup .siblings)) n
-          (b .parts .entries (x .entry) (x .listed) .lookups (l .lookup) (l .listed) .other) (place-fits (x .entry) (x .listed) (l .lookup) (l .listed) u),
-          lookup-way (x .entry) (x .listed) (l .lookup) (l .listed) u)
+          rw z (
+            terminal c (l .lookup .version) (l .lookup .result),
+            absent-is c (l .lookup .version) (l .lookup .result) (outputOf (c .outputs) (l .lookup .version)) (length (l .lookup .siblings)) n
+                (b .parts .entries (x .entry) (x .listed) .lookups (l .lookup) (l .listed) .other) (place-fits (x .entry) (x .listed) (l .lookup) (l .listed) u),
+            lookup-way (x .entry) (x .listed) (l .lookup) (l .listed) u,
+          )
 
   -- the outputs of the ladder are on the sheet, and have their length
   outputs-fit : OutputsFit (outputOf (c .outputs)) (t .version)
   unfolding outputMissing
   outputs-fit v m =
       let k = all-at (hasOutput (c .outputs)) (stepVersions (c .parts)) v (not-false _ (rules-passed c h .outputs))
-              (rw (ladder-steps c (rules-passed c h .asAsked) t f) m) in
+      (rw (ladder-steps c (rules-passed c h .asAsked) t f) m) in
       output-of (λ (o : Bytes). length o ≡ digestLength) (c .outputs) v (b .outputLength) k
-
-  -- the strings of the commitment's HMAC were hashed
-  commitment-listed : Within (commitmentStrings (t .opening) (c .parts .label) (t .value)) (hashed c)
-  unfolding hashedByFinding
-  commitment-listed x m = finding-listed c x (rw f m)
 
   -- its opening has a fixed length
   opening-length : length (t .opening) ≡ openingLength
@@ -293,10 +291,6 @@ shows-within S T o t root d f h =
 -- targets with one version, opening and value are equal
 target-equal : (t t′ : Target) → t .version ≡ t′ .version → t .opening ≡ t′ .opening → t .value ≡ t′ .value → t ≡ t′
 target-equal t t′ p q r = rw (p, q, r) refl
-
--- the time of an entry has 8 bytes
-time-fits : (c : Call) → ByteCall c → (e : Entry) → List·Memᴰ e (c .parts .entries) → e .time < 2 ^ 64
-time-fits c b e i = let k = b .parts .entries e i .time in omega arith
 
 module _ (c c′ : Call) (h : Accepted c) (h′ : Accepted c′) (b : ByteCall c) (b′ : ByteCall c′) (size : c .parts .size ≡ c′ .parts .size) (root : logRoot c ≡ logRoot c′) where
   -- all strings that the two hashed
@@ -323,13 +317,13 @@ module _ (c c′ : Call) (h : Accepted c) (h′ : Accepted c′) (b : ByteCall c
             (subst (λ (k : ℕ). Within (walkStrings (known c′) (walked k) (c′ .parts .nodes)) both) (sym size) (λ x k. Memᴰ·append-right (hashed c) (walk-listed c′ x k)))
             (e .position) (shown-entries c h .within (e .position) m) m (rw q m′)
         let z = sym (shown-string c h e i) ∙ w ∙ ap (stringAt (known c′ .entries)) q ∙ shown-string c′ h′ e′ i′
-        inl (entry-string-one (logEntry e) (logEntry e′) (time-fits c b e i) (time-fits c′ b′ e′ i′) z .1)
+        inl (entry-string-one (logEntry e) (logEntry e′) (shown-time c h e i) (shown-time c′ h′ e′ i′) z .1)
 
   -- 2 to 5
   module _ (t t′ : Target) (f : c .parts .finding ≡ searched t) (f′ : c′ .parts .finding ≡ searched t′) (label : c .parts .label ≡ c′ .parts .label)
       (agree : OutputsAgree c c′) where
     -- the versions that both ladders have are among the steps of both
-    alike : Alike (outputOf (c .outputs)) (outputOf (c′ .outputs)) (t .version) (t′ .version)
+    alike : SameOutputs (outputOf (c .outputs)) (outputOf (c′ .outputs)) (t .version) (t′ .version)
     alike v m m′ =
         agree v (rw (ladder-steps c (rules-passed c h .asAsked) t f) m) (rw (ladder-steps c′ (rules-passed c′ h′ .asAsked) t′ f′) m′)
 
@@ -343,16 +337,16 @@ module _ (c c′ : Call) (h : Accepted c) (h′ : Accepted c′) (b : ByteCall c
         let x′ = last-entry c′ h′ b′ t′ f′ in
         let sh = shows-within (hashed c) both o (t .version) (x .entry .prefixRoot) d (λ y m. Memᴰ·append-left (hashed c′) m) (shows c h b t f x) in
         let sh′ = shows-within (hashed c′) both o′ (t′ .version) (x′ .entry .prefixRoot) d′ (λ y m. Memᴰ·append-right (hashed c) m)
-                  (rw label (shows c′ h′ b′ t′ f′ x′)) in
+        (rw label (shows c′ h′ b′ t′ f′ x′)) in
         do
           r ← roots-one (x .entry) (x′ .entry) (x .listed) (x′ .listed) (x .last ∙ ap (λ (n : ℕ). n - 1) size ∙ sym (x′ .last))
           let u = subst (λ (y : Bytes). Shows both o′ (t′ .version) y d′) (sym r) sh′
           v ← versions-one both both-bytes (x .entry .prefixRoot) o o′ (t .version) (t′ .version) d d′ (outputs-fit c h b t f) (outputs-fit c′ h′ b′ t′ f′) alike sh u
-          k ← commitments-one both both-bytes (x .entry .prefixRoot) o o′ (t .version) d d′ (subst (Alike o o′ (t .version)) (sym v) alike) sh
+          k ← commitments-one both both-bytes (x .entry .prefixRoot) o o′ (t .version) d d′ (subst (SameOutputs o o′ (t .version)) (sym v) alike) sh
               (subst (λ (y : ℕ). Shows both o′ y (x .entry .prefixRoot) d′) (sym v) u)
           (p, q) ← commitment-one both both-bytes (t .opening) (t′ .opening) (c .parts .label) (t .value) (t′ .value)
-              (opening-length c h b t f ∙ sym (opening-length c′ h′ b′ t′ f′)) (λ y m. Memᴰ·append-left (hashed c′) (commitment-listed c h b t f y m))
-              (λ y m. Memᴰ·append-right (hashed c) (commitment-listed c′ h′ b′ t′ f′ y (rw (← label) m))) k
+              (opening-length c h b t f ∙ sym (opening-length c′ h′ b′ t′ f′)) (λ y m. Memᴰ·append-left (hashed c′) (strings-listed c t f y m))
+              (λ y m. Memᴰ·append-right (hashed c) (strings-listed c′ t′ f′ y (rw (← label) m))) k
           inl (target-equal t t′ v p q)
 
 -- the first claim

@@ -13,29 +13,26 @@
 use mathlib.Core.Path.{_≡_, refl, sym, ap, _∙_, subst}
 use mathlib.Core.Logic.{_⊎_, inl, inr, ⊎-elim}
 use mathlib.Core.Bool.{Bool, true, false}
-use mathlib.Core.List.{List, [], _∷_, _++_, map, flatMap, List·Memᴰ, List·Memᴰ·head, List·Memᴰ·tail, List·Memᴰ·cases-cons, List·Memᴰ·not-nil, List·Memᴰ·append-cases, Memᴰ·append-left, Memᴰ·append-right}
+use mathlib.Core.List.{List, [], _∷_, map, flatMap, List·Memᴰ, List·Memᴰ·head, List·Memᴰ·tail, List·Memᴰ·cases-cons, List·Memᴰ·not-nil, List·Memᴰ·append-cases, Memᴰ·append-left, Memᴰ·append-right}
 use mathlib.Core.Option.{Option, none, some, Option·none-ne-some}
 use Prim.Native.Nat.{ℕ, _<_, _^_}
-use native.Mathlib.Omega.{arith}
 use lib.Dec.{eqb}
 use borrow.Author.Tests.{eqb-true, eqb-false, not-false}
 use Rattle.lists.specs.Lists.{Bytes}
 use Rattle.lists.proofs.ListLaws.{provided-some, mapped-at}
 use Rattle.lists.proofs.MemberLaws.{at-mapped, flat-listed, listed-flat}
-use Rattle.tree.specs.LogTree.{LogEntry, logLeafString, stringAt}
+use Rattle.tree.specs.LogTree.{LogEntry, logLeafString}
 use Rattle.tree.specs.Collisions.{Broken}
 use Rattle.tree.proofs.CollisionLaws.{_>>=_, all-or, ByteStrings, Within}
 use Rattle.tree.proofs.HistoryLaws.{Binds, Meets, walk-binds, walk-carries-in, binds-one, entry-string-one}
-use Rattle.rules.specs.Limits.{numberBound}
 use Rattle.rules.specs.State.{State, isValid}
 use Rattle.rules.specs.Response.{Entry, entryPositions, logEntry}
 use Rattle.rules.specs.Refusals.{Inputs, Call, Judgement, refused, passed, validState, known, logWalk, historyDiffers, judge}
 use Rattle.rules.specs.Calls.{nextState, stateAfter}
 use Rattle.rules.specs.Hashed.{hashed}
-use Rattle.rules.specs.Consistency.{AreByteInputs, IsByteState, accepted, acceptedCalls, shownBy, Alike, ChainsAgree}
+use Rattle.rules.specs.Consistency.{AreByteInputs, IsByteState, accepted, acceptedCalls, shownBy, ChainsAgree}
 use Rattle.rules.proofs.RefusalLaws.{accepted-meaning, readings-were}
-use Rattle.rules.proofs.PartsLaws.{response-fits}
-use Rattle.rules.proofs.AcceptedLaws.{Accepted, accepted-call, rules-passed, shown-entries, call-follows, shown-string}
+use Rattle.rules.proofs.AcceptedLaws.{Accepted, accepted-call, rules-passed, shown-entries, call-follows, shown-string, shown-time}
 use Rattle.rules.proofs.HashedLaws.{ByteCall, walk-listed, call-bytes, bytes-hashed, bytes-next}
 
 -- ---- what a state holds fast
@@ -68,9 +65,8 @@ module _ (S : List Bytes) (c : Call) (h : Accepted c) (f : Within (hashed c) S) 
   call-learns e m =
       let i = mapped-at (λ (x : Entry). x .position) (c .parts .entries) e m in
       let b = walk-binds (c .parts .size) (known c) (entryPositions (c .parts)) (c .parts .nodes) S (call-follows c h) call-meets (e .position)
-              (shown-entries c h .within (e .position) i) i in
-      let t = response-fits (c .inputs .response) (c .parts) (h .reads) .entries e m .time in
-      (rw (shown-string c h e m) at b, omega arith)
+      (shown-entries c h .within (e .position) i) i in
+      (rw (shown-string c h e m) at b, shown-time c h e m)
 
   -- 2: and what the state before held fast
   pub call-carries : (e : LogEntry) → HoldsFast S (some (c .state)) e → HoldsFast S (some (nextState c)) e
