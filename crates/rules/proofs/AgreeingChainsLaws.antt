@@ -24,7 +24,7 @@ use Rattle.lists.proofs.MemberLaws.{at-mapped, flat-listed, listed-flat}
 use Rattle.tree.specs.LogTree.{LogEntry, logLeafString}
 use Rattle.tree.specs.Collisions.{Broken}
 use Rattle.tree.proofs.CollisionLaws.{_>>=_, all-or, ByteStrings, Within}
-use Rattle.tree.proofs.HistoryLaws.{Binds, Meets, walk-binds, walk-carries-in, binds-one, entry-string-one}
+use Rattle.tree.proofs.HistoryLaws.{Binds, Meets, walk-binds, walk-carries, binds-one, entry-string-one}
 use Rattle.rules.specs.State.{State, isValid}
 use Rattle.rules.specs.Response.{Entry, entryPositions, logEntry}
 use Rattle.rules.specs.Refusals.{Inputs, Call, Judgement, refused, passed, validState, known, logWalk, historyDiffers, judge}
@@ -72,7 +72,7 @@ module _ (S : List Bytes) (c : Call) (h : Accepted c) (f : Within (hashed c) S) 
   pub call-carries : (e : LogEntry) → HoldsFast S (some (c .state)) e → HoldsFast S (some (nextState c)) e
   unfolding nextState logWalk known
   call-carries e (b, t) =
-      (walk-carries-in (c .parts .size) (known c) (entryPositions (c .parts)) (c .parts .nodes) S (call-follows c h) call-meets (e .position) (logLeafString e) b, t)
+      (walk-carries (c .parts .size) (known c) (entryPositions (c .parts)) (c .parts .nodes) S (call-follows c h) call-meets (e .position) (logLeafString e) b, t)
 
 -- ---- a chain of calls
 

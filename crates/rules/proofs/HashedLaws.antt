@@ -1,13 +1,14 @@
 -- The strings that an accepted call hashed (specs/Hashed.antt): they are byte strings, and where each kind of them stands.
 use mathlib.Core.Path.{_≡_, refl, subst}
+use mathlib.Core.Bool.{true}
 use mathlib.Core.List.{List, [], _∷_, _++_, flatMap, List·Memᴰ, Memᴰ·append-left, Memᴰ·append-right}
 use mathlib.Core.Option.{Option, none, some, Option·getD, Option·none-ne-some, bind}
 use Prim.Native.Nat.{ℕ}
-use native.Mathlib.Omega.{arith}
-use lib.Dec.{eqb}
+use lib.Dec.{eqb, ltb}
 use lib.ListN.{length}
-use Rattle.lists.specs.Lists.{Bytes, first}
-use Rattle.lists.proofs.ListLaws.{choose-by, provided-some, first-listed}
+use borrow.Author.Tests.{ltb-true}
+use Rattle.lists.specs.Lists.{Bytes, all, first}
+use Rattle.lists.proofs.ListLaws.{choose-by, all-cons, provided-some, first-listed}
 use Rattle.lists.proofs.MemberLaws.{each-nil, each-cons, each-append, at-mapped, flat-listed, listed-flat}
 use Rattle.hash.specs.Bytes.{AreBytes, bigEndian}
 use Rattle.hash.specs.Hmac.{innerString, outerString}
@@ -77,34 +78,15 @@ call-bytes s i c b h e =
       parts = response-fits (i .response) (c .parts) (r .parts);
     }
 
+-- numbers each of which is tested to be a byte
+bytes-tested : (s : Bytes) → all (λ (b : ℕ). ltb b 256) s ≡ true → AreBytes s
+bytes-tested [] h = tt
+bytes-tested (b ∷ s) h = let (p, q) = all-cons (λ (b : ℕ). ltb b 256) b s h in (ltb-true b 256 p, bytes-tested s q)
+
 -- the key of commitments
 bytes-key : AreBytes commitmentKey
-unfolding commitmentKey
-bytes-key = (
-  omega arith,
-  (
-    omega arith,
-    (
-      omega arith,
-      (
-        omega arith,
-        (
-          omega arith,
-          (
-            omega arith,
-            (
-              omega arith,
-              (
-                omega arith,
-                (omega arith, (omega arith, (omega arith, (omega arith, (omega arith, (omega arith, (omega arith, (omega arith, tt)))))))),
-              ),
-            ),
-          ),
-        ),
-      ),
-    ),
-  ),
-)
+unfolding commitmentKey all
+bytes-key = bytes-tested commitmentKey refl
 
 -- the text of a commitment
 bytes-text : (o l v : Bytes) → AreBytes o → AreBytes l → AreBytes v → AreBytes (commitmentValue o l v)

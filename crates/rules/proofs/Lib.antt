@@ -12,6 +12,7 @@ pub mod OutputLaws
 pub mod CommitmentLaws
 pub mod HashedLaws
 pub mod OriginLaws
+pub mod LastEntryLaws
 pub mod AgreeingSearchesLaws
 pub mod AgreeingChainsLaws
 pub mod SignedTextLaws

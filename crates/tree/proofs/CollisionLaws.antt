@@ -20,11 +20,6 @@ pub _>>=_ : {A B C : Type 0} → A ⊎ C → (A → B ⊎ C) → B ⊎ C
 _>>=_ (inl a) f = f a
 _>>=_ (inr c) f = inr c
 
--- A way out that leads to another one may be exchanged for it.
-pub map-out : {A C D : Type 0} → (C → D) → A ⊎ C → A ⊎ D
-map-out f (inl a) = inl a
-map-out f (inr c) = inr (f c)
-
 -- A fact or a way out, where the fact leads to the way out too: the way out.
 pub settled : {A C : Type 0} → A ⊎ C → (A → C) → C
 settled (inl a) f = f a
@@ -69,22 +64,6 @@ ByteStrings S = Each AreBytes S
 -- every string of the first list is one of the second
 abbrev pub Within : List Bytes → List Bytes → Type 0
 Within S T = (x : Bytes) → List·Memᴰ x S → List·Memᴰ x T
-
--- What breaks SHA-256 among the strings of a list does so among those of a list that has them all.
-pub broken-within : (S T : List Bytes) → Within S T → Broken S → Broken T
-broken-within S T f (inl c) =
-    inl
-    (record {
-      x = c .x;
-      y = c .y;
-      x-listed = f (c .x) (c .x-listed);
-      y-listed = f (c .y) (c .y-listed);
-      x-bytes = c .x-bytes;
-      y-bytes = c .y-bytes;
-      different = c .different;
-      equal = c .equal;
-    })
-broken-within S T f (inr z) = inr (record { x = z .x; x-listed = f (z .x) (z .x-listed); x-bytes = z .x-bytes; zero-digest = z .zero-digest })
 
 module _ (S : List Bytes) (bytes : ByteStrings S) where
   -- Two different strings of a list with one SHA-256 value break it.

@@ -2,31 +2,29 @@
 use mathlib.Core.Path.{_≡_, sym, ap, _∙_, subst}
 use mathlib.Core.Logic.{_⊎_, inl, inr}
 use mathlib.Core.Bool.{true}
-use mathlib.Core.List.{List, [], _∷_, _++_, flatten, List·Memᴰ, List·Memᴰ·cases-cons, List·Memᴰ·not-nil, Memᴰ·append-left, Memᴰ·append-right}
+use mathlib.Core.List.{List, [], _∷_, List·Memᴰ, List·Memᴰ·cases-cons, List·Memᴰ·not-nil}
 use Prim.Native.Nat.{ℕ, zero, suc, _-_, _*_, _/_, _%_, _^_, _≤_, _<_}
 use native.Mathlib.Nat.{pow-succ'}
 use native.Mathlib.Omega.{arith}
 use lib.Count.{ones}
-use lib.ListN.{length, replicate}
+use lib.ListN.{length}
 use borrow.Author.Tests.{eq-eqb, ne-eqb}
 use Rattle.lists.specs.Choice.{choose}
-use Rattle.lists.specs.Lists.{Bytes, rising, runs}
+use Rattle.lists.specs.Lists.{Bytes, rising}
 use Rattle.lists.proofs.ListLaws.{mapped-at}
 use Rattle.lists.proofs.RisingLaws.{rising-tail, rising-first}
-use Rattle.hash.specs.Bytes.{bigEndian, padded}
-use Rattle.hash.specs.Sha256.{digestLength, sha256}
+use Rattle.hash.specs.Bytes.{bigEndian}
+use Rattle.hash.specs.Sha256.{sha256}
 use Rattle.hash.proofs.BytesLaws.{length-bigEndian}
 use Rattle.tree.specs.LogTree.{LogEntry, logLeafString, Range, fullSubtrees, isFull, Walk, walk, walkOf, Known, valueAmong, keptValue, stringAt, value, keptValuesMet, fullValues, walkStrings}
-use Rattle.tree.specs.LogHead.{blockLength, positions, walkOver}
+use Rattle.tree.specs.LogHead.{positions}
 use Rattle.tree.specs.Collisions.{Broken}
 use Rattle.tree.proofs.CollisionLaws.{Sized, _>>=_, append-split, ByteStrings, Within, same-string}
 use Rattle.tree.proofs.FullLaws.{full-length}
 use Rattle.tree.proofs.SubtreeLaws.{block, Subtree, whole}
 use Rattle.tree.proofs.HoldingLaws.{Inside, range-equal, full-as-block, entry-in-full, full-one, full-ends, full-grows}
-use Rattle.tree.proofs.RunLaws.{runs-joined}
-use Rattle.tree.proofs.PathLaws.{Path, path-one, path-from, path-within}
+use Rattle.tree.proofs.PathLaws.{Path, path-one, path-from}
 use Rattle.tree.proofs.WalkCaseLaws.{Walks, walk-cases}
-use Rattle.tree.proofs.WalkValueLaws.{full-values-length}
 use Rattle.tree.proofs.WalkPathLaws.{met-parent, strings-left, strings-right, shown-path, shown-listed, kept-path}
 use Rattle.tree.proofs.FullValueLaws.{matched-length, matched-among, Part, OfHalves, full-values-parts}
 
@@ -142,10 +140,6 @@ walks-agree n k k′ ps ps′ ns ns′ S d d′ t t′ e b f f′ p h i i′ = d
 pub binds-below : (m : ℕ) (vs : List Bytes) (p : ℕ) (x : Bytes) (S : List Bytes) → Binds m vs p x S → p < m
 binds-below m vs p x S b = let e = full-ends m (b .full) (b .is-full) in let (i, j) = b .inside in omega arith
 
--- What is bound by strings of a list is bound by those of a list that has them all.
-pub binds-within : {m : ℕ} {vs : List Bytes} {p : ℕ} {x : Bytes} {S T : List Bytes} → Within S T → Binds m vs p x S → Binds m vs p x T
-binds-within {x} f b = record { full = b .full; is-full = b .is-full; inside = b .inside; listed = f x (b .listed); path = path-within f (b .path) }
-
 -- Two strings to which a state binds one entry are equal.
 pub binds-one : {m : ℕ} {vs : List Bytes} {p : ℕ} {x y : Bytes} {S : List Bytes} → ByteStrings S → Binds m vs p x S → Binds m vs p y S → (x ≡ y) ⊎ Broken S
 binds-one {m} {vs} {p} {x} {y} {S} s b c = do
@@ -169,21 +163,14 @@ walk-binds n k ps ns S w f p h i =
 
 -- A walk's new state binds all that the state before binds. The full subtree of m that holds the entry lies in the full subtree of n that does, and the value handed
 -- on of this one leads down to the value kept of that one, and on from there.
-pub walk-carries-in : (n : ℕ) (k : Known) (ps : List ℕ) (ns S : List Bytes) → Follows n k ps ns → Meets k S (walkOf n (k .size) ps) ns
+pub walk-carries : (n : ℕ) (k : Known) (ps : List ℕ) (ns S : List Bytes) → Follows n k ps ns → Meets k S (walkOf n (k .size) ps) ns
     → (p : ℕ) (x : Bytes) → Binds (k .size) (k .values) p x S → Binds n (fullValues n k (walkOf n (k .size) ps) ns) p x S
-walk-carries-in n k ps ns S w f p x b =
+walk-carries n k ps ns S w f p x b =
     let l = binds-below (k .size) (k .values) p x S b in
     let u = w .grown in
     let (g, e, j) = entry-in-full n p (omega arith) in
     let c = handed-part n k ps ns S w (omega arith) f g e in
     record { full = g; is-full = e; inside = j; listed = b .listed; path = part-carries n k ps S p x g _ u (w .values-sized) b e j c }
-
--- The same, with the strings of the walk put after those that bound the entry before.
-pub walk-carries : (n : ℕ) (k : Known) (ps : List ℕ) (ns R : List Bytes) → Follows n k ps ns → keptValuesMet k (walkOf n (k .size) ps) ns ≡ true → (p : ℕ) (x : Bytes) → Binds (k .size) (k .values) p x R
-    → Binds n (fullValues n k (walkOf n (k .size) ps) ns) p x (R ++ walkStrings k (walkOf n (k .size) ps) ns)
-walk-carries n k ps ns R w t p x b =
-    walk-carries-in n k ps ns (R ++ walkStrings k (walkOf n (k .size) ps) ns) w (record { met = t; listed = λ y m. Memᴰ·append-right R m }) p x
-    (binds-within (λ y m. Memᴰ·append-left (walkStrings k (walkOf n (k .size) ps) ns) m) b)
 
 -- A walk of one full subtree of n, with entries shown or none, whose value is the one that a state of n entries keeps of this subtree: that state binds all that
 -- the state before binds there.
@@ -207,12 +194,3 @@ pub full-values-count : (n : ℕ) (k : Known) (ps : List ℕ) (ns : List Bytes) 
     → length (fullValues n k (walkOf n (k .size) ps) ns) ≡ ones n
 full-values-count n k ps ns w h =
     sym (matched-length (full-values-parts n k ps (λ _ _. Unit {0}) (λ _ _ _ _ _. (tt, tt)) (w .last) h ns (w .nodes-sized) tt)) ∙ full-length n
-
--- The values read from the block of a walk's values, as many as n has ones, are those values.
-pub block-values : (n : ℕ) (k : Known) (ns : List Bytes) → Follows n k (positions (k .entries)) ns → 0 < n
-    → runs (ones n) digestLength (padded blockLength (flatten (fullValues n k (walkOver n k) ns))) ≡ fullValues n k (walkOver n k) ns
-unfolding padded
-block-values n k ns w h =
-    let vs = fullValues n k (walkOver n k) ns in
-    ap (λ (i : ℕ). runs i digestLength (padded blockLength (flatten vs))) (sym (full-values-count n k (positions (k .entries)) ns w h))
-    ∙ runs-joined digestLength vs (replicate (blockLength - length (flatten vs)) 0) (full-values-length n k (walkOver n k) ns (w .values-sized) (w .nodes-sized))

@@ -1,6 +1,6 @@
 -- The values of the full subtrees that a walk over the log tree works out, and their comparison with the kept ones (specs/LogTree.antt).
 use mathlib.Core.Path.{_≡_, refl, sym, ap, ap₂, _∙_}
-use mathlib.Core.Bool.{Bool, true, false, _&&_, false≢true}
+use mathlib.Core.Bool.{Bool, true, false, _&&_, false≢true, and-true, and-false}
 use mathlib.Core.List.{List, [], _∷_, _++_, map, nil≢cons, head-eq-of-cons-eq, tail-eq-of-cons-eq}
 use Prim.Native.Nat.{ℕ, zero, suc, _+_, _-_, _*_, _/_, _%_, _^_, _≤_, _<_}
 use native.Mathlib.Nat.{mul-le-mul-right, pow-succ'}
@@ -137,15 +137,6 @@ kept-inside k (suc e) q (parent z x y) nodes o h =
       kept-inside k e (2 * q) x nodes a (rw i s),
       kept-inside k e (2 * q + 1) y (drop (nodeCount x) nodes) b (rw j s),
     ) refl
-
--- a test and one that holds
-and-true : (s : Bool) → (s && true) ≡ s
-and-true true = refl
-and-true false = refl
-
-and-false : (s : Bool) → (s && false) ≡ false
-and-false true = refl
-and-false false = refl
 
 -- no range whose value is given is a full subtree of m entries
 abbrev pub NoneGiven : ℕ → Walk → Type 0

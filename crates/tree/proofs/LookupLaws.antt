@@ -1,11 +1,12 @@
 -- Lookups in one prefix tree (specs/PrefixTree.antt): of one output they show one commitment, and not both a leaf and none, unless SHA-256 is broken.
 use mathlib.Core.Path.{_≡_, refl, sym, ap, _∙_, subst}
 use mathlib.Core.Logic.{_⊎_, inl, inr}
-use mathlib.Core.Bool.{Bool, true, false, not}
+use mathlib.Core.Bool.{true, not}
 use mathlib.Core.List.{List, [], _∷_, _++_, List·Memᴰ, List·Memᴰ·head, List·Memᴰ·tail, Memᴰ·append-left, Memᴰ·append-right}
 use Prim.Native.Nat.{ℕ, zero, suc}
 use native.Mathlib.Omega.{arith}
 use lib.ListN.{length, take}
+use borrow.Author.Tests.{not-true}
 use Rattle.lists.specs.Lists.{Bytes, same}
 use Rattle.lists.proofs.ListLaws.{and-holds, same-false}
 use Rattle.lists.proofs.MemberLaws.{each-nil, each-cons, each-append}
@@ -25,16 +26,6 @@ pub record LeadsTo (S : List Bytes) (o : Bytes) (t : Terminal) (root : Bytes) : 
   pub listed : Within (lookupStrings o t siblings) S
   pub leads : lookupRoot o t siblings ≡ root
 
--- A lookup leads to its root.
-pub lookup-leads : (S : List Bytes) (o : Bytes) (t : Terminal) (ss : List Bytes) → Sized ss → Within (lookupStrings o t ss) S
-    → LeadsTo S o t (lookupRoot o t ss)
-lookup-leads S o t ss h f = record { siblings = ss; sized = h; listed = f; leads = refl }
-
--- It does so by the strings of a list that has them all.
-pub leads-within : (S T : List Bytes) (o : Bytes) (t : Terminal) (root : Bytes) → Within S T → LeadsTo S o t root → LeadsTo T o t root
-leads-within S T o t root f l =
-    record { siblings = l .siblings; sized = l .sized; listed = λ x m. f x (l .listed x m); leads = l .leads }
-
 -- a place shows that the output looked up has no leaf: nothing stands there, or a leaf of another output
 abbrev pub Absent : Bytes → Terminal → Type 0
 Absent o (ownLeaf c) = ⊥
@@ -45,11 +36,7 @@ Absent o (foreignLeaf o′ c′) = (length o′ ≡ digestLength) × (o ≡ o′
 pub fits-absent : (o o′ c′ : Bytes) (depth : ℕ) → length o′ ≡ digestLength → terminalFits o (foreignLeaf o′ c′) depth ≡ true → Absent o (foreignLeaf o′ c′)
 unfolding terminalFits
 fits-absent o o′ c′ depth h e =
-    (h, same-false o o′ (not-holds (same o o′) (and-holds (not (same o o′)) (same (take depth (bits o)) (take depth (bits o′))) e .0)))
-  where
-    not-holds : (t : Bool) → not t ≡ true → t ≡ false
-    not-holds true q = sym q
-    not-holds false q = refl
+    (h, same-false o o′ (not-true (same o o′) (and-holds (not (same o o′)) (same (take depth (bits o)) (take depth (bits o′))) e .0)))
 
 -- ---- lengths
 

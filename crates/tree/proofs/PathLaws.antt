@@ -9,7 +9,7 @@ use Rattle.lists.specs.Lists.{Bytes}
 use Rattle.hash.specs.Sha256.{digestLength, sha256}
 use Rattle.tree.specs.LogTree.{Range, splitAt, leftHalf, rightHalf, hashContent, logParentString}
 use Rattle.tree.specs.Collisions.{Broken}
-use Rattle.tree.proofs.CollisionLaws.{_>>=_, append-split, ByteStrings, Within, same-string}
+use Rattle.tree.proofs.CollisionLaws.{_>>=_, append-split, ByteStrings, same-string}
 
 -- ---- parents
 
@@ -34,18 +34,6 @@ parent-strings r x y x′ y′ h h′ e =
     let (a, b) = append-split (hashContent (leftHalf r .width) x) (hashContent (leftHalf r .width) x′) (hashContent (rightHalf r .width) y) (hashContent (rightHalf r .width) y′) (omega arith) e in
     (cc, cc)
 
--- A parent by the strings of a list is one by those of a list that has them all.
-pub parent-within : {S T : List Bytes} {r : Range} {v : Bytes} → Within S T → Parent S r v → Parent T r v
-parent-within f c =
-    record {
-      left = c .left;
-      right = c .right;
-      wide = c .wide;
-      sized = c .sized;
-      listed = f (parentString _ (c .left) (c .right)) (c .listed);
-      hashed = c .hashed;
-    }
-
 -- Two parents of one subtree with one value have equal children.
 pub parent-one : {S : List Bytes} {r : Range} {v : Bytes} → ByteStrings S → (c d : Parent S r v) → ((c .left ≡ d .left) × (c .right ≡ d .right)) ⊎ Broken S
 parent-one {S} {r} b c d = do
@@ -59,13 +47,6 @@ pub data Path (S : List Bytes) (p : ℕ) (u : Bytes) : Range → Bytes → Type 
   at-entry : {r : Range} {v : Bytes} → r .start ≡ p → r .width ≡ 1 → v ≡ u → Path S p u r v
   to-left : {r : Range} {v : Bytes} (c : Parent S r v) → p < r .start + splitAt (r .width) → Path S p u (leftHalf r) (c .left) → Path S p u r v
   to-right : {r : Range} {v : Bytes} (c : Parent S r v) → r .start + splitAt (r .width) ≤ p → Path S p u (rightHalf r) (c .right) → Path S p u r v
-
--- A path by the strings of a list is one by those of a list that has them all.
-pub path-within : {S T : List Bytes} {p : ℕ} {u : Bytes} {r : Range} {v : Bytes} → Within S T → Path S p u r v → Path T p u r v
-unfolding parent-within
-path-within f (at-entry s w e) = at-entry s w e
-path-within f (to-left c h t) = to-left (parent-within f c) h (path-within f t)
-path-within f (to-right c h t) = to-right (parent-within f c) h (path-within f t)
 
 -- A path from a value is one from each value equal to it.
 pub path-from : {S : List Bytes} {p : ℕ} {u : Bytes} {r : Range} {v w : Bytes} → v ≡ w → Path S p u r v → Path S p u r w
