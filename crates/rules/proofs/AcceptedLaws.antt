@@ -35,18 +35,18 @@ pub record Accepted (c : Call) : Type 0 where
   pub reads : readResponse (c .inputs .response) ≡ some (c .parts)
   pub unrefused : NoneApplies (checks ++ lastChecks) c
 
--- a state that is handed on is valid
-valid-handed : (o : Option State) (s : State) → validState o ≡ some s → isValid s ≡ true
+-- a state that is handed on is the one given, and valid
+pub state-handed : (o : Option State) (s : State) → validState o ≡ some s → (o ≡ some s) × (isValid s ≡ true)
 unfolding validState
-valid-handed none s e = absurd (Option·none-ne-some s e)
-valid-handed (some t) s e = let (v, q) = provided-some (isValid t) t s e in subst (λ (x : State). isValid x ≡ true) q v
+state-handed none s e = absurd (Option·none-ne-some s e)
+state-handed (some t) s e = let (v, q) = provided-some (isValid t) t s e in (ap some q, subst (λ (x : State). isValid x ≡ true) q v)
 
 -- a call as read has what it was given, a valid state, and the parts of its response
 pub call-read : (s : Option State) (i : Inputs) (c : Call) → readCall s i ≡ passed c
     → (c .inputs ≡ i) × (isValid (c .state) ≡ true) × (readResponse (c .inputs .response) ≡ some (c .parts))
 call-read s i c e =
     let h = readings-were s i c e in
-    (h .inputs, valid-handed s (c .state) (h .state), rw (h .inputs) (h .parts))
+    (h .inputs, state-handed s (c .state) (h .state) .1, rw (h .inputs) (h .parts))
 
 -- a call that passes is accepted
 pub accepted-call : (s : Option State) (i : Inputs) (c : Call) → judge s i ≡ passed c → (c .inputs ≡ i) × Accepted c

@@ -14,25 +14,25 @@ use mathlib.Core.Path.{_≡_, refl, sym, ap, _∙_, subst}
 use mathlib.Core.Logic.{_⊎_, inl, inr, ⊎-elim}
 use mathlib.Core.Bool.{Bool, true, false}
 use mathlib.Core.List.{List, [], _∷_, map, flatMap, List·Memᴰ, List·Memᴰ·head, List·Memᴰ·tail, List·Memᴰ·cases-cons, List·Memᴰ·not-nil, List·Memᴰ·append-cases, Memᴰ·append-left, Memᴰ·append-right}
-use mathlib.Core.Option.{Option, none, some, Option·none-ne-some}
+use mathlib.Core.Option.{Option, none, some}
 use Prim.Native.Nat.{ℕ, _<_, _^_}
 use lib.Dec.{eqb}
 use borrow.Author.Tests.{eqb-true, eqb-false, not-false}
 use Rattle.lists.specs.Lists.{Bytes}
-use Rattle.lists.proofs.ListLaws.{provided-some, mapped-at}
+use Rattle.lists.proofs.ListLaws.{mapped-at}
 use Rattle.lists.proofs.MemberLaws.{at-mapped, flat-listed, listed-flat}
 use Rattle.tree.specs.LogTree.{LogEntry, logLeafString}
 use Rattle.tree.specs.Collisions.{Broken}
 use Rattle.tree.proofs.CollisionLaws.{_>>=_, all-or, ByteStrings, Within}
 use Rattle.tree.proofs.HistoryLaws.{Binds, Meets, walk-binds, walk-carries, binds-one, entry-string-one}
-use Rattle.rules.specs.State.{State, isValid}
+use Rattle.rules.specs.State.{State}
 use Rattle.rules.specs.Response.{Entry, entryPositions, logEntry}
-use Rattle.rules.specs.Refusals.{Inputs, Call, Judgement, refused, passed, validState, known, logWalk, historyDiffers, judge}
+use Rattle.rules.specs.Refusals.{Inputs, Call, Judgement, refused, passed, known, logWalk, historyDiffers, judge}
 use Rattle.rules.specs.Calls.{nextState, stateAfter}
 use Rattle.rules.specs.Hashed.{hashed}
 use Rattle.rules.specs.Consistency.{AreByteInputs, IsByteState, accepted, acceptedCalls, shownBy, ChainsAgree}
 use Rattle.rules.proofs.RefusalLaws.{accepted-meaning, readings-were}
-use Rattle.rules.proofs.AcceptedLaws.{Accepted, accepted-call, rules-passed, shown-entries, call-follows, shown-string, shown-time}
+use Rattle.rules.proofs.AcceptedLaws.{state-handed, Accepted, accepted-call, rules-passed, shown-entries, call-follows, shown-string, shown-time}
 use Rattle.rules.proofs.HashedLaws.{ByteCall, walk-listed, call-bytes, bytes-hashed, bytes-next}
 
 -- ---- what a state holds fast
@@ -44,12 +44,7 @@ HoldsFast S (some s) e = Binds (s .size) (s .values) (e .position) (logLeafStrin
 
 -- an accepted call got the state that it was judged with
 state-was : (s : Option State) (i : Inputs) (c : Call) → judge s i ≡ passed c → s ≡ some (c .state)
-unfolding validState
-state-was s i c e = was s (readings-were s i c (accepted-meaning s i c e .0) .state)
-  where
-    was : (o : Option State) → validState o ≡ some (c .state) → o ≡ some (c .state)
-    was none q = absurd (Option·none-ne-some (c .state) q)
-    was (some t) q = ap some (provided-some (isValid t) t (c .state) q .1)
+state-was s i c e = state-handed s (c .state) (readings-were s i c (accepted-meaning s i c e .0) .state) .0
 
 -- ---- one call
 

@@ -2,13 +2,13 @@
 use mathlib.Core.Path.{_≡_, refl, subst}
 use mathlib.Core.Bool.{true}
 use mathlib.Core.List.{List, [], _∷_, _++_, flatMap, List·Memᴰ, Memᴰ·append-left, Memᴰ·append-right}
-use mathlib.Core.Option.{Option, none, some, Option·getD, Option·none-ne-some, bind}
+use mathlib.Core.Option.{Option, none, some, Option·getD, bind}
 use Prim.Native.Nat.{ℕ}
 use lib.Dec.{eqb, ltb}
 use lib.ListN.{length}
 use borrow.Author.Tests.{ltb-true}
 use Rattle.lists.specs.Lists.{Bytes, all, first}
-use Rattle.lists.proofs.ListLaws.{choose-by, all-cons, provided-some, first-listed}
+use Rattle.lists.proofs.ListLaws.{choose-by, all-cons, first-listed}
 use Rattle.lists.proofs.MemberLaws.{each-nil, each-cons, each-append, at-mapped, flat-listed, listed-flat}
 use Rattle.hash.specs.Bytes.{AreBytes, bigEndian}
 use Rattle.hash.specs.Hmac.{innerString, outerString}
@@ -20,15 +20,16 @@ use Rattle.tree.proofs.WalkValueLaws.{ByteEntries, bytes-walk, full-values-byte
 use Rattle.tree.proofs.LookupLaws.{TerminalBytes, bytes-lookup}
 use Rattle.rules.specs.Limits.{vrfOutputLength}
 use Rattle.rules.specs.VrfOutputs.{VrfOutput, outputOf}
-use Rattle.rules.specs.State.{State, isValid, HasBytes}
+use Rattle.rules.specs.State.{State, HasBytes}
 use Rattle.rules.specs.Response.{Finding, searched, monitored, Step, Result, included, absent, otherLeaf, Lookup, Entry, logEntry}
 use Rattle.rules.specs.Encoding.{opaque}
 use Rattle.rules.specs.Commitment.{commitmentKey, commitmentValue, commitmentTo, commitmentStrings}
-use Rattle.rules.specs.Refusals.{Inputs, Call, passed, validState, known, logWalk, terminal, stepCommitment, commitmentBy, commitmentOf, judge}
+use Rattle.rules.specs.Refusals.{Inputs, Call, passed, known, logWalk, terminal, stepCommitment, commitmentBy, commitmentOf, judge}
 use Rattle.rules.specs.Calls.{nextState}
 use Rattle.rules.specs.Hashed.{hashedByLookup, hashedByEntry, hashedByFinding, hashed}
 use Rattle.rules.specs.Consistency.{AreByteInputs, IsByteState}
 use Rattle.rules.proofs.RefusalLaws.{accepted-meaning, readings-were}
+use Rattle.rules.proofs.AcceptedLaws.{state-handed}
 use Rattle.rules.proofs.PartsLaws.{CommitmentFits, StepFits, OtherLeafFits, FindingFits, LookupFits, EntryFits, PartsFit, response-fits}
 use Rattle.rules.proofs.OutputLaws.{outputs-sized, outputs-bytes, output-by}
 
@@ -62,17 +63,11 @@ pub record ByteCall (c : Call) : Type 0 where
   pub outputLength : (x : VrfOutput) → List·Memᴰ x (c .outputs) → length (x .output) ≡ vrfOutputLength
   pub parts : PartsFit (c .parts)
 
--- a state that is handed on is the one given
-state-bytes : (o : Option State) (s : State) → IsByteState o → validState o ≡ some s → HasBytes s
-unfolding validState
-state-bytes none s b e = absurd (Option·none-ne-some s e)
-state-bytes (some t) s b e = subst HasBytes (provided-some (isValid t) t s e .1) b
-
 pub call-bytes : (s : Option State) (i : Inputs) (c : Call) → IsByteState s → AreByteInputs i → judge s i ≡ passed c → ByteCall c
 call-bytes s i c b h e =
     let r = readings-were s i c (accepted-meaning s i c e .0) in
     record {
-      state = state-bytes s (c .state) b (r .state);
+      state = subst IsByteState (state-handed s (c .state) (r .state) .0) b;
       outputs = outputs-bytes (i .vrfOutputs) (c .outputs) (h .vrfOutputs) (r .outputs);
       outputLength = outputs-sized (i .vrfOutputs) (c .outputs) (r .outputs);
       parts = response-fits (i .response) (c .parts) (r .parts);

@@ -108,7 +108,7 @@ absent-is c v included output depth h k f = absurd (false≢true (sym h))
 absent-is c v absent output depth h k f = tt
 absent-is c v (otherLeaf o d) output depth h k f = fits-absent output o d depth (k .0) f
 
--- what it is that a lookup holds
+-- where a lookup holds, what stands at its place fits, and its siblings lead to the root
 held-parts : (c : Call) (root : Bytes) (l : Lookup) → lookupHolds c root l ≡ true
     → (terminalFits (outputOf (c .outputs) (l .version)) (terminal c (l .version) (l .result)) (length (l .siblings)) ≡ true)
     × (lookupRoot (outputOf (c .outputs) (l .version)) (terminal c (l .version) (l .result)) (l .siblings) ≡ root)
@@ -158,7 +158,7 @@ module _ (c : Call) (h : Accepted c) (b : ByteCall c) (t : Target) (f : c .parts
 
 module _ (c : Call) (h : Accepted c) (b : ByteCall c) (t : Target) (f : c .parts .finding ≡ searched t)
     (S : List Bytes) (g : Within (hashed c) S) where
-  -- a lookup that was tried holds: what stands at its place fits, and its siblings lead from there up to the prefix root
+  -- a lookup that was tried holds
   module _ (e : Entry) (i : List·Memᴰ e (c .parts .entries)) (l : Lookup) (j : List·Memᴰ l (e .lookups)) (u : untried (searched t) l ≡ false) where
     lookup-held : lookupHolds c (e .prefixRoot) l ≡ true
     unfolding lookupFails lookupsHold
@@ -170,7 +170,7 @@ module _ (c : Call) (h : Accepted c) (b : ByteCall c) (t : Target) (f : c .parts
     place-fits : terminalFits (outputOf (c .outputs) (l .version)) (terminal c (l .version) (l .result)) (length (l .siblings)) ≡ true
     place-fits = held-parts c (e .prefixRoot) l lookup-held .0
 
-    -- by strings that the call hashed
+    -- it leads to the prefix root by strings that the call hashed
     lookup-way : LeadsTo S (outputOf (c .outputs) (l .version)) (terminal c (l .version) (l .result)) (e .prefixRoot)
     unfolding hashedByLookup
     lookup-way =
@@ -205,7 +205,7 @@ module _ (c : Call) (h : Accepted c) (b : ByteCall c) (t : Target) (f : c .parts
       ap (λ (g : Finding). commitmentBy g (c .parts .label) (c .parts .steps) (t .version)) f
       ∙ choose-true (eqb (t .version) (t .version)) _ _ (eq-eqb (t .version) (t .version) refl)
 
-  -- 2: what the last entry shows
+  -- what it shows of its prefix tree
   pub shows : (x : LastEntry c (t .version)) → Shows S (outputOf (c .outputs)) (t .version) (x .entry .prefixRoot) (commitmentTo (t .opening) (c .parts .label) (t .value))
   shows x = record { there = λ v m k. (commitmentOf c v, way-found x v m k); own = of-target; missing = not-there }
     where
