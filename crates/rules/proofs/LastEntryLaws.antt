@@ -2,14 +2,13 @@
 -- entry's prefix root (rule 12). So of the ladder's versions those not above the target have leaves under that root, the target's with the commitment to what the
 -- search yields, and the others have none.
 use mathlib.Core.Path.{_≡_, refl, sym, ap, _∙_, subst}
-use mathlib.Core.Bool.{Bool, true, false, and-false, false≢true}
+use mathlib.Core.Bool.{Bool, true, false, false≢true}
 use mathlib.Core.List.{List, [], _∷_, map, List·Memᴰ}
 use Prim.Native.Nat.{ℕ, _-_, _≤_, _<_}
 use native.Mathlib.Omega.{arith}
-use lib.Dec.{eqb, ltb}
+use lib.Dec.{eqb}
 use lib.ListN.{length}
-use borrow.Author.Tests.{le-leb, lt-leb, le-ltb, eq-eqb, not-true, not-false}
-use Rattle.lists.specs.Choice.{choose}
+use borrow.Author.Tests.{le-leb, eq-eqb, not-false}
 use Rattle.lists.specs.Lists.{Bytes, all, lastOr, same}
 use Rattle.lists.proofs.ListLaws.{and-holds, choose-true, choose-false, all-at, same-true}
 use Rattle.lists.proofs.RisingLaws.{last-largest}
@@ -17,7 +16,7 @@ use Rattle.lists.proofs.MemberLaws.{at-mapped, last-mapped, last-listed}
 use Rattle.hash.specs.Sha256.{digestLength}
 use Rattle.tree.specs.Ladder.{ladder}
 use Rattle.tree.specs.LogTree.{value}
-use Rattle.tree.specs.PrefixTree.{Terminal, ownLeaf, lookupRoot, terminalFits}
+use Rattle.tree.specs.PrefixTree.{Terminal, ownLeaf, terminalFits}
 use Rattle.tree.proofs.CollisionLaws.{_>>=_, Within}
 use Rattle.tree.proofs.LadderLaws.{ladder-own}
 use Rattle.tree.proofs.LookupLaws.{LeadsTo, Absent, fits-absent}
@@ -26,10 +25,11 @@ use Rattle.rules.specs.VrfOutputs.{hasOutput, outputOf}
 use Rattle.rules.specs.Response.{Target, Finding, searched, Result, included, absent, otherLeaf, Lookup, Entry, isIncluded, stepVersions, lookupVersions, entryPositions}
 use Rattle.rules.specs.Commitment.{commitmentTo}
 use Rattle.rules.specs.Search.{resultFits, isComplete, endsEarly, earlyThenComplete}
-use Rattle.rules.specs.Refusals.{Call, outputMissing, commitmentBy, commitmentOf, terminal, untried, lookupHolds, lookupsHold, lookupFails, resultsWrongIn, resultsWrong}
+use Rattle.rules.specs.Refusals.{Call, outputMissing, commitmentBy, commitmentOf, terminal}
 use Rattle.rules.specs.Hashed.{hashedByLookup, hashed}
 use Rattle.rules.proofs.PartsLaws.{OtherLeafFits, FindingFits}
 use Rattle.rules.proofs.AcceptedLaws.{Accepted, rules-passed, ladder-steps, size-fits, shown-entries}
+use Rattle.rules.proofs.TriedLaws.{not-found, results-fit, place-fits, root-reached}
 use Rattle.rules.proofs.OutputLaws.{output-of}
 use Rattle.rules.proofs.HashedLaws.{ByteCall, lookup-listed}
 
@@ -88,11 +88,6 @@ found : (t : ℕ) (l : Lookup) → resultFits t l ≡ true → l .version ≤ t 
 unfolding resultFits
 found t l h k = rw (le-leb (l .version) t k) at h
 
--- above it not
-not-found : (t : ℕ) (l : Lookup) → resultFits t l ≡ true → t < l .version → isIncluded (l .result) ≡ false
-unfolding resultFits
-not-found t l h k = not-true (isIncluded (l .result)) (rw (lt-leb (l .version) t k) at h)
-
 -- what is found is the leaf of its output
 included-is : (r : Result) → isIncluded r ≡ true → r ≡ included
 unfolding isIncluded
@@ -108,27 +103,11 @@ absent-is c v included output depth h k f = absurd (false≢true (sym h))
 absent-is c v absent output depth h k f = tt
 absent-is c v (otherLeaf o d) output depth h k f = fits-absent output o d depth (k .0) f
 
--- where a lookup holds, what stands at its place fits, and its siblings lead to the root
-held-parts : (c : Call) (root : Bytes) (l : Lookup) → lookupHolds c root l ≡ true
-    → (terminalFits (outputOf (c .outputs) (l .version)) (terminal c (l .version) (l .result)) (length (l .siblings)) ≡ true)
-    × (lookupRoot (outputOf (c .outputs) (l .version)) (terminal c (l .version) (l .result)) (l .siblings) ≡ root)
-unfolding lookupHolds
-held-parts c root l h =
-    let o = outputOf (c .outputs) (l .version) in
-    let x = terminal c (l .version) (l .result) in
-    let (p, q) = and-holds (terminalFits o x (length (l .siblings))) (same (lookupRoot o x (l .siblings)) root) h in
-    (p, same-true (lookupRoot o x (l .siblings)) root q)
-
 module _ (c : Call) (h : Accepted c) (b : ByteCall c) (t : Target) (f : c .parts .finding ≡ searched t) where
-  -- the entries are short, then whole
-  results-fit : earlyThenComplete (ladder (t .version)) (t .version) (c .parts .entries) ≡ true
-  unfolding resultsWrong resultsWrongIn
-  results-fit = not-false _ (sym (ap (λ (g : Finding). resultsWrongIn g (c .parts .entries)) f) ∙ rules-passed c h .results)
-
-  -- so the last entry of the log is whole
+  -- the last entry of the log is whole
   pub last-entry : LastEntry c (t .version)
   unfolding earlyThenComplete lastOr
-  last-entry = go (c .parts .entries) refl results-fit
+  last-entry = go (c .parts .entries) refl (results-fit c h t f)
     where
       go : (es : List Entry) → c .parts .entries ≡ es → earlyThenComplete (ladder (t .version)) (t .version) es ≡ true → LastEntry c (t .version)
       go [] q r = absurd (false≢true r)
@@ -158,45 +137,28 @@ module _ (c : Call) (h : Accepted c) (b : ByteCall c) (t : Target) (f : c .parts
 
 module _ (c : Call) (h : Accepted c) (b : ByteCall c) (t : Target) (f : c .parts .finding ≡ searched t)
     (S : List Bytes) (g : Within (hashed c) S) where
-  -- a lookup that was tried holds
-  module _ (e : Entry) (i : List·Memᴰ e (c .parts .entries)) (l : Lookup) (j : List·Memᴰ l (e .lookups)) (u : untried (searched t) l ≡ false) where
-    lookup-held : lookupHolds c (e .prefixRoot) l ≡ true
-    unfolding lookupFails lookupsHold
-    lookup-held =
-        let p = all-at (lookupsHold c) (c .parts .entries) e (not-false _ (rules-passed c h .lookups)) i in
-        let q = all-at (λ (x : Lookup). choose (untried (c .parts .finding) x) (λ _. true) (λ _. lookupHolds c (e .prefixRoot) x)) (e .lookups) l p j in
-        sym (choose-false (untried (c .parts .finding) l) (λ _. true) (λ _. lookupHolds c (e .prefixRoot) l) (ap (λ (g : Finding). untried g l) f ∙ u)) ∙ q
-
-    place-fits : terminalFits (outputOf (c .outputs) (l .version)) (terminal c (l .version) (l .result)) (length (l .siblings)) ≡ true
-    place-fits = held-parts c (e .prefixRoot) l lookup-held .0
-
-    -- it leads to the prefix root by strings that the call hashed
-    lookup-way : LeadsTo S (outputOf (c .outputs) (l .version)) (terminal c (l .version) (l .result)) (e .prefixRoot)
-    unfolding hashedByLookup
-    lookup-way =
-        record {
-          siblings = l .siblings;
-          sized = b .parts .entries e i .lookups l j .sized;
-          listed = λ x m. g x (lookup-listed c e l i j x m);
-          leads = held-parts c (e .prefixRoot) l lookup-held .1;
-        }
+  -- a lookup leads to the prefix root of its entry by strings that the call hashed
+  lookup-way : (e : Entry) → List·Memᴰ e (c .parts .entries) → (l : Lookup) → List·Memᴰ l (e .lookups)
+      → LeadsTo S (outputOf (c .outputs) (l .version)) (terminal c (l .version) (l .result)) (e .prefixRoot)
+  unfolding hashedByLookup
+  lookup-way e i l j =
+      record {
+        siblings = l .siblings;
+        sized = b .parts .entries e i .lookups l j .sized;
+        listed = λ x m. g x (lookup-listed c e l i j x m);
+        leads = root-reached c h e i l j;
+      }
 
   -- the leaf of a version that is found, in the last entry
   way-found : (x : LastEntry c (t .version)) (v : ℕ) → List·Memᴰ v (ladder (t .version)) → v ≤ t .version
       → LeadsTo S (outputOf (c .outputs) v) (ownLeaf (commitmentOf c v)) (x .entry .prefixRoot)
-  unfolding untried terminal
+  unfolding terminal
   way-found x v m k =
       let l = looked-up (t .version) (x .entry) (x .complete) v m in
       let z = l .is-version in
       let r = included-is (l .lookup .result) (found (t .version) (l .lookup) (l .fits) (omega arith)) in
-      let u : untried (searched t) (l .lookup) ≡ false = rw (le-ltb (t .version) (l .lookup .version) (omega arith)) refl in
-      let w = lookup-way (x .entry) (x .listed) (l .lookup) (l .listed) u in
+      let w = lookup-way (x .entry) (x .listed) (l .lookup) (l .listed) in
       rw z (rw r at w)
-
-  -- a lookup that does not find its version was tried
-  untried-not : (l : Lookup) → isIncluded (l .result) ≡ false → untried (searched t) l ≡ false
-  unfolding untried
-  untried-not l n = rw n (and-false (ltb (t .version) (l .version)))
 
   -- the commitment of the target is worked out
   target-commitment : commitmentOf c (t .version) ≡ commitmentTo (t .opening) (c .parts .label) (t .value)
@@ -218,10 +180,9 @@ module _ (c : Call) (h : Accepted c) (b : ByteCall c) (t : Target) (f : c .parts
           let l = looked-up (t .version) (x .entry) (x .complete) v m in
           let z = l .is-version in
           let n = not-found (t .version) (l .lookup) (l .fits) (omega arith) in
-          let u = untried-not (l .lookup) n in
           rw z (
             terminal c (l .lookup .version) (l .lookup .result),
             absent-is c (l .lookup .version) (l .lookup .result) (outputOf (c .outputs) (l .lookup .version)) (length (l .lookup .siblings)) n
-                (b .parts .entries (x .entry) (x .listed) .lookups (l .lookup) (l .listed) .other) (place-fits (x .entry) (x .listed) (l .lookup) (l .listed) u),
-            lookup-way (x .entry) (x .listed) (l .lookup) (l .listed) u,
+                (b .parts .entries (x .entry) (x .listed) .lookups (l .lookup) (l .listed) .other) (place-fits c h (x .entry) (x .listed) (l .lookup) (l .listed)),
+            lookup-way (x .entry) (x .listed) (l .lookup) (l .listed),
           )

@@ -10,6 +10,7 @@ pub mod AcceptedLaws
 pub mod NextStateLaws
 pub mod OutputLaws
 pub mod CommitmentLaws
+pub mod TriedLaws
 pub mod HashedLaws
 pub mod OriginLaws
 pub mod LastEntryLaws
