@@ -1,17 +1,19 @@
 -- Whole calls that hash: monitoring after the accepted search, and refusals from 12 on.
-use mathlib.Core.Path.{_≡_, refl, ap, _∙_}
-use mathlib.Core.List.{List, [], _∷_, _++_}
-use mathlib.Core.Option.{Option, none, some}
+use mathlib.Core.Path.{_≡_, refl, sym, ap, ap₂, _∙_}
+use mathlib.Core.List.{List, [], _∷_, _++_, map, flatMap}
+use mathlib.Core.Option.{Option, none, some, Option·map, Option·some-injective}
 use Prim.Native.Nat.{ℕ}
 use Rattle.lists.specs.Lists.{Bytes}
 use Rattle.lines.specs.Number.{ascii}
+use Rattle.tree.specs.LogTree.{LogEntry}
 use Rattle.rules.specs.Limits.{responseLimit}
 use Rattle.rules.specs.State.{State}
-use Rattle.rules.specs.Response.{monitor}
-use Rattle.rules.specs.Refusals.{Inputs, Call, refused, judge}
+use Rattle.rules.specs.Response.{monitor, Parts, logEntry}
+use Rattle.rules.specs.ResponseText.{readResponse}
+use Rattle.rules.specs.Refusals.{Inputs, Call, refused, passed, judge}
 use Rattle.rules.specs.Calls.{numberOf, stateAfter}
-use Rattle.rules.specs.Consistency.{acceptedCalls}
-use Rattle.rules.proofs.RefusalLaws.{zero-accepts, chain-accepted, chain-refused}
+use Rattle.rules.specs.Consistency.{acceptedCalls, shownBy}
+use Rattle.rules.proofs.RefusalLaws.{accepted-meaning, readings-were, zero-accepts, chain-accepted, chain-refused}
 use Rattle.rules.proofs.Running.{x, pair, outcome, outcomeOf, opened}
 use Rattle.rules.proofs.Cases.{Refused, Accepted, identifier, configuration, sheet-0, sheet-1, signed, kt-line, head-line, target-line, step-lines, entry-line, in-line, nl-line, end-line, response, searching, honest, answering, new, kept, after-search, accepted-search}
 
@@ -126,3 +128,38 @@ chain-of-three =
           ∙ ap (λ (s : Option State). a .0 ∷ acceptedCalls s (monitoring ∷ [])) (state-of new (some after-search) honest 0 (some (x "78")) accepted-search)
           ∙ ap (λ (cs : List Call). a .0 ∷ cs) (chain-accepted (some after-search) monitoring [] (b .0) (b .1)),
     )
+
+-- ---- a chain of two calls that show one entry: the search, and the same search again
+
+pub search-again : Accepted (some after-search) honest after-search (some (x "78"))
+unfolding opened
+search-again = refl
+
+abbrev first-entry : LogEntry
+first-entry = record { position = 0; time = 1000; prefixRoot = x "0470a5b73e5d7206f13eb1efafa43a2e45df17b7bca61b55cda03fac3c31c624" }
+
+-- the entries that a response shows
+abbrev shownIn : Parts → List LogEntry
+shownIn p = map logEntry (p .entries)
+
+response-shows : Option·map shownIn (readResponse response) ≡ some (first-entry ∷ [])
+unfolding opened
+response-shows = refl
+
+-- a call that accepts the response shows them
+call-shows : (s : Option State) (c : Call) → judge s honest ≡ passed c → shownIn (c .parts) ≡ first-entry ∷ []
+call-shows s c e =
+    let r = readings-were s honest c (accepted-meaning s honest c e .0) .parts in
+    Option·some-injective (shownIn (c .parts)) (first-entry ∷ []) (sym (ap (Option·map shownIn) r) ∙ response-shows)
+
+-- both calls are accepted, and both show entry 0
+pub shown-twice : shownBy (acceptedCalls new (honest ∷ honest ∷ [])) ≡ first-entry ∷ first-entry ∷ []
+unfolding acceptedCalls shownBy flatMap
+shown-twice =
+    let (c, p) = zero-accepts new honest (number-of new (some after-search) honest 0 (some (x "78")) accepted-search) in
+    let (d, q) = zero-accepts (some after-search) honest (number-of (some after-search) (some after-search) honest 0 (some (x "78")) search-again) in
+    let calls : acceptedCalls new (honest ∷ honest ∷ []) ≡ c ∷ d ∷ [] =
+    chain-accepted new honest (honest ∷ []) c p
+    ∙ ap (λ (s : Option State). c ∷ acceptedCalls s (honest ∷ [])) (state-of new (some after-search) honest 0 (some (x "78")) accepted-search)
+    ∙ ap (λ (cs : List Call). c ∷ cs) (chain-accepted (some after-search) honest [] d q) in
+    ap shownBy calls ∙ ap₂ (λ (l m : List LogEntry). l ++ (m ++ [])) (call-shows new c p) (call-shows (some after-search) d q)
