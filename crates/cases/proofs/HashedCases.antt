@@ -1,4 +1,4 @@
--- Whole calls that hash: monitoring after the accepted search, and refusals from 12 on.
+-- Whole calls that hash: monitoring after the accepted search, refusals from 12 on, and two chains of calls.
 use mathlib.Core.Path.{_≡_, refl, sym, ap, ap₂, _∙_}
 use mathlib.Core.List.{List, [], _∷_, _++_, map, flatMap}
 use mathlib.Core.Option.{Option, none, some, Option·map, Option·some-injective}
@@ -115,18 +115,23 @@ state-of : (s t : Option State) (i : Inputs) (k : ℕ) (v : Option Bytes) → ou
 unfolding outcome outcomeOf
 state-of s t i k v e = ap (λ (o : ℕ × (Option State × Option Bytes)). o .1 .0) e
 
+-- a chain that begins with the accepted search goes on from the state after it
+search-first : (is : List Inputs) → (c : Call) × (judge new honest ≡ passed c) × (acceptedCalls new (honest ∷ is) ≡ c ∷ acceptedCalls (some after-search) is)
+search-first is =
+    let (c, p) = zero-accepts new honest (number-of new (some after-search) honest 0 (some (x "78")) accepted-search) in
+    let t = state-of new (some after-search) honest 0 (some (x "78")) accepted-search in
+    (c, p, chain-accepted new honest is c p ∙ ap (λ (s : Option State). c ∷ acceptedCalls s is) t)
+
 -- two of its three calls are accepted, each call with the state that the last one returned
 pub chain-of-three : (c d : Call) × (acceptedCalls new (early ∷ honest ∷ monitoring ∷ []) ≡ c ∷ d ∷ [])
 unfolding acceptedCalls
 chain-of-three =
-    let a = zero-accepts new honest (number-of new (some after-search) honest 0 (some (x "78")) accepted-search) in
-    let b = zero-accepts (some after-search) monitoring (number-of (some after-search) (some after-monitoring) monitoring 0 none accepted-monitoring) in (
-      a .0,
-      b .0,
-      chain-refused new early (honest ∷ monitoring ∷ []) 11 early-refused
-          ∙ chain-accepted new honest (monitoring ∷ []) (a .0) (a .1)
-          ∙ ap (λ (s : Option State). a .0 ∷ acceptedCalls s (monitoring ∷ [])) (state-of new (some after-search) honest 0 (some (x "78")) accepted-search)
-          ∙ ap (λ (cs : List Call). a .0 ∷ cs) (chain-accepted (some after-search) monitoring [] (b .0) (b .1)),
+    let (c, _, q) = search-first (monitoring ∷ []) in
+    let (d, p) = zero-accepts (some after-search) monitoring (number-of (some after-search) (some after-monitoring) monitoring 0 none accepted-monitoring) in (
+      c,
+      d,
+      chain-refused new early (honest ∷ monitoring ∷ []) 11 early-refused ∙ q
+          ∙ ap (λ (cs : List Call). c ∷ cs) (chain-accepted (some after-search) monitoring [] d p),
     )
 
 -- ---- a chain of two calls that show one entry: the search, and the same search again
@@ -156,10 +161,7 @@ call-shows s c e =
 pub shown-twice : shownBy (acceptedCalls new (honest ∷ honest ∷ [])) ≡ first-entry ∷ first-entry ∷ []
 unfolding acceptedCalls shownBy flatMap
 shown-twice =
-    let (c, p) = zero-accepts new honest (number-of new (some after-search) honest 0 (some (x "78")) accepted-search) in
-    let (d, q) = zero-accepts (some after-search) honest (number-of (some after-search) (some after-search) honest 0 (some (x "78")) search-again) in
-    let calls : acceptedCalls new (honest ∷ honest ∷ []) ≡ c ∷ d ∷ [] =
-    chain-accepted new honest (honest ∷ []) c p
-    ∙ ap (λ (s : Option State). c ∷ acceptedCalls s (honest ∷ [])) (state-of new (some after-search) honest 0 (some (x "78")) accepted-search)
-    ∙ ap (λ (cs : List Call). c ∷ cs) (chain-accepted (some after-search) honest [] d q) in
-    ap shownBy calls ∙ ap₂ (λ (l m : List LogEntry). l ++ (m ++ [])) (call-shows new c p) (call-shows (some after-search) d q)
+    let (c, p, q) = search-first (honest ∷ []) in
+    let (d, r) = zero-accepts (some after-search) honest (number-of (some after-search) (some after-search) honest 0 (some (x "78")) search-again) in
+    ap shownBy (q ∙ ap (λ (cs : List Call). c ∷ cs) (chain-accepted (some after-search) honest [] d r))
+    ∙ ap₂ (λ (l m : List LogEntry). l ++ (m ++ [])) (call-shows new c p) (call-shows (some after-search) d r)

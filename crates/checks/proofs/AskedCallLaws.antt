@@ -19,10 +19,10 @@ use Rattle.tree.specs.LogHead.{positions, knownIn, isWalkable, nodesAsked}
 use Rattle.tree.proofs.FrontierLaws.{frontier-rising, frontier-below}
 use Rattle.rules.specs.Limits.{treeSizeLimit}
 use Rattle.rules.specs.VrfOutputs.{readOutputs, hasOutput}
-use Rattle.rules.specs.Response.{Target, Finding, searched, Lookup, Entry, Parts, stepVersions, lookupVersions, entryPositions, logEntry}
+use Rattle.rules.specs.Response.{Target, Finding, searched, Lookup, Entry, Parts, stepVersions, lookupVersions, entryPositions}
 use Rattle.rules.specs.Search.{askedBySearch, Asked as AskedEntry}
 use Rattle.rules.specs.Refusals.{Call, askedBy, asked, stepsAskedBy, commitmentAsked, lookupsAsked, entriesAsked, logWalk, notAsAsked, outputMissing}
-use Rattle.rules.proofs.AcceptedLaws.{positions-asked, marked-positions, frontier-shown}
+use Rattle.rules.proofs.AcceptedLaws.{logged-positions, positions-asked, marked-positions, frontier-shown}
 use Rattle.inputs.specs.declared.response.Response.{Response}
 use Rattle.inputs.specs.declared.response_lines.Kind.the-variants.{Search}
 use Rattle.inputs.specs.Response.{stepsIn, entriesIn, partsIn, Counted}
@@ -43,12 +43,6 @@ unfolding partOf
 part-short s p k h = omega (arith, h, length-take (p .stop - p .start) (drop (p .start) s), length-drop (p .start) s)
 
 -- ---- entries
-
--- the positions of entries are those of the log entries
-pub logged-positions : (es : List Entry) → positions (map logEntry es) ≡ map (λ (e : Entry). e .position) es
-unfolding logEntry
-logged-positions [] = refl
-logged-positions (e ∷ es) = ap (_∷_ (e .position)) (logged-positions es)
 
 -- a version at the beginning of a ladder is one of the ladder
 begins-wanted : (ls : List Lookup) (wanted : List ℕ) → begins (map (λ (l : Lookup). l .version) ls) wanted ≡ true → lookupsWanted wanted ls ≡ true

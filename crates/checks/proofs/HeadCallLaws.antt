@@ -20,12 +20,12 @@ use Rattle.rules.specs.Limits.{hashLength}
 use Rattle.rules.specs.Response.{Parts}
 use Rattle.rules.specs.ResponseText.{nodeForm, readNode}
 use Rattle.rules.specs.Refusals.{Call, known, logWalk, logRoot, historyDiffers}
-use Rattle.rules.proofs.AcceptedLaws.{size-was}
+use Rattle.rules.proofs.AcceptedLaws.{logged-positions, size-was}
 use Rattle.inputs.specs.declared.response.Response.{Response}
 use Rattle.inputs.specs.Response.{entriesIn, nodesIn, partsIn, AllRead}
 use Rattle.checks.specs.Entries.{EntriesStand}
 use Rattle.checks.specs.Calls.{entriesText, IsHead, valuesBlock}
-use Rattle.checks.proofs.AskedCallLaws.{logged-positions, stand-walkable}
+use Rattle.checks.proofs.AskedCallLaws.{stand-walkable}
 
 -- ---- nodes
 

@@ -19,12 +19,13 @@ use Rattle.rules.specs.Refusals.{Inputs, Call, Judgement, refused, passed, read
 use Rattle.rules.specs.Refusals.{Rule, tried, triedAfter, judge, checks, lastChecks}
 use Rattle.rules.specs.Calls.{libraryInputs, numberOf, nextState, stateAfter}
 use Rattle.rules.proofs.NextStateLaws.{state-valid}
+use Rattle.rules.proofs.RefusalLaws.{valid-some}
 use Rattle.inputs.specs.declared.response.Response.{Response}
 use Rattle.inputs.specs.declared.response.ReadResponse.the-variants.{Read}
 use Rattle.inputs.specs.declared.state.State.{State as StateBlock}
 use Rattle.inputs.specs.Response.{partsIn, Places}
 use Rattle.inputs.specs.State.{stateOf}
-use Rattle.inputs.proofs.StateBlockLaws.{valid-some, block-state}
+use Rattle.inputs.proofs.StateBlockLaws.{block-state}
 use Rattle.checks.specs.declared.readings.ReadInputs.{ReadInputs}
 use Rattle.checks.specs.declared.readings.ReadInputs.the-variants.{Taken, Refused}
 use Rattle.checks.specs.Calls.{argumentsOf, blockAfter, areLengthsFit, IsReadingNumber, IsCall, IsReading, AreInputs}

@@ -19,10 +19,11 @@ use Rattle.rules.specs.State.{MapEntry, State, positions, versions}
 use Rattle.rules.specs.Refusals.{Call, validState, mapAfter, known, logWalk, lastTime}
 use Rattle.rules.specs.Calls.{nextState}
 use Rattle.rules.proofs.StateLaws.{valid-was}
+use Rattle.rules.proofs.RefusalLaws.{valid-some}
 use Rattle.inputs.specs.declared.state.State.{State as StateBlock}
 use Rattle.inputs.specs.State.{blockOf, stateOf, contents, roomIsZero}
 use Rattle.inputs.proofs.PairLaws.{map-made}
-use Rattle.inputs.proofs.StateBlockLaws.{Sized, valid-some, state-block}
+use Rattle.inputs.proofs.StateBlockLaws.{Sized, state-block}
 use Rattle.inputs.proofs.StateWriterLaws.{valid-fits}
 use Rattle.checks.specs.declared.map.Pairs.{Pairs}
 use Rattle.checks.specs.Map.{IsMap, Holds, pairsOf}

@@ -2,7 +2,7 @@
 use mathlib.Core.Path.{_≡_, refl, sym, _∙_, ap}
 use mathlib.Core.Bool.{Bool, true, false, _&&_, _||_}
 use mathlib.Core.List.{flatten, List·Memᴰ}
-use mathlib.Core.Option.{Option, none, some, Option·none-ne-some}
+use mathlib.Core.Option.{some}
 use Prim.Native.Nat.{ℕ, _*_, _≤_}
 use native.Mathlib.Omega.{arith}
 use lib.Count.{ones}
@@ -24,6 +24,7 @@ use Rattle.rules.specs.Limits.{labelLimit, treeSizeLimit, greatestVersion, mapL
 use Rattle.rules.specs.State.{MapEntry, State, positions, versions, isValid, emptyState}
 use Rattle.rules.specs.Refusals.{validState}
 use Rattle.rules.proofs.StateLaws.{Valid, valid-was}
+use Rattle.rules.proofs.RefusalLaws.{valid-some}
 use Rattle.inputs.specs.declared.state.State.{State as StateBlock}
 use Rattle.inputs.specs.State.{blockOf, mapOf, contents, zerosFrom, roomIsZero, stateOf, labelFits, logFits, pairsFit, mapFits}
 use Rattle.inputs.proofs.RoomLaws.{padded-room, room-padded, joined-padded, joined-runs, runs-whole}
@@ -134,12 +135,6 @@ contents-block b z r v =
       room-padded mapLimit (b .pairs) (b .versions) (z .versionsRoom) (r .pairsCount) (r .versionsEnd),
     )
     refl
-
--- a state that is given and valid was given, and is valid
-pub valid-some : (o : Option State) (s : State) → validState o ≡ some s → (o ≡ some s) × (isValid s ≡ true)
-unfolding validState
-valid-some none s e = absurd (Option·none-ne-some s e)
-valid-some (some x) s e = let (t, q) = provided-some (isValid x) x s e in (ap some q, ap isValid (sym q) ∙ t)
 
 -- what a struct stands for, if it is valid, has that struct
 pub state-block : (b : StateBlock) (s : State) → Sized b → validState (stateOf b) ≡ some s → blockOf s ≡ b

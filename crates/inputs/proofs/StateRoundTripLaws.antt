@@ -13,10 +13,11 @@ use Rattle.rules.specs.State.{State, HasBytes}
 use Rattle.rules.specs.StateText.{readState, readStateText, writeState}
 use Rattle.rules.specs.Refusals.{validState}
 use Rattle.rules.proofs.StateTextLaws.{read-write, state-read, state-short}
+use Rattle.rules.proofs.RefusalLaws.{valid-some}
 use Rattle.inputs.specs.declared.state.State.{State as StateBlock}
 use Rattle.inputs.specs.State.{blockOf, numberedBlock, stateOf}
 use Rattle.inputs.specs.StateWriter.{textFor}
-use Rattle.inputs.proofs.StateBlockLaws.{Sized, valid-some, state-block, block-stands}
+use Rattle.inputs.proofs.StateBlockLaws.{Sized, state-block, block-stands}
 
 -- a text that reads as a state gives it with the number 0
 text-read : (t : Bytes) (s : State) → length t ≤ stateTextLimit → readState t ≡ some s → readStateText t ≡ record { number = 0; state = s }

@@ -28,11 +28,11 @@ use Rattle.rules.specs.Refusals.{validState}
 use Rattle.rules.specs.Calls.{writtenFirst}
 use Rattle.rules.proofs.StateLaws.{valid-was, values-fit}
 use Rattle.rules.proofs.StateTextLaws.{state-short}
+use Rattle.rules.proofs.RefusalLaws.{valid-some}
 use Rattle.tree.proofs.RunLaws.{length-runs, runs-at}
 use Rattle.inputs.specs.declared.state.State.{State as StateBlock}
 use Rattle.inputs.specs.State.{mapOf, contents, roomIsZero, stateOf}
 use Rattle.inputs.specs.StateWriter.{textFor, Wrote}
-use Rattle.inputs.proofs.StateBlockLaws.{valid-some}
 
 -- ---- one text after the other
 

@@ -1,14 +1,14 @@
 -- Accepted calls (specs/Refusals.antt): what none of the rules 6 to 16 applying says of them, and what they show.
-use mathlib.Core.Path.{_≡_, refl, ap, ap₂, _∙_, subst}
+use mathlib.Core.Path.{_≡_, refl, ap, ap₂, _∙_}
 use mathlib.Core.Logic.{inl}
 use mathlib.Core.Bool.{true, false, _||_, false≢true}
 use mathlib.Core.List.{List, [], _∷_, _++_, map, List·Memᴰ}
-use mathlib.Core.Option.{Option, none, some, Option·none-ne-some}
+use mathlib.Core.Option.{Option, some}
 use Prim.Native.Nat.{ℕ, _^_, _≤_, _<_}
 use native.Mathlib.Omega.{arith}
 use lib.Dec.{eqb, ltb}
 use borrow.Author.Tests.{ltb-false, eqb-true, eqb-false, not-false}
-use Rattle.lists.proofs.ListLaws.{and-holds, or-fails, provided-some, every-cons, same-true, mapped-at}
+use Rattle.lists.proofs.ListLaws.{and-holds, or-fails, every-cons, same-true, mapped-at}
 use Rattle.tree.specs.Ladder.{ladder}
 use Rattle.tree.specs.SearchTree.{frontier, frontierAndPaths}
 use Rattle.tree.specs.LogTree.{LogEntry, logLeafString, stringAt}
@@ -20,11 +20,11 @@ use Rattle.rules.specs.Response.{Target, Finding, searched, monitored, E
 use Rattle.rules.specs.ResponseText.{readResponse}
 use Rattle.rules.specs.Search.{Asked, askedBySearch}
 use Rattle.rules.specs.Monitoring.{versionsReaching, versionsShown, monitoredPositions, askedByMonitoring}
-use Rattle.rules.specs.Refusals.{Inputs, Call, passed, validState, readCall}
+use Rattle.rules.specs.Refusals.{Inputs, Call, passed, readCall}
 use Rattle.rules.specs.Refusals.{kindAsked, foreign, sizeWrong, targetWrong, askedBy, asked, stepsAskedBy, entriesAsked, notAsAsked, outputMissing, timesWrong, lookupFails, resultsWrong}
 use Rattle.rules.specs.Refusals.{known, historyDiffers, headDiffers, roomMissing, checks, lastChecks, judge}
 use Rattle.rules.proofs.StateLaws.{valid-was}
-use Rattle.rules.proofs.RefusalLaws.{NoneApplies, accepted-meaning, readings-were}
+use Rattle.rules.proofs.RefusalLaws.{NoneApplies, valid-some, accepted-meaning, readings-were}
 use Rattle.rules.proofs.PartsLaws.{response-fits}
 
 -- ---- accepted calls
@@ -35,18 +35,12 @@ pub record Accepted (c : Call) : Type 0 where
   pub reads : readResponse (c .inputs .response) ≡ some (c .parts)
   pub unrefused : NoneApplies (checks ++ lastChecks) c
 
--- a state that is handed on is the one given, and valid
-pub state-handed : (o : Option State) (s : State) → validState o ≡ some s → (o ≡ some s) × (isValid s ≡ true)
-unfolding validState
-state-handed none s e = absurd (Option·none-ne-some s e)
-state-handed (some t) s e = let (v, q) = provided-some (isValid t) t s e in (ap some q, subst (λ (x : State). isValid x ≡ true) q v)
-
 -- a call as read has what it was given, a valid state, and the parts of its response
 pub call-read : (s : Option State) (i : Inputs) (c : Call) → readCall s i ≡ passed c
     → (c .inputs ≡ i) × (isValid (c .state) ≡ true) × (readResponse (c .inputs .response) ≡ some (c .parts))
 call-read s i c e =
     let h = readings-were s i c e in
-    (h .inputs, state-handed s (c .state) (h .state) .1, rw (h .inputs) (h .parts))
+    (h .inputs, valid-some s (c .state) (h .state) .1, rw (h .inputs) (h .parts))
 
 -- a call that passes is accepted
 pub accepted-call : (s : Option State) (i : Inputs) (c : Call) → judge s i ≡ passed c → (c .inputs ≡ i) × Accepted c
@@ -56,6 +50,12 @@ accepted-call s i c e =
     (q, record { valid = v; reads = p; unrefused = h })
 
 -- ---- the entries shown
+
+-- entries of the log have the positions of the entry lines
+pub logged-positions : (es : List Entry) → map (λ (x : LogEntry). x .position) (map logEntry es) ≡ map (λ (x : Entry). x .position) es
+unfolding logEntry
+logged-positions [] = refl
+logged-positions (e ∷ es) = ap (λ (l : List ℕ). e .position ∷ l) (logged-positions es)
 
 -- the positions of entries that are as asked are those asked for
 pub positions-asked : (f : Finding) (wanted : List Asked) (es : List Entry) → entriesAsked f wanted es ≡ true
@@ -195,12 +195,8 @@ module _ (c : Call) (h : Accepted c) where
   pub shown-string : (e : Entry) → List·Memᴰ e (c .parts .entries) → stringAt (known c .entries) (e .position) ≡ logLeafString (logEntry e)
   unfolding known logEntry
   shown-string e m =
-      string-of-entry (map logEntry (c .parts .entries)) (logEntry e) (rw (kept-positions (c .parts .entries)) (shown-entries .rises))
+      string-of-entry (map logEntry (c .parts .entries)) (logEntry e) (rw (logged-positions (c .parts .entries)) (shown-entries .rises))
       (mapped-at logEntry (c .parts .entries) e m)
-    where
-      kept-positions : (es : List Entry) → map (λ (x : LogEntry). x .position) (map logEntry es) ≡ map (λ (x : Entry). x .position) es
-      kept-positions [] = refl
-      kept-positions (x ∷ es) = ap (λ (l : List ℕ). x .position ∷ l) (kept-positions es)
 
   -- its time has 8 bytes
   pub shown-time : (e : Entry) → List·Memᴰ e (c .parts .entries) → e .time < 2 ^ 64

@@ -31,8 +31,8 @@ use Rattle.rules.specs.Refusals.{Inputs, Call, Judgement, refused, passe
 use Rattle.rules.specs.Calls.{nextState, stateAfter}
 use Rattle.rules.specs.Hashed.{hashed}
 use Rattle.rules.specs.Consistency.{AreByteInputs, IsByteState, accepted, acceptedCalls, shownBy, ChainsAgree}
-use Rattle.rules.proofs.RefusalLaws.{accepted-meaning, readings-were}
-use Rattle.rules.proofs.AcceptedLaws.{state-handed, Accepted, accepted-call, rules-passed, shown-entries, call-follows, shown-string, shown-time}
+use Rattle.rules.proofs.RefusalLaws.{valid-some, accepted-meaning, readings-were}
+use Rattle.rules.proofs.AcceptedLaws.{Accepted, accepted-call, rules-passed, shown-entries, call-follows, shown-string, shown-time}
 use Rattle.rules.proofs.HashedLaws.{ByteCall, walk-listed, call-bytes, bytes-hashed, bytes-next}
 
 -- ---- what a state holds fast
@@ -44,7 +44,7 @@ HoldsFast S (some s) e = Binds (s .size) (s .values) (e .position) (logLeafStrin
 
 -- an accepted call got the state that it was judged with
 state-was : (s : Option State) (i : Inputs) (c : Call) → judge s i ≡ passed c → s ≡ some (c .state)
-state-was s i c e = state-handed s (c .state) (readings-were s i c (accepted-meaning s i c e .0) .state) .0
+state-was s i c e = valid-some s (c .state) (readings-were s i c (accepted-meaning s i c e .0) .state) .0
 
 -- ---- one call
 

@@ -33,8 +33,7 @@ use Rattle.rules.specs.Hashed.{hashed}
 use Rattle.rules.specs.Consistency.{OutputsAgree, SearchesAgree}
 use Rattle.rules.proofs.AcceptedLaws.{Accepted, accepted-call, rules-passed, ladder-steps, shown-entries, call-follows, shown-string, shown-time}
 use Rattle.rules.proofs.CommitmentLaws.{commitment-one}
-use Rattle.rules.proofs.HashedLaws.{ByteCall, walk-listed, call-bytes, bytes-hashed}
-use Rattle.rules.proofs.OriginLaws.{strings-listed}
+use Rattle.rules.proofs.HashedLaws.{ByteCall, walk-listed, strings-listed, call-bytes, bytes-hashed}
 use Rattle.rules.proofs.LastEntryLaws.{Shows, OutputsFit, last-entry, outputs-fit, opening-length, shows}
 
 -- ---- two prefix trees with one root

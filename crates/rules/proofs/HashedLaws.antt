@@ -21,15 +21,14 @@ use Rattle.tree.proofs.LookupLaws.{TerminalBytes, bytes-lookup}
 use Rattle.rules.specs.Limits.{vrfOutputLength}
 use Rattle.rules.specs.VrfOutputs.{VrfOutput, outputOf}
 use Rattle.rules.specs.State.{State, HasBytes}
-use Rattle.rules.specs.Response.{Finding, searched, monitored, Step, Result, included, absent, otherLeaf, Lookup, Entry, logEntry}
+use Rattle.rules.specs.Response.{Target, Finding, searched, monitored, Step, Result, included, absent, otherLeaf, Lookup, Entry, logEntry}
 use Rattle.rules.specs.Encoding.{opaque}
 use Rattle.rules.specs.Commitment.{commitmentKey, commitmentValue, commitmentTo, commitmentStrings}
 use Rattle.rules.specs.Refusals.{Inputs, Call, passed, known, logWalk, terminal, stepCommitment, commitmentBy, commitmentOf, judge}
 use Rattle.rules.specs.Calls.{nextState}
 use Rattle.rules.specs.Hashed.{hashedByLookup, hashedByEntry, hashedByFinding, hashed}
 use Rattle.rules.specs.Consistency.{AreByteInputs, IsByteState}
-use Rattle.rules.proofs.RefusalLaws.{accepted-meaning, readings-were}
-use Rattle.rules.proofs.AcceptedLaws.{state-handed}
+use Rattle.rules.proofs.RefusalLaws.{valid-some, accepted-meaning, readings-were}
 use Rattle.rules.proofs.PartsLaws.{CommitmentFits, StepFits, OtherLeafFits, FindingFits, LookupFits, EntryFits, PartsFit, response-fits}
 use Rattle.rules.proofs.OutputLaws.{outputs-sized, outputs-bytes, output-by}
 
@@ -49,10 +48,12 @@ lookup-listed c e l i j x m =
     (Memᴰ·append-right (walkStrings (known c) (logWalk c) (c .parts .nodes))
     (flat-listed (hashedByEntry c) (c .parts .entries) e x i (flat-listed (hashedByLookup c) (e .lookups) l x j m)))
 
--- those of the target's commitment
-pub finding-listed : (c : Call) → Within (hashedByFinding (c .parts .finding) (c .parts .label)) (hashed c)
-unfolding hashed
-finding-listed c x m = Memᴰ·append-right (walkStrings (known c) (logWalk c) (c .parts .nodes) ++ flatMap (hashedByEntry c) (c .parts .entries)) m
+-- HMAC's two for the target's commitment
+pub strings-listed : (c : Call) (t : Target) → c .parts .finding ≡ searched t → Within (commitmentStrings (t .opening) (c .parts .label) (t .value)) (hashed c)
+unfolding hashed hashedByFinding
+strings-listed c t f x m =
+    let n : List·Memᴰ x (hashedByFinding (c .parts .finding) (c .parts .label)) = rw f m in
+    Memᴰ·append-right (walkStrings (known c) (logWalk c) (c .parts .nodes) ++ flatMap (hashedByEntry c) (c .parts .entries)) n
 
 -- ---- bytes
 
@@ -67,7 +68,7 @@ pub call-bytes : (s : Option State) (i : Inputs) (c : Call) → IsByteState s �
 call-bytes s i c b h e =
     let r = readings-were s i c (accepted-meaning s i c e .0) in
     record {
-      state = subst IsByteState (state-handed s (c .state) (r .state) .0) b;
+      state = subst IsByteState (valid-some s (c .state) (r .state) .0) b;
       outputs = outputs-bytes (i .vrfOutputs) (c .outputs) (h .vrfOutputs) (r .outputs);
       outputLength = outputs-sized (i .vrfOutputs) (c .outputs) (r .outputs);
       parts = response-fits (i .response) (c .parts) (r .parts);

@@ -11,14 +11,13 @@ use Rattle.hash.specs.Sha256.{sha256}
 use Rattle.hash.specs.Hmac.{innerString, hmac}
 use Rattle.tree.specs.LogTree.{Walk, value, walkStrings}
 use Rattle.tree.specs.PrefixTree.{lookupRoot}
-use Rattle.tree.proofs.CollisionLaws.{Within}
 use Rattle.tree.proofs.OriginLaws.{Origin, digest, PartOf, whole, part-origin, walk-string, PartAgrees, parts-met, met-parts, OfLookup, root-of-lookup, lookup-origin, lookup-string}
 use Rattle.rules.specs.VrfOutputs.{outputOf}
 use Rattle.rules.specs.Response.{Target, Finding, searched, monitored, Lookup, Entry}
 use Rattle.rules.specs.Commitment.{commitmentKey, commitmentValue, commitmentTo, commitmentStrings}
 use Rattle.rules.specs.Refusals.{Call, known, logWalk, logRoot, terminal, historyDiffers}
 use Rattle.rules.specs.Hashed.{hashedByLookup, hashedByEntry, hashedByFinding, hashed}
-use Rattle.rules.proofs.HashedLaws.{walk-listed, lookup-listed, finding-listed}
+use Rattle.rules.proofs.HashedLaws.{walk-listed, lookup-listed, strings-listed}
 
 -- the values that a call works out: of the parts of its walk, on the ways of its lookups, and HMAC's inner digest and code for the target
 pub data WorkedOut (c : Call) : Bytes → Type 0 where
@@ -52,11 +51,6 @@ unfolding logRoot
 root-compared c = in-walk whole
 
 -- ---- where it comes from
-
--- HMAC's two strings are listed
-pub strings-listed : (c : Call) (t : Target) → c .parts .finding ≡ searched t → Within (commitmentStrings (t .opening) (c .parts .label) (t .value)) (hashed c)
-unfolding hashedByFinding
-strings-listed c t f x m = finding-listed c x (rw f m)
 
 -- from the strings that the call hashed, the kept values and the nodes
 pub origin : (c : Call) (v : Bytes) → WorkedOut c v → Origin (hashed c) (c .state .values ++ c .parts .nodes) v

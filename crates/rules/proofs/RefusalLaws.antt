@@ -3,7 +3,7 @@ use mathlib.Core.Path.{_≡_, refl, sym, ap, _∙_, subst}
 use mathlib.Core.Logic.{_⊎_, inl, inr}
 use mathlib.Core.Bool.{Bool, true, false}
 use mathlib.Core.List.{List, [], _∷_, _++_}
-use mathlib.Core.Option.{Option, none, some, Option·elim}
+use mathlib.Core.Option.{Option, none, some, Option·elim, Option·none-ne-some}
 use Prim.Native.Nat.{ℕ, _≤_}
 use native.Mathlib.Omega.{arith}
 use Rattle.lists.specs.Choice.{choose}
@@ -11,7 +11,7 @@ use Rattle.lists.specs.Lists.{Bytes}
 use Rattle.lists.proofs.ListLaws.{provided-true, provided-some}
 use Rattle.rules.specs.Configuration.{readConfiguration}
 use Rattle.rules.specs.VrfOutputs.{readOutputs}
-use Rattle.rules.specs.State.{State}
+use Rattle.rules.specs.State.{State, isValid}
 use Rattle.rules.specs.ResponseText.{readResponse}
 use Rattle.rules.specs.Refusals.{Inputs, Call, Judgement, refused, passed, reading, lengthsFit, validState, readCall, Rule, checks, lastChecks, tried, triedAfter, judge}
 use Rattle.rules.specs.Calls.{numberOf, stateAfter, valueOf, writtenFirst, outputAfter, textOf, textAfter}
@@ -113,6 +113,12 @@ reading-by : {A R : Type 0} (k : ℕ) (o : Option A) (next : A → Judgement) (c
 unfolding reading
 reading-by k none next c e f = absurd (refused-not-passed k c e)
 reading-by k (some a) next c e f = f a refl e
+
+-- a state that is handed on is the one given, and valid
+pub valid-some : (o : Option State) (s : State) → validState o ≡ some s → (o ≡ some s) × (isValid s ≡ true)
+unfolding validState
+valid-some none s e = absurd (Option·none-ne-some s e)
+valid-some (some x) s e = let (t, q) = provided-some (isValid x) x s e in (ap some q, ap isValid (sym q) ∙ t)
 
 -- a call that was read has had its readings
 pub readings-were : (s : Option State) (i : Inputs) (c : Call) → readCall s i ≡ passed c → Readings s i c

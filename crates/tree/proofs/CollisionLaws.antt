@@ -1,12 +1,13 @@
 -- Facts that hold unless SHA-256 is broken (specs/Collisions.antt): each law gives its fact or what breaks SHA-256 among the strings of a list.
-use mathlib.Core.Path.{_≡_, refl, sym, ap, _∙_, subst}
+use mathlib.Core.Path.{_≡_, refl, sym, ap, _∙_}
 use mathlib.Core.Logic.{_⊎_, inl, inr}
 use mathlib.Core.Bool.{Bool, true, false}
-use mathlib.Core.List.{List, [], _∷_, _++_, List·Memᴰ, List·Memᴰ·head, List·Memᴰ·tail, List·Memᴰ·cases-cons, List·Memᴰ·not-nil}
+use mathlib.Core.List.{List, [], _∷_, _++_, List·Memᴰ, List·Memᴰ·head, List·Memᴰ·tail}
 use lib.ListN.{length, take, drop}
 use lib.Seq.{take-at, drop-at, drop-append-seam}
 use Rattle.lists.specs.Lists.{Bytes, same}
 use Rattle.lists.proofs.ListLaws.{same-true, same-false}
+use Rattle.lists.proofs.MemberLaws.{each-nil, each-cons}
 use Rattle.hash.specs.Bytes.{AreBytes}
 use Rattle.hash.specs.Sha256.{digestLength, sha256}
 use Rattle.tree.specs.LogTree.{zeros}
@@ -27,15 +28,11 @@ settled (inr c) f = c
 
 -- A fact of each member of a list, or a way out: it is a fact of all members, or there is a way out.
 pub all-or : {A B : Type 0} (P : A → Type 0) (l : List A) → ((x : A) → List·Memᴰ x l → P x ⊎ B) → ((x : A) → List·Memᴰ x l → P x) ⊎ B
-all-or P [] f = inl (λ x m. absurd (List·Memᴰ·not-nil m))
-all-or {A = A} P (y ∷ l) f = do
+all-or P [] f = inl (each-nil P)
+all-or P (y ∷ l) f = do
   h ← f y (List·Memᴰ·head refl)
   t ← all-or P l (λ x m. f x (List·Memᴰ·tail m))
-  inl (λ x m. go x h t (List·Memᴰ·cases-cons m))
-  where
-    go : (x : A) → P y → ((z : A) → List·Memᴰ z l → P z) → (x ≡ y) ⊎ List·Memᴰ x l → P x
-    go x h t (inl e) = subst P (sym e) h
-    go x h t (inr m) = t x m
+  inl (each-cons P y l h t)
 
 -- ---- joined lists
 

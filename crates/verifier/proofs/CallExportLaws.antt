@@ -17,7 +17,7 @@ use Rattle.rules.specs.StateText.{readState, writeState, readStateLines, readSt
 use Rattle.rules.specs.Refusals.{Inputs, Call, Judgement, refused, passed, validState, judge}
 use Rattle.rules.specs.Calls.{numberOf, nextState, valueOf, writtenFirst, textJudged, roomJudged, textOf, textAfter, answerWord}
 use Rattle.rules.proofs.StateTextLaws.{state-short}
-use Rattle.rules.proofs.RefusalLaws.{zero-accepts, number-refused}
+use Rattle.rules.proofs.RefusalLaws.{zero-accepts, number-refused, valid-some}
 use Rattle.rules.proofs.NextStateLaws.{state-valid}
 use Rattle.lines.specs.Line.{readLines}
 use Rattle.inputs.specs.declared.state.State.{State as StateBlock}
@@ -25,7 +25,7 @@ use Rattle.inputs.specs.declared.state.NumberedState.{NumberedState as Numbered
 use Rattle.inputs.specs.State.{blockOf, numberedBlock, roomIsZero, stateOf}
 use Rattle.inputs.specs.StateReader.{orRefused}
 use Rattle.inputs.specs.StateWriter.{textFor}
-use Rattle.inputs.proofs.StateBlockLaws.{valid-some, block-state, block-stands}
+use Rattle.inputs.proofs.StateBlockLaws.{block-state, block-stands}
 use Rattle.inputs.proofs.StateReaderLaws.{text-read}
 use Rattle.checks.specs.Calls.{blockAfter}
 
