@@ -1,4 +1,4 @@
--- Reading on from a place (paper 01, Response lines): the line that begins at a place of a text, the field that begins at a place of a line, and the place after it.
+-- Reading on from a place (paper 01, Response lines): what is left of a text and the line that begins there, the field that begins at a place of a line, and the place after it.
 use mathlib.Core.List.{List, []}
 use mathlib.Core.Option.{Option, some, Option·map, bind as _>>=_}
 use Prim.Native.Nat.{ℕ, _+_}
@@ -7,6 +7,10 @@ use lib.ListN.{length, drop}
 use Rattle.lists.specs.Choice.{choose, provided, _>>_}
 use Rattle.lists.specs.Lists.{Bytes, same}
 use Rattle.lines.specs.Line.{tab, newline, partsAt, before}
+
+-- how many bytes of a text are left from a place on
+unfoldable pub leftAt : Bytes → ℕ → ℕ
+leftAt s at = length (drop at s)
 
 -- where the line at a place stops, if a newline ends it, and where the next one begins
 unfoldable pub lineAt : Bytes → ℕ → Option (ℕ × ℕ)

@@ -2,7 +2,7 @@
 ghost use mathlib.Core.Path.{_≡_};
 ghost use Rattle.lines.specs.Number.{readNumber};
 ghost use Rattle.lines.specs.Hex.{spelledLength};
-ghost use Rattle.lines.specs.Cursor.{lineAt, fieldAt, readAt, wordAt};
+ghost use Rattle.lines.specs.Cursor.{leftAt, lineAt, fieldAt, readAt, wordAt};
 ghost use Rattle.lines.specs.Readings.{lineOf, wordOf, nextNumberOf, nextBytesOf};
 use crate::hex::Spelling;
 use crate::hex::spelled_length;
@@ -41,6 +41,17 @@ pub enum NextBytes {
 }
 
 impl Cursor {
+    // How many bytes of a text are left from here on.
+    pub fn left(self, text: &[u8]) -> usize
+        ensures { λ r. ⌜ r ≡ leftAt (now (text .entry)) (self .at) ⌝ }
+    {
+        let at = self.at;
+        if text.len() < at {
+            return 0;
+        }
+        text.len() - at
+    }
+
     // The line that begins here in a text.
     pub fn line(self, text: &[u8]) -> NextLine
         ensures { λ r. ⌜ lineOf r ≡ lineAt (now (text .entry)) (self .at) ⌝ }

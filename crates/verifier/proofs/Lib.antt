@@ -6,3 +6,7 @@ pub mod RequestLaws
 pub mod AnswerLineLaws
 pub mod SignedTextExportLaws
 pub mod FilesLaws
+pub mod SaidLaws
+pub mod ReaderLaws
+pub mod ApartLaws
+pub mod TextPlaceLaws

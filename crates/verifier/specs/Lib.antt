@@ -1,3 +1,4 @@
 pub mod Exports
+pub mod Reading
 pub mod Request
 pub mod Files

@@ -2,5 +2,6 @@
 mod answer_line;
 pub mod exports;
 pub mod files;
+pub mod reading;
 mod request;
 mod state_text;
