@@ -3,6 +3,7 @@
 mod outcome;
 mod reading;
 mod refusals;
+mod whole_lines;
 mod writing;
 
 use checks::limits::InputLimit;

@@ -36,6 +36,7 @@ pub(crate) fn judge(
     let text_length = outcome.text;
     report(
         outcome.number,
+        response,
         outcome.found,
         &line[..line_length],
         &value[..value_length],
@@ -44,12 +45,12 @@ pub(crate) fn judge(
 }
 
 // Reports what came of the files, by its number.
-fn report(number: u64, found: bool, line: &[u8], value: &[u8], text: &[u8]) {
+fn report(number: u64, response: &[u8], found: bool, line: &[u8], value: &[u8], text: &[u8]) {
     if number == 0 {
         accept(found, line, value, text);
     } else {
         print(line);
-        explain(number);
+        explain(number, response);
     }
 }
 

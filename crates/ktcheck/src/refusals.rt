@@ -1,8 +1,20 @@
-// What a refusal means for the technician: a sentence on standard error.
+// What a refusal means for the technician: a sentence on standard error, and one more about a response that is damaged or cut short.
+use crate::whole_lines::whole_lines;
 use libc::STDERR_FILENO;
 
-// Explains a refusal by its number.
-pub(crate) fn explain(number: u64) {
+// Explains a refusal, by its number, of a response.
+pub(crate) fn explain(number: u64, response: &[u8]) {
+    say_meaning(number);
+    if number == LINES {
+        say_lines(response);
+    }
+}
+
+// The refusal of a response whose lines are not as they must be.
+const LINES: u64 = 5;
+
+// Says what a refusal means.
+fn say_meaning(number: u64) {
     match number {
         1 => say(
             b"A file is missing, cannot be read or is too long, or the request's identifier does not have 16 bytes.\n",
@@ -50,7 +62,24 @@ pub(crate) fn explain(number: u64) {
     }
 }
 
-// Says a sentence.
+// Says how far the lines of a response reach.
+fn say_lines(response: &[u8]) {
+    let lines = whole_lines(response);
+    say(b"Whole lines in it: ");
+    say_number(lines.count);
+    say(b", up to byte ");
+    say_number(lines.place);
+    say(b". Bytes after them: ");
+    say_number(lines.left);
+    say(b".\n");
+}
+
+// Says a number.
+fn say_number(n: usize) {
+    io::print_decimal(STDERR_FILENO, n as u64);
+}
+
+// Says a sentence, or a part of one.
 fn say(sentence: &[u8]) {
     io::write_all(STDERR_FILENO, sentence);
 }

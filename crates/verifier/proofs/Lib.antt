@@ -10,3 +10,4 @@ pub mod SaidLaws
 pub mod ReaderLaws
 pub mod ApartLaws
 pub mod TextPlaceLaws
+pub mod SeenLaws
