@@ -6,7 +6,7 @@ use inputs::state::State;
 use verifier::files::Outcome;
 use verifier::files::check_files;
 
-// Judges the six files, of which one or more may be unread.
+// Judges the six files, of which one or more may be unread, and reports what comes of them.
 pub(crate) fn judge(
     unread: bool,
     request: &[u8],
@@ -36,16 +36,16 @@ pub(crate) fn judge(
     let text_length = outcome.text;
     report(
         outcome.number,
-        response,
         outcome.found,
         &line[..line_length],
         &value[..value_length],
         &text[..text_length],
+        response,
     );
 }
 
 // Reports what came of the files, by its number.
-fn report(number: u64, response: &[u8], found: bool, line: &[u8], value: &[u8], text: &[u8]) {
+fn report(number: u64, found: bool, line: &[u8], value: &[u8], text: &[u8], response: &[u8]) {
     if number == 0 {
         accept(found, line, value, text);
     } else {

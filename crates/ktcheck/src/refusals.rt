@@ -1,20 +1,9 @@
-// What a refusal means for the technician: a sentence on standard error, and one more about a response that is damaged or cut short.
-use crate::whole_lines::whole_lines;
+// What a refusal means for the technician: a sentence on standard error, and after 5 one more.
+use crate::ended_lines::ended_lines;
 use libc::STDERR_FILENO;
 
-// Explains a refusal, by its number, of a response.
+// Explains a refusal by its number; `response` is what was refused.
 pub(crate) fn explain(number: u64, response: &[u8]) {
-    say_meaning(number);
-    if number == LINES {
-        say_lines(response);
-    }
-}
-
-// The refusal of a response whose lines are not as they must be.
-const LINES: u64 = 5;
-
-// Says what a refusal means.
-fn say_meaning(number: u64) {
     match number {
         1 => say(
             b"A file is missing, cannot be read or is too long, or the request's identifier does not have 16 bytes.\n",
@@ -26,9 +15,12 @@ fn say_meaning(number: u64) {
         4 => say(
             b"The sheet file is damaged: its records are not whole, or their versions do not rise.\n",
         ),
-        5 => say(
-            b"The response is damaged or cut short: a line or a field of it is not as it must be.\n",
-        ),
+        5 => {
+            say(
+                b"The response is damaged or cut short: a line or a field of it is not as it must be.\n",
+            );
+            say_lines(response);
+        }
         6 => say(
             b"The response belongs to another request or another label, or the request line is broken.\n",
         ),
@@ -64,7 +56,7 @@ fn say_meaning(number: u64) {
 
 // Says how far the lines of a response reach.
 fn say_lines(response: &[u8]) {
-    let lines = whole_lines(response);
+    let lines = ended_lines(response);
     say(b"Whole lines in it: ");
     say_number(lines.count);
     say(b", up to byte ");
@@ -74,12 +66,10 @@ fn say_lines(response: &[u8]) {
     say(b".\n");
 }
 
-// Says a number.
 fn say_number(n: usize) {
     io::print_decimal(STDERR_FILENO, n as u64);
 }
 
-// Says a sentence, or a part of one.
-fn say(sentence: &[u8]) {
-    io::write_all(STDERR_FILENO, sentence);
+fn say(text: &[u8]) {
+    io::write_all(STDERR_FILENO, text);
 }

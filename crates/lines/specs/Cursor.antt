@@ -1,6 +1,6 @@
 -- Reading on from a place (paper 01, Response lines): what is left of a text and the line that begins there, the field that begins at a place of a line, and the place after it.
 use mathlib.Core.List.{List, []}
-use mathlib.Core.Option.{Option, some, Option·map, bind as _>>=_}
+use mathlib.Core.Option.{Option, none, some, Option·map, bind as _>>=_}
 use Prim.Native.Nat.{ℕ, _+_}
 use lib.Dec.{leb, ltb}
 use lib.ListN.{length, drop}
@@ -17,6 +17,11 @@ unfoldable pub lineAt : Bytes → ℕ → Option (ℕ × ℕ)
 lineAt s at =
     let stop = at + length (before newline (drop at s)) in
     provided (ltb stop (length s)) (stop, stop + 1)
+
+-- the place behind a line that was read at a place; that place, where there was none
+unfoldable pub behind : Option (ℕ × ℕ) → ℕ → ℕ
+behind none at = at
+behind (some (stop, next)) at = next
 
 -- the field at a place of a line: up to the next tab, or to the line's end
 unfoldable pub fieldAt : Bytes → ℕ → Bytes

@@ -2,7 +2,7 @@
 ghost use mathlib.Core.Path.{_≡_};
 ghost use Rattle.lines.specs.Number.{readNumber};
 ghost use Rattle.lines.specs.Hex.{spelledLength};
-ghost use Rattle.lines.specs.Cursor.{leftAt, lineAt, fieldAt, readAt, wordAt};
+ghost use Rattle.lines.specs.Cursor.{leftAt, lineAt, behind, fieldAt, readAt, wordAt};
 ghost use Rattle.lines.specs.Readings.{lineOf, wordOf, nextNumberOf, nextBytesOf};
 use crate::hex::Spelling;
 use crate::hex::spelled_length;
@@ -65,6 +65,16 @@ impl Cursor {
             };
         }
         NextLine::Open
+    }
+
+    // The place behind a line that was read here; this one, where no newline ended it.
+    pub fn behind(self, line: NextLine) -> usize
+        ensures { λ r. ⌜ r ≡ behind (lineOf line) (self .at) ⌝ }
+    {
+        match line {
+            NextLine::Ended { stop: _, next } => next.at,
+            NextLine::Open => self.at,
+        }
     }
 
     // The field that begins here in a line: the part of the line that it fills.

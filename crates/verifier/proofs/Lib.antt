@@ -6,8 +6,9 @@ pub mod RequestLaws
 pub mod AnswerLineLaws
 pub mod SignedTextExportLaws
 pub mod FilesLaws
-pub mod SaidLaws
-pub mod ReaderLaws
-pub mod ApartLaws
-pub mod TextPlaceLaws
-pub mod SeenLaws
+pub mod ByHandLaws
+pub mod ReaderTakenLaws
+pub mod CursorAskedLaws
+pub mod ReaderMadeLaws
+pub mod ReaderBehindLaws
+pub mod ReadOnLaws

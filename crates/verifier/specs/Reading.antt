@@ -1,20 +1,24 @@
--- A text that is read on from a place (paper 01, Response lines): what its reader sees there.
+-- Reading a text on from a place (paper 01, Response lines), line by line.
 use mathlib.Core.Option.{Option}
 use Prim.Native.Nat.{ℕ}
 use Rattle.lists.specs.Lists.{Bytes}
-use Rattle.lines.specs.Cursor.{leftAt, lineAt}
+use Rattle.lines.specs.Cursor.{leftAt, lineAt, behind}
 use Rattle.lines.specs.Readings.{lineOf}
-use Rattle.verifier.specs.declared.reading.Seen.{Seen as SeenBlock}
+use Rattle.verifier.specs.declared.reading.ReadOn.{ReadOn as ReadOnBlock}
 
-pub record Seen : Type 0 where
+-- a line, if a newline ends it: where it stops and where the next one begins; the place behind it; how many bytes are left from there on
+pub record ReadOn : Type 0 where
+  pub line : Option (ℕ × ℕ)
   pub place : ℕ
   pub left : ℕ
-  pub line : Option (ℕ × ℕ)
 
--- at a place: it, how many bytes are left, and the line that begins there
-unfoldable pub seenAt : Bytes → ℕ → Seen
-seenAt s at = record { place = at; left = leftAt s at; line = lineAt s at }
+-- what is read at a place of a text
+unfoldable pub readOn : Bytes → ℕ → ReadOn
+readOn s at =
+    let line = lineAt s at in
+    let place = behind line at in
+    record { line = line; place = place; left = leftAt s place }
 
 -- as the struct has it
-unfoldable pub seenOf : SeenBlock → Seen
-seenOf r = record { place = r .place; left = r .left; line = lineOf (r .line) }
+unfoldable pub readOnOf : ReadOnBlock → ReadOn
+readOnOf r = record { line = lineOf (r .line); place = r .place; left = r .left }

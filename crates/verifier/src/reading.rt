@@ -1,30 +1,48 @@
 // A text kept together with a place in it (paper 01, Response lines): the reader through which the program reads a response on, line by line.
 ghost use mathlib.Core.Path.{_≡_};
-ghost use Rattle.lines.specs.Cursor.{leftAt, lineAt};
+ghost use Rattle.lines.specs.Cursor.{leftAt, lineAt, behind};
 ghost use Rattle.lines.specs.Readings.{lineOf};
-ghost use Rattle.verifier.specs.Reading.{seenAt, seenOf};
+ghost use Rattle.verifier.specs.Reading.{readOn, readOnOf};
 use lines::cursor::Cursor;
 use lines::cursor::NextLine;
 
 // A text, and a place from which it is read on.
 pub struct Reader<'a> {
-    src: &'a [u8],
+    text: &'a [u8],
     at: usize,
 }
 
-// What a reader sees: its place, how many bytes are left from there on, and the line that begins there.
-pub struct Seen {
+// A line that was read, the reader's place behind it, and how many bytes are left from there on.
+pub struct ReadOn {
+    pub line: NextLine,
     pub place: usize,
     pub left: usize,
-    pub line: NextLine,
 }
 
 impl<'a> Reader<'a> {
     // The reader of a text from a place on.
-    pub fn new(src: &'a [u8], at: usize) -> Reader<'a>
-        ensures { λ r. ⌜ (r .src ≡ src .entry) × (r .at ≡ at) ⌝ }
+    pub fn new(text: &'a [u8], at: usize) -> Reader<'a>
+        ensures { λ r. ⌜ (r .text ≡ text .entry) × (r .at ≡ at) ⌝ }
     {
-        Reader { src, at }
+        Reader { text, at }
+    }
+
+    // The line that begins at the place.
+    pub fn line(self) -> NextLine
+        ensures { λ r. ⌜ lineOf r ≡ lineAt (now (self .entry .text)) (self .entry .at) ⌝ }
+    {
+        Cursor { at: self.at }.line(self.text)
+    }
+
+    // The reader behind a line that was read at the place; at the place, where no newline ended it.
+    pub fn behind(self, line: NextLine) -> Reader<'a>
+        ensures { λ r. ⌜ (r .text ≡ self .entry .text) × (r .at ≡ behind (lineOf line) (self .entry .at)) ⌝ }
+    {
+        let at = Cursor { at: self.at }.behind(line);
+        Reader {
+            text: self.text,
+            at,
+        }
     }
 
     // The place.
@@ -34,29 +52,24 @@ impl<'a> Reader<'a> {
         self.at
     }
 
-    // How many bytes are left.
+    // The number of bytes from the place on.
     pub fn left(self) -> usize
-        ensures { λ r. ⌜ r ≡ leftAt (now (self .entry .src)) (self .entry .at) ⌝ }
+        ensures { λ r. ⌜ r ≡ leftAt (now (self .entry .text)) (self .entry .at) ⌝ }
     {
-        Cursor { at: self.at }.left(self.src)
-    }
-
-    // The line that begins at the place.
-    pub fn line(self) -> NextLine
-        ensures { λ r. ⌜ lineOf r ≡ lineAt (now (self .entry .src)) (self .entry .at) ⌝ }
-    {
-        Cursor { at: self.at }.line(self.src)
+        Cursor { at: self.at }.left(self.text)
     }
 }
 
-// What the reader of a text sees at a place.
-pub fn read_on(text: &[u8], at: usize) -> Seen
-    ensures { λ r. ⌜ seenOf r ≡ seenAt (now (text .entry)) at ⌝ }
+// Reads the line that begins at a place of a text, and goes behind it.
+pub fn read_on(text: &[u8], at: usize) -> ReadOn
+    ensures { λ r. ⌜ readOnOf r ≡ readOn (now (text .entry)) at ⌝ }
 {
     let reader = Reader::new(text, at);
-    Seen {
-        place: reader.place(),
-        left: reader.left(),
-        line: reader.line(),
+    let line = reader.line();
+    let after = reader.behind(line);
+    ReadOn {
+        line,
+        place: after.place(),
+        left: after.left(),
     }
 }

@@ -10,8 +10,8 @@ use denote.Triple.Table.{entered, cited}
 use Rattle.lists.specs.Lists.{Bytes}
 use Rattle.lines.proofs.cursor.Cursor.left.Symbol as cursor
 use Rattle.lines.proofs.cursor.Cursor.left.Met.{met}
-use Rattle.verifier.proofs.ReaderLaws.{Contracted}
-use Rattle.verifier.proofs.ApartLaws.{Same, CursorCall, apart-meets}
+use Rattle.verifier.proofs.ReaderTakenLaws.{Contracted}
+use Rattle.verifier.proofs.CursorAskedLaws.{Same, CursorCall, apart-meets}
 use Rattle.verifier.proofs.reading.Reader.left.Key.{name}
 use Rattle.verifier.proofs.reading.Reader.left.Statement.{statement}
 use Rattle.verifier.proofs.reading.Reader.left.Code as code

@@ -12,8 +12,8 @@ use Rattle.lines.proofs.cursor.NextLine as L
 use Rattle.lines.proofs.cursor.NextLine.Laws as L′
 use Rattle.lines.proofs.cursor.Cursor.line.Symbol as cursor
 use Rattle.lines.proofs.cursor.Cursor.line.Met.{met}
-use Rattle.verifier.proofs.ReaderLaws.{Contracted}
-use Rattle.verifier.proofs.ApartLaws.{Same, CursorCall, apart-meets}
+use Rattle.verifier.proofs.ReaderTakenLaws.{Contracted}
+use Rattle.verifier.proofs.CursorAskedLaws.{Same, CursorCall, apart-meets}
 use Rattle.verifier.proofs.reading.Reader.line.Key.{name}
 use Rattle.verifier.proofs.reading.Reader.line.Statement.{statement}
 use Rattle.verifier.proofs.reading.Reader.line.Code as code

@@ -1,4 +1,4 @@
--- A function that takes a reader apart (src/reading.rt) and asks a cursor at its place of its text: it says of the reader what the cursor's function says.
+-- Functions that take a reader apart and ask a cursor at its place of its text (src/reading.rt): each says of the reader what the cursor's function says of text and place.
 use mathlib.Core.Path.{_≡_, refl}
 use mathlib.Core.List.{List, [], _∷_}
 use Prim.Native.Nat.{ℕ, _<_, _^_}
@@ -35,10 +35,10 @@ use Rattle.lines.proofs.cursor.Cursor.Laws as C′
 use Rattle.verifier.specs.declared.reading.Reader.{Reader}
 use Rattle.verifier.proofs.reading.Reader as T
 use Rattle.verifier.proofs.reading.Reader.Laws as T′
-use Rattle.verifier.proofs.SaidLaws.{Token, signature, Call, at, calls}
-use Rattle.verifier.proofs.ReaderLaws.{Contracted, Entry, Post, Own, begins, exits, twice, meets}
+use Rattle.verifier.proofs.ByHandLaws.{Token, signature, Call, at, calls}
+use Rattle.verifier.proofs.ReaderTakenLaws.{Contracted, Entry, Post, Own, begins, exits, twice, meets}
 
--- its MIR, by the function called and the type of what it answers
+-- the code of such a function, by the function called and the type of its answer
 abbrev pub apart : Name → Ty → Fn
 apart f ty =
     record {
@@ -71,11 +71,11 @@ remain = (yes, (yes, tt))
 module _ (R : RattleType) (Says : Bytes → ℕ → R .Denot → Type 0) where
   -- of the reader the same is said
   abbrev pub Same : Reader → R .Denot → Type 0
-  Same d = Says (now (d .src)) (d .at)
+  Same d = Says (now (d .text)) (d .at)
 
   module _ {M : Type 1} (𝓤 : URA M) (H : Heap 𝓤) (A : Atoms 𝓤) where
     abbrev pub CursorCall : Contract 𝓤
-    CursorCall = Call handedOver remain (λ κs. R) (λ κs a r. Says (now (a .1 .0)) (a .0 .at) r) 𝓤 H A
+    CursorCall = Call 1 handedOver remain (λ κs. R) (λ κs a r. Says (now (a .1 .0)) (a .0 .at) r) 𝓤 H A
 
     module _ (W : Given 𝓤 H A) (κ : Lft) (q : Share) (d : Reader) where
       abbrev α : NamedLft
@@ -85,11 +85,11 @@ module _ (R : RattleType) (Says : Bytes → ℕ → R .Denot → Type 0) where
       cursor = record { at = d .at }
 
       -- cursor and text as the machine has them
-      abbrev handed : Vals (signature handedOver remain (λ κs. R)) (κ, tt)
-      handed = (C′.lowered cursor ∷ [], (sliceVal (d .src .ptr) (length (now (d .src))) ∷ [], tt))
+      abbrev handed : Vals (signature 1 handedOver remain (λ κs. R)) (κ, tt)
+      handed = (C′.lowered cursor ∷ [], (sliceVal (d .text .ptr) (length (now (d .text))) ∷ [], tt))
 
       abbrev asked : CursorCall .Ghost
-      asked = at handedOver remain (λ κs. R) (λ κs a r. Says (now (a .1 .0)) (a .0 .at) r) 𝓤 H A κ q (cursor, (d .src, tt)) handed
+      asked = at 1 handedOver remain (λ κs. R) (λ κs a r. Says (now (a .1 .0)) (a .0 .at) r) 𝓤 H A (κ, tt) (q, tt) (cursor, (d .text, tt)) handed
 
       abbrev Owned : Fml
       Owned = Own R Same 𝓤 H A W κ q d (T′.lowered d)
@@ -97,35 +97,35 @@ module _ (R : RattleType) (Says : Bytes → ℕ → R .Denot → Type 0) where
       -- of a reader that is owned twice over, one is opened: its text goes to the function called, with a cursor at its place
       hands : d .at < 2 ^ 64 → ent 𝓤 (Entry R Same 𝓤 H A W κ q d) (sep 𝓤 (CursorCall .pre asked) (sem 𝓤 H A Owned))
       hands fits =
-          qed W (raw (Entry R Same 𝓤 H A W κ q d) ∷ []) ∵ use1 W (‵ Owned ⊛ Token 𝓤 κ q) (begins R Same 𝓤 H A W κ q d) $ split ! $
+          qed W (raw (Entry R Same 𝓤 H A W κ q d) ∷ []) ∵ use1 W (‵ Owned ⊛ Token 𝓤 A κ q) (begins R Same 𝓤 H A W κ q d) $ split ! $
           use1 W (‵ Owned ⊛ ‵ Owned) (twice R Same 𝓤 H A W κ q d (T′.lowered d)) $ split ! $
-          use1 W (given (T′.lowered d ∷ [] ≡ T′.lowered d ∷ []) (‵ (all-own (T.the-type α .parts) (T′.the-laws α) (d .src, (d .at, tt))))) (own-open 𝓤 H A W (T.the-type α) (T′.the-laws α) (d .src, (d .at, tt)) (T′.lowered d)) $ learn ! (λ _.
-          use1 W (‵ (ownAt (T.the-type α .parts) (T′.the-laws α) 0 (d .src)) ⊛ ‵ (rest (T.the-type α .parts) (T′.the-laws α) 0 (d .src, (d .at, tt)))) (own-out 𝓤 H A W (T.the-type α .parts) (T′.the-laws α) 0 (d .src, (d .at, tt))) $ split ! $
-          -- [what the text owns; what the place owns; what the reader owns; the token]
+          use1 W (given (T′.lowered d ∷ [] ≡ T′.lowered d ∷ []) (‵ (all-own (T.the-type α .parts) (T′.the-laws α) (d .text, (d .at, tt))))) (own-open 𝓤 H A W (T.the-type α) (T′.the-laws α) (d .text, (d .at, tt)) (T′.lowered d)) $ learn ! (λ _.
+          use1 W (‵ (ownAt (T.the-type α .parts) (T′.the-laws α) 0 (d .text)) ⊛ ‵ (rest (T.the-type α .parts) (T′.the-laws α) 0 (d .text, (d .at, tt)))) (own-out 𝓤 H A W (T.the-type α .parts) (T′.the-laws α) 0 (d .text, (d .at, tt))) $ split ! $
+          -- here: what the text owns; what the place owns; what the reader owns; the token
           move ! (1 ∷ []) $ drop ! $ nothing ! $ move ! (1 ∷ 0 ∷ []) $ fjoin ! $
           nothing ! $ owned ! usize (Is usize) (uint-makes 𝓤 H A W w64) (d .at) _ (refl, fits) $ fjoin ! $
           use1 W (‵ (C.the-row .own cursor (C′.lowered cursor ∷ []))) (own-shut 𝓤 H A W C.the-type C′.the-laws (d .at, tt)) $ fjoin ! $ move ! (2 ∷ 0 ∷ []) $
-          use2 W (raw (CursorCall .pre asked)) (qed W (Token 𝓤 κ q ∷ ‵ (owns (C.the-row ∷ ShrSlice (named 0) κ u8 ∷ []) (cursor, (d .src, tt)) handed) ∷ []) ∵ join ! $ frame ! $ done !) $ frame ! $ done !)
+          use2 W (raw (CursorCall .pre asked)) (qed W (Token 𝓤 A κ q ∷ ‵ (owns (C.the-row ∷ ShrSlice (named 0) κ u8 ∷ []) (cursor, (d .text, tt)) handed) ∷ []) ∵ join ! $ frame ! $ done !) $ frame ! $ done !)
 
       module _ (ty : Ty) (typed : (r : R .Denot) (u : Val) → Is R r (u ∷ []) → Holds (hasTy ty u) × WT u) (C : Calls 𝓤 H) (Λ : Loops 𝓤 H) (fm : FmC 𝓤 H (W .laws) C) (f : Name) (known : Triple 𝓤 (C f) CursorCall) where
-        walk : Holds (hasTy (T′.mir (named 0)) (T′.lowered d)) × WT (T′.lowered d) → ent 𝓤 (Entry R Same 𝓤 H A W κ q d) (WpFn 𝓤 H C Λ (apart f ty) (T′.lowered d ∷ []) (Post R Same 𝓤 H A W κ q d))
-        walk wt =
+        follow : Holds (hasTy (T′.mir (named 0)) (T′.lowered d)) × WT (T′.lowered d) → ent 𝓤 (Entry R Same 𝓤 H A W κ q d) (WpFn 𝓤 H C Λ (apart f ty) (T′.lowered d ∷ []) (Post R Same 𝓤 H A W κ q d))
+        follow wt =
             qed W (raw (Entry R Same 𝓤 H A W κ q d) ∷ []) ∵ enter ! C Λ (apart f ty) (T′.lowered d ∷ []) _ $
             alloc1 ! (λ l₀. alloc1 ! (λ l₁. alloc1 ! (λ l₂. alloc1 ! (λ l₃. alloc1 ! (λ l₄. alloc0 ! $ params1 ! $ pass1 ! (init ! 6 refl wt) $ pass0 ! $
             assigns ! (of-opd ! (load ! (from ! (fld ! refl (stop !))) (look-in ! 6 (sub ! 1 refl (whole !))))) (from ! (stop !)) (init ! 4 refl (tt, wt .1 .1 .0)) $
             assigns ! (agg ! (and-then ! (load ! (from ! (stop !)) (look ! 4 refl)) (no-more !))) (from ! (stop !)) (init ! 2 refl (tt, (wt .1 .1 .0, tt))) $
             assigns ! (of-opd ! (load ! (from ! (fld ! refl (stop !))) (look-in ! 6 (sub ! 0 refl (whole !))))) (from ! (stop !)) (init ! 0 refl (tt, wt .1 .0)) $
             move ! (10 ∷ []) $ use1 W (raw (CursorCall .pre asked) ⊛ ‵ Owned) (hands (wt .1 .1 .0 .fits)) $ split ! $
-            calls handedOver remain (λ κs. R) (λ κs a r. Says (now (a .1 .0)) (a .0 .at) r) 𝓤 H A κ q (cursor, (d .src, tt)) handed ! fm known
+            calls 1 handedOver remain (λ κs. R) (λ κs a r. Says (now (a .1 .0)) (a .0 .at) r) 𝓤 H A (κ, tt) (q, tt) (cursor, (d .text, tt)) handed ! fm known
             (and-then ! (load ! (from ! (stop !)) (look ! 4 refl)) (and-then ! (load ! (from ! (stop !)) (look ! 2 refl)) (no-more !))) (λ r u e.
-            -- [the answer; the token; what the reader owns; the locals, the last first]
+            -- here: the answer; the token; what the reader owns; the locals, the last first
             peeks ! R (Is R) (shows 𝓤 H A R) r (u ∷ []) (λ is. land ! (from ! (stop !)) (init ! 11 refl (typed r u is)) $
             returns ! (look ! 11 refl) $ forget ! 3 refl $ forget ! 5 refl $ forget ! 7 refl $ forget ! 9 refl $ forget ! 11 refl $
             move ! (11 ∷ 12 ∷ []) $ free1 ! $ move ! (9 ∷ 10 ∷ []) $ free1 ! $ move ! (7 ∷ 8 ∷ []) $ free1 ! $ move ! (5 ∷ 6 ∷ []) $ free1 ! $ move ! (3 ∷ 4 ∷ []) $ free1 ! $ free0 ! $
             by ! (exits R Same 𝓤 H A W κ q d r u e))))))))
 
-    -- where the cursor's function meets its contract, the function taken apart onto it does
+    -- where the cursor's function meets its contract, such a function does
     pub apart-meets :
         (W : Given 𝓤 H A) (ty : Ty) → ((r : R .Denot) (u : Val) → Is R r (u ∷ []) → Holds (hasTy ty u) × WT u) → (f : Name) (𝓣 : Tables 𝓤 H)
         → Triple 𝓤 (𝓣 .C f) CursorCall → Triple 𝓤 (WpFn 𝓤 H (𝓣 .C) (𝓣 .Λ) (apart f ty)) (Contracted R Same 𝓤 H A)
-    apart-meets W ty typed f 𝓣 known = meets R Same 𝓤 H A W (apart f ty) 𝓣 (λ κ q d. walk W κ q d ty typed (𝓣 .C) (𝓣 .Λ) (fmOf 𝓤 H (W .laws) 𝓣) f known)
+    apart-meets W ty typed f 𝓣 known = meets R Same 𝓤 H A W (apart f ty) 𝓣 (λ κ q d. follow W κ q d ty typed (𝓣 .C) (𝓣 .Λ) (fmOf 𝓤 H (W .laws) 𝓣) f known)

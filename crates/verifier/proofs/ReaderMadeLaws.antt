@@ -1,4 +1,4 @@
--- Functions that take a text and a place and make a reader (src/reading.rt), which the borrow checker does not cover: what they have at entry and owe at exit, and what their callers have.
+-- Functions that take a text and a place and make a reader (src/reading.rt): what they have at entry and owe at exit, and what their callers have.
 use mathlib.Core.Path.{refl}
 use mathlib.Core.List.{List, [], _∷_}
 use Prim.Native.Nat.{ℕ, _<_, _^_}
@@ -29,7 +29,7 @@ use denote.Triple.Walked.{says, Stays, stay-none, stay-none-slice, walkOf, goes-
 use denote.Exit.{yes}
 use denote.Triple.End.{Kepts}
 use Rattle.lists.specs.Lists.{Bytes}
-use Rattle.verifier.proofs.SaidLaws.{Token, signature, ended, clauses, Call, at}
+use Rattle.verifier.proofs.ByHandLaws.{Token, signature, ended, clauses, Call, at}
 
 -- the two parameters, which stay as they are
 abbrev pub taken : List (Slot 1)
@@ -44,62 +44,62 @@ stayed = (stay-none-slice (0 ∷ []) tt (plain (λ κs. u8)) yes, (stay-none (λ
 -- the function answers an R at its lifetime, and says something of it, the text and the place
 module _ (R : Lfts 1 → RattleType) (Says : (κs : Lfts 1) → RefT Bytes → ℕ → R κs .Denot → Type 0) {M : Type 1} (𝓤 : URA M) (H : Heap 𝓤) (A : Atoms 𝓤) where
   abbrev pub Contracted : Contract 𝓤
-  Contracted = Call taken kept R (λ κs a r. Says κs (a .0) (a .1 .0) r) 𝓤 H A
+  Contracted = Call 1 taken kept R (λ κs a r. Says κs (a .0) (a .1 .0) r) 𝓤 H A
 
-  abbrev said : Clauses 𝓤 (ended taken kept R)
-  said = clauses taken kept R (λ κs a r. Says κs (a .0) (a .1 .0) r) 𝓤
+  abbrev said : Clauses 𝓤 (ended 1 taken kept R)
+  said = clauses 1 taken kept R (λ κs a r. Says κs (a .0) (a .1 .0) r) 𝓤
 
   module _ (W : Given 𝓤 H A) (κ : Lft) (q : Share) (s : RefT Bytes) (n : ℕ) where
     -- the text as the machine has it
     abbrev pub text : Val
     text = sliceVal (s .ptr) (length (now s))
 
-    abbrev handed : Vals (signature taken kept R) (κ, tt)
+    abbrev handed : Vals (signature 1 taken kept R) (κ, tt)
     handed = (text ∷ [], (vint w64 n ∷ [], tt))
 
     abbrev pub asked : Contracted .Ghost
-    asked = at taken kept R (λ κs a r. Says κs (a .0) (a .1 .0) r) 𝓤 H A κ q (s, (n, tt)) handed
+    asked = at 1 taken kept R (λ κs a r. Says κs (a .0) (a .1 .0) r) 𝓤 H A (κ, tt) (q, tt) (s, (n, tt)) handed
 
     abbrev pub Entry : SProp 𝓤
-    Entry = onEntry 𝓤 H A (signature taken kept R) (κ, tt) (q, tt) (s, (n, tt)) handed
+    Entry = onEntry 𝓤 H A (signature 1 taken kept R) (κ, tt) (q, tt) (s, (n, tt)) handed
 
     abbrev pub Post : Val → SProp 𝓤
-    Post = walkOf 𝓤 H A (ended taken kept R) stayed said .post asked
+    Post = walkOf 𝓤 H A (ended 1 taken kept R) stayed said .post asked
 
     abbrev pub Own : Fml
     Own = ShrSlice (named 0) κ u8 .own s (text ∷ [])
 
-    -- a walk begins with what the text owns and the token
-    pub begins : ent 𝓤 Entry (⋆ 𝓤 H A (‵ Own ∷ Token 𝓤 κ q ∷ []))
+    -- at entry: what the text owns, and the token
+    pub begins : ent 𝓤 Entry (⋆ 𝓤 H A (‵ Own ∷ Token 𝓤 A κ q ∷ []))
     begins =
-        qed W (Token 𝓤 κ q ∷ ‵ (owns (ShrSlice (named 0) κ u8 ∷ usize ∷ []) (s, (n, tt)) handed) ∷ []) ∵
+        qed W (Token 𝓤 A κ q ∷ ‵ (owns (ShrSlice (named 0) κ u8 ∷ usize ∷ []) (s, (n, tt)) handed) ∷ []) ∵
         move ! (1 ∷ []) $ fsplit ! $ move ! (1 ∷ []) $ drop ! $ frame ! $ done !
 
-    -- and ends with the answer, the token and what the text owns
-    pub exits : n < 2 ^ 64 → (r : R (κ, tt) .Denot) (u : Val) → Says (κ, tt) s n r → ent 𝓤 (⋆ 𝓤 H A (‵ (R (κ, tt) .own r (u ∷ [])) ∷ Token 𝓤 κ q ∷ ‵ Own ∷ [])) (Post u)
+    -- at exit: the answer, the token, and what the text owns
+    pub exits : n < 2 ^ 64 → (r : R (κ, tt) .Denot) (u : Val) → Says (κ, tt) s n r → ent 𝓤 (⋆ 𝓤 H A (‵ (R (κ, tt) .own r (u ∷ [])) ∷ Token 𝓤 A κ q ∷ ‵ Own ∷ [])) (Post u)
     exits fits r u e =
-        qed W (‵ (R (κ, tt) .own r (u ∷ [])) ∷ Token 𝓤 κ q ∷ ‵ Own ∷ []) ∵
-        suffices ! _ (ends-at 𝓤 H A (ended taken kept R) stayed said W asked u r (tt, (tt, tt)) (tt, (tt, tt))) $ says ! e $
+        qed W (‵ (R (κ, tt) .own r (u ∷ [])) ∷ Token 𝓤 A κ q ∷ ‵ Own ∷ []) ∵
+        suffices ! _ (ends-at 𝓤 H A (ended 1 taken kept R) stayed said W asked u r (tt, (tt, tt)) (tt, (tt, tt))) $ says ! e $
         move ! (1 ∷ []) $ frame ! $ nothing ! $ owned ! usize (Is usize) (uint-makes 𝓤 H A W w64) n _ (refl, fits) $ fjoin ! $ move ! (2 ∷ 0 ∷ []) $ fjoin ! $ frame ! $ done !
 
     -- a text can be copied: its owner hands it over and still owns it
     pub twice : ent 𝓤 (sem 𝓤 H A Own) (sep 𝓤 (sem 𝓤 H A Own) (sem 𝓤 H A Own))
     twice = shr-slice-copy 𝓤 H A W (named 0) κ u8 .twice s (text ∷ [])
 
-    pub hands : n < 2 ^ 64 → ent 𝓤 (⋆ 𝓤 H A (‵ Own ∷ Token 𝓤 κ q ∷ [])) (sep 𝓤 (Contracted .pre asked) (sem 𝓤 H A Own))
+    pub hands : n < 2 ^ 64 → ent 𝓤 (⋆ 𝓤 H A (‵ Own ∷ Token 𝓤 A κ q ∷ [])) (sep 𝓤 (Contracted .pre asked) (sem 𝓤 H A Own))
     hands fits =
-        qed W (‵ Own ∷ Token 𝓤 κ q ∷ []) ∵ use1 W (‵ Own ⊛ ‵ Own) twice $ split ! $
+        qed W (‵ Own ∷ Token 𝓤 A κ q ∷ []) ∵ use1 W (‵ Own ⊛ ‵ Own) twice $ split ! $
         nothing ! $ owned ! usize (Is usize) (uint-makes 𝓤 H A W w64) n _ (refl, fits) $ fjoin ! $ move ! (1 ∷ 0 ∷ []) $ fjoin ! $ move ! (2 ∷ 0 ∷ []) $
-        use2 W (raw (Contracted .pre asked)) (qed W (Token 𝓤 κ q ∷ ‵ (owns (ShrSlice (named 0) κ u8 ∷ usize ∷ []) (s, (n, tt)) handed) ∷ []) ∵ join ! $ frame ! $ done !) $ frame ! $ done !
+        use2 W (raw (Contracted .pre asked)) (qed W (Token 𝓤 A κ q ∷ ‵ (owns (ShrSlice (named 0) κ u8 ∷ usize ∷ []) (s, (n, tt)) handed) ∷ []) ∵ join ! $ frame ! $ done !) $ frame ! $ done !
 
-  -- a walk at every text and place meets the contract
+  -- a proof at every text and place shows the contract
   pub meets :
       (W : Given 𝓤 H A) (body : Fn) (𝓣 : Tables 𝓤 H)
       → ((κ : Lft) (q : Share) (s : RefT Bytes) (n : ℕ) → n < 2 ^ 64 → Holds (hasTy (sliceTy (tyRef (named 0) imm (tyInt w8))) (text W κ q s n)) × WT (text W κ q s n)
       → ent 𝓤 (Entry W κ q s n) (WpFn 𝓤 H (𝓣 .C) (𝓣 .Λ) body (text W κ q s n ∷ vint w64 n ∷ []) (Post W κ q s n)))
       → Triple 𝓤 (WpFn 𝓤 H (𝓣 .C) (𝓣 .Λ) body) Contracted
-  meets W body 𝓣 walk =
+  meets W body 𝓣 follow =
       let run = WpFn 𝓤 H (𝓣 .C) (𝓣 .Λ) body in
-      walk-meets 𝓤 H A (ended taken kept R) stayed W (goes-none-slice 𝓤 H A W 1 (0 ∷ []) tt (plain (λ κs. u8)) yes, (goes-none 𝓤 H A W 1 (λ κs. usize) yes (λ κs x f. refl), tt)) said run (WpFn-mono 𝓤 H (W .laws) 𝓣 body)
-      (walked 𝓤 H A (ended taken kept R) stayed said run (λ κs. (slice-vals, (uint-vals w64, tt))) (λ κs. (shr-slice-tells (named 0) (κs .0) u8, (uint-tells w64, tt)))
-      (λ κs qs bounds a g are. via 𝓤 _ (fst∗ 𝓤 _ (emp 𝓤)) (walk (κs .0) (qs .0) (a .0) (a .1 .0) (are .1 .0 .1) (shr-slice-lawful 𝓤 H A W (named 0) (κs .0) u8 .typed (a .0) _ (are .0) .0))))
+      walk-meets 𝓤 H A (ended 1 taken kept R) stayed W (goes-none-slice 𝓤 H A W 1 (0 ∷ []) tt (plain (λ κs. u8)) yes, (goes-none 𝓤 H A W 1 (λ κs. usize) yes (λ κs x f. refl), tt)) said run (WpFn-mono 𝓤 H (W .laws) 𝓣 body)
+      (walked 𝓤 H A (ended 1 taken kept R) stayed said run (λ κs. (slice-vals, (uint-vals w64, tt))) (λ κs. (shr-slice-tells (named 0) (κs .0) u8, (uint-tells w64, tt)))
+      (λ κs qs bounds a g are. via 𝓤 _ (fst∗ 𝓤 _ (emp 𝓤)) (follow (κs .0) (qs .0) (a .0) (a .1 .0) (are .1 .0 .1) (shr-slice-lawful 𝓤 H A W (named 0) (κs .0) u8 .typed (a .0) _ (are .0) .0))))
