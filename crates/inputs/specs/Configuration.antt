@@ -41,7 +41,7 @@ configurationIn s c =
       maximumLifetime = lifetimeOf (c .lifetime);
     }
 
--- what was read, if it could be
+-- what was read; bytes that do not read are refused with 2
 abbrev pub configurationOf : Bytes → ReadConfiguration → Option Configuration
 configurationOf s (Read c) = some (configurationIn s c)
 configurationOf s Broken = none

@@ -53,7 +53,7 @@ partsIn s r =
       nodes = nodesIn (partOf s (r .nodes .part));
     }
 
--- what was read, if it could be
+-- what was read; bytes that do not read are refused with 5
 abbrev pub partsOf : Bytes → ReadResponse → Option Parts
 partsOf s (Read r) = some (partsIn s r)
 partsOf s Broken = none
@@ -84,12 +84,12 @@ pub record Filled (s : Bytes) (r : Response) : Type 0 where
   pub noneLoose : looseIn (partOf s (r .entries .part)) ≡ []
   pub nodes : AllRead readNode (partOf s (r .nodes .part))
 
--- opening and value of a search are fields that spell byte strings
+-- opening and value of a search are parts that spell byte strings
 abbrev pub TargetSpells : Bytes → Kind → Target → Type 0
 TargetSpells s Search t = Spells s (t .opening) × Spells s (t .value)
 TargetSpells s Monitor t = Unit {0}
 
--- and so are all fields that are handed on as parts
+-- and so are all parts that are handed on
 pub record Fields (s : Bytes) (r : Response) : Type 0 where
   pub identifier : Spells s (r .identifier)
   pub label : Spells s (r .label)

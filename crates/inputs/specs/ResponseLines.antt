@@ -34,7 +34,7 @@ use Rattle.inputs.specs.declared.response_lines.LastParts.the-variants.{
 unfoldable pub spelled : Bytes → Bytes
 spelled f = Option·getD (readHex f) []
 
--- a part is a field that spells a byte string
+-- the bytes of a part spell a byte string
 abbrev pub Spells : Bytes → Part → Type 0
 Spells s p = given (readHex (partOf s p)) ≡ true
 

@@ -43,7 +43,7 @@ impl State {
     // The longest text.
     pub const TEXT: usize = 8192;
 
-    // The state to begin with, for a label; for one that is too long, refusal 1 and the state of the empty label.
+    // The state to begin with, for a label; a label that is too long is refused with 1, and gives that of the empty one.
     pub fn new(label: &[u8]) -> NumberedState
         ensures { λ r. ⌜ r ≡ numberedBlock (newState (now (label .entry))) ⌝ }
     {

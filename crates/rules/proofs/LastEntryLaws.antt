@@ -47,7 +47,7 @@ OutputsFit output t = (v : ℕ) → List·Memᴰ v (ladder t) → length (output
 
 -- ---- the last entry of the log
 
--- short entries, then whole ones: the last is whole
+-- where short entries stand before whole ones, the last one is whole
 last-complete : (vs : List ℕ) (t : ℕ) (e : Entry) (es : List Entry) → earlyThenComplete vs t (e ∷ es) ≡ true → isComplete vs t (lastOr e es) ≡ true
 unfolding earlyThenComplete lastOr
 last-complete vs t e [] h = go (isComplete vs t e) refl

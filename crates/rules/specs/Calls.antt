@@ -52,7 +52,7 @@ unfoldable pub numberOf : Judgement → ℕ
 numberOf (refused k) = k
 numberOf (passed c) = 0
 
--- size n, its full-subtree values, the time of n - 1, the new map
+-- the log as the response shows it, and the new map
 unfoldable pub nextState : Call → State
 nextState c =
     record {

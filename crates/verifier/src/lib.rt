@@ -1,4 +1,4 @@
-// The verifier: the library that C programs link, and what the program makes of its files.
+// The verifier: the library that C programs link, what the program makes of its files, and the reader that it reads a response on with.
 mod answer_line;
 pub mod exports;
 pub mod files;
