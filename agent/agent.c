@@ -9,7 +9,8 @@
  * `request`: the kind, the identifier in hex and the clock, parted by tabs, in one line.
  *
  * It prints one line. The exit status is 0 where the answer is accepted, 1 where it is refused, which leaves KEPT as it is,
- * and 2 where a file cannot be read or written, which leaves each file of KEPT as it is or new.
+ * and 2 where a file cannot be read or written, which leaves each file of KEPT as it is or new. Called otherwise, or with a
+ * label of more than 255 bytes, it prints only the usage, on standard error; the exit status is 2.
  */
 #define _POSIX_C_SOURCE 200809L
 
@@ -50,7 +51,10 @@ static const char *const SENTENCES[] = {
     "No room for one more pair, 48 are kept already: run monitoring, then search again.",
 };
 
-/* A file that is read. It has one byte more than is allowed, so that the library sees and refuses one that is too long. */
+/*
+ * A file that is read. It has one byte more than is allowed, so that one that is too long is seen: by the library, which
+ * refuses it, for the request by read_request, for the signature by the chip.
+ */
 struct file {
     uint8_t *bytes;
     size_t room, length;

@@ -150,16 +150,22 @@ mod tests {
         }
     }
 
+    // Where two or more entries part: before it is the largest power of two below their count.
+    fn middle(start: u64, end: u64) -> u64 {
+        let mut half = 1;
+        while half * 2 < end - start {
+            half *= 2;
+        }
+        start + half
+    }
+
     // The value of the entries from `start` to below `end`, straight from 001, 10.8.
     fn value(start: u64, end: u64) -> Hash {
         if end - start == 1 {
             return leaf(start);
         }
-        let mut half = 1;
-        while half * 2 < end - start {
-            half *= 2;
-        }
-        let middle = start + half;
+        let middle = middle(start, end);
+        let half = middle - start;
         let mark = |size: u64| [u8::from(size > 1)];
         let (left, right) = (value(start, middle), value(middle, end));
         sha256(&[&mark(half)[..], &left, &mark(end - middle), &right].concat())
@@ -189,12 +195,9 @@ mod tests {
         } else if end - start == 1 {
             return vec![];
         }
-        let mut half = 1;
-        while half * 2 < end - start {
-            half *= 2;
-        }
-        let mut list = nodes(start, start + half, shown, kept);
-        list.extend(nodes(start + half, end, shown, kept));
+        let middle = middle(start, end);
+        let mut list = nodes(start, middle, shown, kept);
+        list.extend(nodes(middle, end, shown, kept));
         list
     }
 

@@ -215,11 +215,7 @@ fn hidden_version() -> Vec<Case> {
             }
         }
     }
-    list.push(Case::of(
-        "nl whose other leaf is the searched one",
-        12,
-        &exchange,
-    ));
+    list.push(Case::of("nl that names the searched leaf", 12, &exchange));
     list.push(Case::of(
         "nl whose other leaf stands elsewhere",
         12,

@@ -21,6 +21,19 @@ pub struct Question {
     pub size: u64,
 }
 
+impl Question {
+    /// A question at the time of the last entry, with the bytes 0 to 15 as identifier.
+    pub fn at_last_entry(log: &Log, settings: Settings, state: State, size: u64) -> Question {
+        Question {
+            identifier: (0..16).collect(),
+            clock: log.entry(size - 1).time,
+            settings,
+            state,
+            size,
+        }
+    }
+}
+
 /// An exchange written by the rules, and every reason why it must be refused all the same.
 #[derive(Clone, Debug)]
 pub struct Answer {

@@ -79,13 +79,7 @@ pub fn log(versions: &[u32]) -> Log {
 
 /// A question at the time of the last entry.
 pub fn question(log: &Log, state: State, size: u64) -> Question {
-    Question {
-        identifier: (0..16).collect(),
-        clock: log.entry(size - 1).time,
-        settings: settings(),
-        state,
-        size,
-    }
+    Question::at_last_entry(log, settings(), state, size)
 }
 
 /// An honest exchange of a small log.

@@ -42,7 +42,7 @@ pub const EXAMPLES: [(u8, &[&str]); 10] = [
     (
         12,
         &[
-            "nl whose other leaf is the searched one",
+            "nl that names the searched leaf",
             "nl whose other leaf stands elsewhere",
         ],
     ),

@@ -29,13 +29,7 @@ pub fn settings() -> Settings {
 
 /// A question at the time of the last entry.
 pub fn question(log: &Log, state: State, size: u64) -> Question {
-    Question {
-        identifier: (0..16).collect(),
-        clock: log.entry(size - 1).time,
-        settings: settings(),
-        state,
-        size,
-    }
+    Question::at_last_entry(log, settings(), state, size)
 }
 
 /// A log in which entries add a version of the label, of others, several, or nothing.
