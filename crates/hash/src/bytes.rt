@@ -1,6 +1,6 @@
 // Copying bytes, and numbers as bytes, the highest first.
 ghost use mathlib.Core.Path.{_≡_};
-ghost use Prim.Native.Nat.{_+_, _≤_};
+ghost use Prim.Native.Nat.{_+_, _*_, _≤_};
 ghost use lib.ListN.{length};
 ghost use lib.Seq.{paste};
 ghost use Rattle.hash.specs.Bytes.{bigEndian};
@@ -16,6 +16,14 @@ pub(crate) fn copy_at(dst: &mut [u8], at: usize, src: &[u8])
     }
 }
 
+// The number of four bytes.
+pub fn joined(a: u8, b: u8, c: u8, d: u8) -> u32
+    ensures { λ r. ⌜ r ≡ ((a * 256 + b) * 256 + c) * 256 + d ⌝ }
+{
+    ((a as u32 * 256 + b as u32) * 256 + c as u32) * 256 + d as u32
+}
+
+// The eight bytes of a number.
 pub fn bytes8(x: u64) -> [u8; 8]
     ensures { λ r. ⌜ (length r ≡ 8) × (r ≡ bigEndian 8 x) ⌝ }
 {

@@ -1,8 +1,9 @@
 // Words of 32 bits: the functions of FIPS 180-4, 4.1.2, sums modulo 2^32, and a word from its bytes (3.1).
 ghost use mathlib.Core.Path.{_≡_};
-ghost use Prim.Native.Nat.{_+_, _*_, _%_, _^_, _≤_};
+ghost use Prim.Native.Nat.{_+_, _%_, _^_, _≤_};
 ghost use lib.ListN.{length};
 ghost use Rattle.hash.specs.Words as Words;
+use crate::bytes::joined;
 
 pub(crate) fn ch(x: u32, y: u32, z: u32) -> u32
     ensures { λ r. ⌜ r ≡ Words.ch x y z ⌝ }
@@ -56,12 +57,6 @@ pub(crate) fn sum5(a: u32, b: u32, c: u32, d: u32, e: u32) -> u32
     ensures { λ r. ⌜ r ≡ (a + b + c + d + e) % 2 ^ 32 ⌝ }
 {
     ((a as u64 + b as u64 + c as u64 + d as u64 + e as u64) % 0x1_0000_0000) as u32
-}
-
-fn joined(a: u8, b: u8, c: u8, d: u8) -> u32
-    ensures { λ r. ⌜ r ≡ ((a * 256 + b) * 256 + c) * 256 + d ⌝ }
-{
-    ((a as u32 * 256 + b as u32) * 256 + c as u32) * 256 + d as u32
 }
 
 // The word at a place of s.

@@ -5,6 +5,7 @@ ghost use lib.ListN.{length};
 ghost use Rattle.lists.specs.Choice.{given};
 ghost use Rattle.rules.specs.VrfOutputs.{recordLength, readOutputs};
 ghost use Rattle.inputs.specs.VrfOutputs.{recordAt, IsRecordOf, IsOfSomeRecord};
+use hash::bytes::joined;
 
 // The bytes of a version, of an output, and of a record of the two.
 const VERSION: usize = 4;
@@ -93,11 +94,4 @@ fn output_at(outputs: &[u8], i: usize) -> [u8; OUTPUT]
         r[k] = outputs[at + k];
     }
     r
-}
-
-// The number that four bytes spell, the highest first.
-fn joined(a: u8, b: u8, c: u8, d: u8) -> u32
-    ensures { λ r. ⌜ r ≡ ((a * 256 + b) * 256 + c) * 256 + d ⌝ }
-{
-    ((a as u32 * 256 + b as u32) * 256 + c as u32) * 256 + d as u32
 }
