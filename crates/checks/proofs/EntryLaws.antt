@@ -26,7 +26,7 @@ use Rattle.checks.specs.declared.sections.NextEntry.the-variants.{Entry 
 use Rattle.checks.specs.declared.sections.NextLookup.{NextLookup}
 use Rattle.checks.specs.declared.sections.NextLookup.the-variants.{Lookup as LookupAt, NoLookup}
 use Rattle.checks.specs.Sections.{EntryLines, entryWord, withLookups, IsNextEntry, IsNextLookup, AfterLookups, OfLookup}
-use Rattle.checks.specs.Entries.{versionsOf, beginsLadder, askedAt, EntriesStand}
+use Rattle.checks.specs.Entries.{versionsOf, askedAt, EntriesStand}
 use Rattle.checks.proofs.LineStepLaws.{some-line, no-item-end}
 
 -- ---- the lookups of an entry
@@ -87,6 +87,10 @@ module _ (s : Bytes) (from : ℕ) (wanted : List ℕ) where
           omega arith,
           record { entries = c .entries; loose = h; lines = c .lines; forward = omega arith; within = c .within },
         )
+
+-- one version or more, from the front of the ladder
+abbrev pub beginsLadder : List ℕ → List ℕ → Bool
+beginsLadder wanted shown = ltb 0 (length shown) && begins shown wanted
 
 -- lookups that were compared with a ladder, and counted
 module _ (wanted : List ℕ) (ls : List Lookup) (begin : Bool) (count : ℕ) (b : begin ≡ begins (versionsOf ls) wanted) (k : count ≡ length ls) where

@@ -2,7 +2,7 @@
 use mathlib.Core.Path.{_≡_, refl, sym, ap, _∙_}
 use mathlib.Core.Logic.{inl}
 use mathlib.Core.Bool.{Bool, true, false, not}
-use mathlib.Core.List.{_++_}
+use mathlib.Core.List.{List, [], _∷_, _++_}
 use mathlib.Core.Option.{Option}
 use Prim.Native.Nat.{ℕ}
 use native.Mathlib.Omega.{arith}
@@ -10,13 +10,17 @@ use Rattle.lists.specs.Lists.{Bytes, same}
 use Rattle.rules.specs.Configuration.{treeHead}
 use Rattle.rules.specs.State.{State}
 use Rattle.rules.specs.Response.{Kind, Parts}
-use Rattle.rules.specs.Refusals.{Inputs, Call, refused, tried, logRoot, treeHeadOf, headDiffers, checks, lastChecks}
+use Rattle.rules.specs.Refusals.{Inputs, Call, refused, Rule, rule, tried, logRoot, treeHeadOf, headDiffers, checks, lastChecks}
 use Rattle.rules.specs.Calls.{libraryInputs}
 use Rattle.rules.proofs.RefusalLaws.{refuses, rest-tried}
 use Rattle.inputs.specs.declared.response.Response.{Response}
 use Rattle.inputs.specs.Response.{partsIn}
-use Rattle.checks.specs.Calls.{argumentsOf, numberTried, rules15, rules16, IsCall}
+use Rattle.checks.specs.Calls.{argumentsOf, numberTried, rules16, IsCall}
 use Rattle.checks.proofs.TrialLaws.{Numbered, none-applies}
+
+-- the rule tried next
+abbrev pub rules15 : List Rule
+rules15 = rule 15 headDiffers ∷ []
 
 -- no rule of 6 to 14 has the number 0
 pub numbered-checks : Numbered checks

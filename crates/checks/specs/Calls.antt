@@ -19,7 +19,7 @@ use Rattle.rules.specs.State.{MapEntry, State, versions}
 use Rattle.rules.specs.Response.{Kind, search, monitor, Target, Finding, searched, monitored, entryPositions}
 use Rattle.rules.specs.ResponseText.{readResponse}
 use Rattle.rules.specs.Refusals.{Call, Judgement, refused, passed, Rule, rule, tried, known, logWalk, logRoot, validState, readCall, foreign, sizeWrong, targetWrongIn}
-use Rattle.rules.specs.Refusals.{targetWrong, notAsAsked, outputMissing, timesWrong, lookupFails, resultsWrong, historyDiffers, headDiffers, roomMissing}
+use Rattle.rules.specs.Refusals.{targetWrong, notAsAsked, outputMissing, timesWrong, lookupFails, resultsWrong, historyDiffers, roomMissing}
 use Rattle.rules.specs.Calls.{Arguments, libraryInputs, numberOf, nextState}
 use Rattle.inputs.specs.declared.state.State.{State as StateBlock}
 use Rattle.inputs.specs.State.{blockOf}
@@ -121,9 +121,6 @@ rules14 = rule 14 historyDiffers ∷ []
 
 abbrev pub rules9to14 : List Rule
 rules9to14 = rules9to13 ++ rules14
-
-abbrev pub rules15 : List Rule
-rules15 = rule 15 headDiffers ∷ []
 
 abbrev pub rules16 : List Rule
 rules16 = rule 16 roomMissing ∷ []

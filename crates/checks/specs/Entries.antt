@@ -4,8 +4,8 @@ use mathlib.Core.Bool.{Bool, true, _&&_, cond}
 use mathlib.Core.List.{List, map}
 use Prim.Native.Nat.{ℕ, _+_}
 use lib.Dec.{leb, ltb}
-use lib.ListN.{length, take}
-use Rattle.lists.specs.Lists.{Bytes, all, begins, unfalling, lastOr}
+use lib.ListN.{take}
+use Rattle.lists.specs.Lists.{Bytes, all, unfalling, lastOr}
 use Rattle.tree.specs.LogText.{entriesAt}
 use Rattle.rules.specs.State.{State}
 use Rattle.rules.specs.Response.{Target, searched, Lookup, Entry, logEntry}
@@ -15,10 +15,6 @@ use Rattle.inputs.specs.Response.{entriesIn}
 
 abbrev pub versionsOf : List Lookup → List ℕ
 versionsOf ls = map (λ (l : Lookup). l .version) ls
-
--- one version or more, from the front of the ladder
-abbrev pub beginsLadder : List ℕ → List ℕ → Bool
-beginsLadder wanted shown = ltb 0 (length shown) && begins shown wanted
 
 -- the entries at some positions, with the same versions asked of each
 abbrev pub askedAt : List ℕ → List ℕ → List Asked

@@ -1,6 +1,6 @@
 // One block of SHA-256 (FIPS 180-4, 6.2.2). Sixteen words of the message schedule are kept at a time.
 ghost use mathlib.Core.Path.{_≡_};
-ghost use Prim.Native.Nat.{_+_, _*_, _≤_};
+ghost use Prim.Native.Nat.{_+_, _≤_};
 ghost use lib.ListN.{length, take, drop};
 ghost use Rattle.hash.specs.Block as Block;
 use crate::words::big_sigma0;

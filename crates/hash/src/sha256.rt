@@ -1,6 +1,6 @@
 // SHA-256 of a whole message (FIPS 180-4, 5 and 6.2).
 ghost use mathlib.Core.Path.{_≡_};
-ghost use Prim.Native.Nat.{_*_, _/_, _%_, _<_};
+ghost use Prim.Native.Nat.{_/_, _%_, _<_};
 ghost use lib.ListN.{length};
 ghost use mathlib.Core.List.{_++_};
 ghost use Rattle.hash.specs.Bytes.{padded};

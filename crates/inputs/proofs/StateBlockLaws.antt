@@ -15,7 +15,7 @@ use Rattle.lists.specs.Lists.{Bytes, all, every, rising, runs}
 use Rattle.lists.proofs.ListLaws.{same-test, and-holds, holds-and, all-mapped, every-cons, provided-true, provided-some, given-provided}
 use Rattle.hash.specs.Bytes.{padded}
 use Rattle.hash.proofs.BytesLaws.{take-padded}
-use Rattle.tree.specs.LogTree.{fullFrom, fullSubtrees}
+use Rattle.tree.specs.LogTree.{fullSubtrees}
 use Rattle.tree.specs.LogHead.{levelLimit}
 use Rattle.tree.proofs.DecisionLaws.{ones-limit}
 use Rattle.tree.proofs.FullLaws.{full-length}
@@ -252,11 +252,6 @@ block-valid b z h =
     ∙ sym (given-valid (roomIsZero b) (contents b))
 
 -- ---- empty states
-
--- a label that is not too long has a valid empty state
-pub empty-valid : (label : Bytes) → length label ≤ labelLimit → isValid (emptyState label) ≡ true
-unfolding isValid emptyState every all rising fullSubtrees fullFrom
-empty-valid label h = rw (le-leb (length label) labelLimit h) refl
 
 -- a label followed by zeros, and zeros in all other room, are the empty state of the label
 pub empty-block : (label room : Bytes) → room ≡ padded labelLimit label

@@ -251,10 +251,6 @@ line-read f l vs e =
     let (q, h) = after-read (f .words) (f .fields) (partsAt tab l) vs e in
     (sym (joined-parts tab l) ∙ ap (joined tab) q, h)
 
--- such a line with its newline is the line that is written
-pub line-read-ended : (f : Form) (l : Bytes) (vs : Read f) → readLine f l ≡ some vs → l ++ newline ∷ [] ≡ writeLine f vs
-line-read-ended f l vs e = ap (λ (t : Bytes). t ++ newline ∷ []) (line-read f l vs e .0) ∙ sym (write-line f vs)
-
 -- a line has no newline before its end
 pub line-lacks : (f : Form) (vs : Read f) → isPlainForm f ≡ true → Fits (f .fields) vs → Lacks newline (lineText f vs)
 unfolding lineText

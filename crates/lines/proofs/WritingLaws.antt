@@ -11,7 +11,7 @@ use lib.ListN.{length, take, drop, getD, set, length-append, length-drop, length
 use lib.Seq.{sets, sets-eq, length-sets, drop-set-lt, getD-set-same, take-all}
 use borrow.Author.Tests.{le-leb, lt-leb}
 use Rattle.lists.specs.Choice.{choose, provided}
-use Rattle.lists.specs.Lists.{Bytes, all, written}
+use Rattle.lists.specs.Lists.{Bytes, written}
 use Rattle.lines.specs.Number.{ascii, decimal}
 use Rattle.lines.specs.Hex.{dash, hexDigit, hex, hexField}
 use Rattle.lines.specs.Writing.{placeAfter, putAt, placeAfterAny, putAny}

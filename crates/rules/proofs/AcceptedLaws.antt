@@ -175,10 +175,6 @@ module _ (c : Call) (h : Accepted c) where
   shown-entries =
       rw (shown-asked c (rules-passed .asAsked)) (asked-entries (c .parts .finding) (c .parts .size) (c .state .monitoringMap))
 
-  -- a search shows the frontier
-  pub search-shows : (t : Target) → c .parts .finding ≡ searched t → entryPositions (c .parts) ≡ frontier (c .parts .size)
-  search-shows t f = frontier-shown c (rules-passed .asAsked) t f
-
   -- the walk shows the last entry, and kept values and nodes are as long as digests
   pub call-follows : Follows (c .parts .size) (known c) (entryPositions (c .parts)) (c .parts .nodes)
   unfolding known

@@ -15,9 +15,8 @@ use Rattle.lists.proofs.RisingLaws.{last-largest}
 use Rattle.lists.proofs.MemberLaws.{at-mapped, last-mapped, last-listed}
 use Rattle.hash.specs.Sha256.{digestLength}
 use Rattle.tree.specs.Ladder.{ladder}
-use Rattle.tree.specs.LogTree.{value}
 use Rattle.tree.specs.PrefixTree.{Terminal, ownLeaf, terminalFits}
-use Rattle.tree.proofs.CollisionLaws.{_>>=_, Within}
+use Rattle.tree.proofs.CollisionLaws.{Within}
 use Rattle.tree.proofs.LadderLaws.{ladder-own}
 use Rattle.tree.proofs.LookupLaws.{LeadsTo, Absent, fits-absent}
 use Rattle.rules.specs.Limits.{openingLength}

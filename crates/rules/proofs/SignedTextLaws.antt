@@ -15,7 +15,7 @@ use Rattle.lists.specs.Lists.{Bytes, every, written}
 use Rattle.lists.proofs.ListLaws.{choose-true, choose-by, all-implied, every-cons, equal-same}
 use Rattle.hash.specs.Sha256.{digestLength}
 use Rattle.tree.proofs.WalkValueLaws.{value-length}
-use Rattle.rules.specs.Limits.{responseLimit, configurationLimit, signedTextLimit, signedTextLeast, vrfOutputsLimit, identifierLength, stateTextLimit}
+use Rattle.rules.specs.Limits.{responseLimit, configurationLimit, signedTextLimit, vrfOutputsLimit, identifierLength, stateTextLimit}
 use Rattle.rules.specs.State.{State}
 use Rattle.rules.specs.StateText.{readState}
 use Rattle.rules.specs.Response.{Kind, search as searchKind, monitor}
@@ -32,6 +32,10 @@ use Rattle.rules.proofs.RefusalLaws.{Readings, readings-were, readings-
 use Rattle.rules.proofs.PartsLaws.{response-fits}
 use Rattle.rules.proofs.AcceptedLaws.{call-read, own-was}
 use Rattle.rules.proofs.NextStateLaws.{found-by-monitoring}
+
+-- bytes of the shortest signed text: more than any refusal's number
+abbrev pub signedTextLeast : ℕ
+signedTextLeast = 72
 
 -- ---- the call without a signed text
 

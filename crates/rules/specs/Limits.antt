@@ -19,10 +19,6 @@ configurationLimit = 2048
 abbrev pub signedTextLimit : ℕ
 signedTextLimit = 2088
 
--- bytes of the shortest signed text: more than any refusal's number
-abbrev pub signedTextLeast : ℕ
-signedTextLeast = 72
-
 -- bytes of the sheet
 abbrev pub vrfOutputsLimit : ℕ
 vrfOutputsLimit = 36864

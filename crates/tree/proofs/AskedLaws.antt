@@ -1,14 +1,14 @@
 -- Laws of entries asked for together: the frontier of a log, and what is put into it (frontierAndPaths of specs/SearchTree.antt).
 use mathlib.Core.Path.{_≡_, refl, sym, ap, ap₂, _∙_}
-use mathlib.Core.Logic.{_⊎_, inl, inr, ⊎-elim}
+use mathlib.Core.Logic.{⊎-elim}
 use mathlib.Core.Bool.{true}
-use mathlib.Core.List.{List, [], _∷_, List·Memᴰ, List·Memᴰ·head, List·Memᴰ·tail, List·Memᴰ·cases-cons, List·Memᴰ·not-nil}
+use mathlib.Core.List.{List, [], _∷_, List·Memᴰ}
 use Prim.Native.Nat.{ℕ, suc, min, _+_, _-_, _*_, _^_, _≤_, _<_}
 use native.Mathlib.Omega.{arith}
 use lib.ListN.{length, getD, drop}
 use lib.Seq.{drop-cons, drop-length}
 use Rattle.lists.specs.Lists.{lastOr, rising, insertAll}
-use Rattle.lists.proofs.RisingLaws.{last-none, insertAll-has, insertAll-keeps, insertAll-only, insertAll-rising, insertAll-length}
+use Rattle.lists.proofs.RisingLaws.{last-none, insertAll-keeps, insertAll-only, insertAll-rising, insertAll-length}
 use Rattle.tree.specs.SearchTree.{frontier, frontierCapacity, rightAncestors, frontierAndPaths, nextFrom}
 use Rattle.tree.specs.LogHead.{levelLimit}
 use Rattle.tree.proofs.FrontierLaws.{frontier-below, frontier-rising}
@@ -66,31 +66,6 @@ paths-cons n p ps = refl
 pub paths-entries : (n : ℕ) (ps : List ℕ) → Entries n (frontierAndPaths n ps)
 paths-entries n [] = rw (paths-nil n) (frontier-entries n)
 paths-entries n (p ∷ ps) = rw (paths-cons n p ps) (entries-with n (rightAncestors n p) (frontierAndPaths n ps) (path-within n p) (paths-entries n ps))
-
--- The frontier is among them.
-pub paths-frontier : (n : ℕ) (ps : List ℕ) (a : ℕ) → List·Memᴰ a (frontier n) → List·Memᴰ a (frontierAndPaths n ps)
-paths-frontier n [] a m = rw (paths-nil n) m
-paths-frontier n (p ∷ ps) a m = rw (paths-cons n p ps) (insertAll-keeps (rightAncestors n p) (frontierAndPaths n ps) a (paths-frontier n ps a m))
-
--- The right path of each entry is among them.
-pub paths-path : (n : ℕ) (ps : List ℕ) (p a : ℕ) → List·Memᴰ p ps → List·Memᴰ a (rightAncestors n p) → List·Memᴰ a (frontierAndPaths n ps)
-paths-path n [] p a i m = absurd (List·Memᴰ·not-nil i)
-paths-path n (q ∷ ps) p a i m = rw (paths-cons n q ps)
-    (⊎-elim (λ e. insertAll-has (rightAncestors n q) (frontierAndPaths n ps) a (rw e at m))
-    (λ k. insertAll-keeps (rightAncestors n q) (frontierAndPaths n ps) a (paths-path n ps p a k m)) (List·Memᴰ·cases-cons i))
-
--- Nothing else is.
-pub paths-only : (n : ℕ) (ps : List ℕ) (a : ℕ) → List·Memᴰ a (frontierAndPaths n ps)
-    → List·Memᴰ a (frontier n) ⊎ ((p : ℕ) × List·Memᴰ p ps × List·Memᴰ a (rightAncestors n p))
-paths-only n [] a m = inl (rw (paths-nil n) at m)
-paths-only n (p ∷ ps) a m =
-    ⊎-elim (λ k. inr (p, List·Memᴰ·head refl, k)) (λ k. more (paths-only n ps a k))
-    (insertAll-only (rightAncestors n p) (frontierAndPaths n ps) a (rw (paths-cons n p ps) at m))
-  where
-    more : List·Memᴰ a (frontier n) ⊎ ((q : ℕ) × List·Memᴰ q ps × List·Memᴰ a (rightAncestors n q))
-        → List·Memᴰ a (frontier n) ⊎ ((q : ℕ) × List·Memᴰ q (p ∷ ps) × List·Memᴰ a (rightAncestors n q))
-    more (inl k) = inl k
-    more (inr (q, i, k)) = inr (q, List·Memᴰ·tail i, k)
 
 -- They are no more than a frontier has, and for each entry a right path.
 pub paths-length : (n : ℕ) (ps : List ℕ) → n ≤ 2 ^ levelLimit → length (frontierAndPaths n ps) ≤ frontierCapacity + length ps * suc levelLimit

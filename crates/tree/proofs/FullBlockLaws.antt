@@ -16,7 +16,7 @@ use lib.Seq.{getD-drop}
 use borrow.Author.Tests.{eq-eqb, eqb-true, lt-ltb, ltb-true, le-leb, leb-true}
 use Rattle.lists.specs.Choice.{choose}
 use Rattle.lists.specs.Lists.{Bytes}
-use Rattle.lists.proofs.ListLaws.{same-test, and-holds, holds-and, or-holds, any-at, at-any}
+use Rattle.lists.proofs.ListLaws.{same-test, and-holds, holds-and, or-holds, never-holds, any-at, at-any}
 use Rattle.tree.specs.SearchTree.{power}
 use Rattle.tree.specs.LogTree.{Range, sameRange, holds, fullFrom, fullSubtrees, isFull, holdsFull, zeros, valueAmong}
 use Rattle.tree.proofs.PowerLaws.{below-power, exponent-below, power-at}
@@ -26,11 +26,6 @@ use Rattle.tree.specs.LogWalk.{range}
 use Rattle.tree.proofs.SubtreeLaws.{block, exponent-most, start-lower}
 
 -- ---- full subtrees
-
--- A test of which what it says is absurd fails.
-differ : (s : Bool) → (s ≡ true → ⊥) → s ≡ false
-differ true f = absurd (f refl)
-differ false f = refl
 
 -- Ranges that are the same are equal.
 pub same-range : (x y : Range) → sameRange x y ≡ true → x ≡ y
@@ -242,7 +237,7 @@ ones-above e j w l a b =
 
 -- Blocks of two levels are not the same.
 other : (e j t s p : ℕ) → p ≡ 2 ^ j → e < j → sameRange (range t (2 ^ e)) (range s p) ≡ false
-other e j t s p x b = differ (sameRange (range t (2 ^ e)) (range s p)) (λ h.
+other e j t s p x b = never-holds (sameRange (range t (2 ^ e)) (range s p)) (λ h.
     let i : 2 ^ e ≡ p = ap (λ (r : Range). r .width) (same-range (range t (2 ^ e)) (range s p) h) in
     let k : e ≡ j = level-one e j (omega arith) in
     omega arith)

@@ -77,23 +77,6 @@ climb-by t P over up (suc f) lo v h = go (decLe v t) (λ w. climb-by t P over up
     go (yes p) a = rw (climb-up (suc f) t lo v p) (up lo v (climb (suc f) t v (2 * v + 1)) p (a p))
     go (no p) a = rw (climb-over (suc f) t lo v (omega arith)) (over lo v (omega arith))
 
--- any number of steps that are enough for the gap gives the same halving
-pub halve-fuel : (f g t lo hi : ℕ) → hi ≤ suc (lo + f) → hi ≤ suc (lo + g) → halve f t lo hi ≡ halve g t lo hi
-halve-fuel f g t lo hi h = halve-by t (λ lo hi l. (g : ℕ) → hi ≤ suc (lo + g) → l ≡ halve g t lo hi) end low high f lo hi h g
-  where
-    end : (lo hi : ℕ) → hi ≤ lo + 1 → (g : ℕ) → hi ≤ suc (lo + g) → [] ≡ halve g t lo hi
-    end lo hi h g k = sym (halve-end g t lo hi h)
-
-    low : (lo hi m : ℕ) (l : List ℕ) → lo + 1 < hi → m ≡ (lo + hi) / 2 → m ≤ t → ((g : ℕ) → hi ≤ suc (m + g) → l ≡ halve g t m hi)
-        → (g : ℕ) → hi ≤ suc (lo + g) → m ∷ l ≡ halve g t lo hi
-    low lo hi m l h e q ih zero k = absurd (omega arith)
-    low lo hi m l h e q ih (suc g) k = ap (λ (z : List ℕ). m ∷ z) (ih g (omega arith)) ∙ sym (halve-low g t lo hi m h e q)
-
-    high : (lo hi m : ℕ) (l : List ℕ) → lo + 1 < hi → m ≡ (lo + hi) / 2 → t < m → ((g : ℕ) → m ≤ suc (lo + g) → l ≡ halve g t lo m)
-        → (g : ℕ) → hi ≤ suc (lo + g) → m ∷ l ≡ halve g t lo hi
-    high lo hi m l h e q ih zero k = absurd (omega arith)
-    high lo hi m l h e q ih (suc g) k = ap (λ (z : List ℕ). m ∷ z) (ih g (omega arith)) ∙ sym (halve-high g t lo hi m h e q)
-
 -- any number of steps that are enough to come above t gives the same climb
 pub climb-fuel : (f g t lo v : ℕ) → t < v + f → t < v + g → climb (suc f) t lo v ≡ climb (suc g) t lo v
 climb-fuel f g t lo v h = climb-by t (λ lo v l. (g : ℕ) → t < v + g → l ≡ climb (suc g) t lo v) (λ lo v p g k. sym (climb-over g t lo v p)) up f lo v h g

@@ -1,7 +1,6 @@
 -- Laws of log entries and values where they stand in a text (specs/LogText.antt).
 use mathlib.Core.Path.{_≡_, refl, sym, _∙_, ap, ap₂}
-use mathlib.Core.Logic.{_⊎_, inl, inr}
-use mathlib.Core.List.{List, [], _∷_, _++_, map, flatMap, flatten, append-assoc, append-nil, List·Memᴰ, List·Memᴰ·head, List·Memᴰ·tail, List·Memᴰ·cases-cons, List·Memᴰ·not-nil}
+use mathlib.Core.List.{List, [], _∷_, _++_, map, flatMap, append-assoc, append-nil, List·Memᴰ, List·Memᴰ·head, List·Memᴰ·tail}
 use mathlib.Core.Option.{Option, none, some, Option·getD}
 use Prim.Native.Nat.{ℕ, zero, suc, _+_, _-_, _*_, _/_, _%_, _^_, _≤_, _<_}
 use native.Mathlib.Omega.{arith}
@@ -12,20 +11,20 @@ use Rattle.lists.specs.Lists.{Bytes, runs}
 use Rattle.lists.proofs.ListLaws.{Lacks, all-lacks}
 use Rattle.hash.specs.Bytes.{AreBytes}
 use Rattle.hash.specs.Sha256.{digestLength}
-use Rattle.hash.proofs.BytesLaws.{bytes-append, bytes-zeros, bytes-take, bytes-drop}
+use Rattle.hash.proofs.BytesLaws.{bytes-take, bytes-drop}
 use Rattle.lines.specs.Number.{readNumber, decimal, ascii}
 use Rattle.lines.specs.Hex.{dash, hexDigit, hex, hexField}
 use Rattle.lines.specs.Field.{exactly, readField, writeField, writeFields}
 use Rattle.lines.specs.Readings.{asDigest, digestIn}
 use Rattle.lines.specs.Line.{tab, newline, Form, before, after, joined, line, writeLine}
 use Rattle.lines.proofs.PlaceLaws.{before-at, before-lacks, after-lacks}
-use Rattle.lines.proofs.NumberLaws.{isPlain, read-decimal, decimal-read, decimal-plain}
+use Rattle.lines.proofs.NumberLaws.{isPlain, read-decimal, decimal-plain}
 use Rattle.lines.proofs.HexLaws.{length-hex, hexField-some}
 use Rattle.lines.proofs.LineLaws.{read-field}
-use Rattle.lines.proofs.ReadingLaws.{number-empty, digest-was, digest-long}
+use Rattle.lines.proofs.ReadingLaws.{number-empty, digest-long}
 use Rattle.tree.specs.LogTree.{zeros}
 use Rattle.tree.specs.LogText.{numberIn, valueDigits, valueIn, valuesIn, entryIn, nodeWord, nodeLine, nodesIn}
-use Rattle.tree.proofs.RunLaws.{length-runs, mapped-run, mapped-none, length-texts, runs-texts, length-joined, runs-joined, drop-take}
+use Rattle.tree.proofs.RunLaws.{length-runs, mapped-run, mapped-none, length-texts, runs-texts, drop-take}
 
 -- ---- numbers
 
@@ -43,36 +42,13 @@ number-between s at stop o e f = number-read (before tab (drop at s)) o (f ∙ a
 pub number-none : (s : Bytes) → length s ≡ 0 → numberIn s ≡ 0
 number-none s h = number-read s none (sym (number-empty (2 ^ 64 - 1) s h))
 
--- it has 64 bits
-pub number-bound : (s : Bytes) → numberIn s ≤ 2 ^ 64 - 1
-unfolding numberIn
-number-bound s = go (readNumber (2 ^ 64 - 1) s) refl
-  where
-    go : (o : Option ℕ) → readNumber (2 ^ 64 - 1) s ≡ o → Option·getD o 0 ≤ 2 ^ 64 - 1
-    go none e = omega arith
-    go (some n) e = decimal-read (2 ^ 64 - 1) s n e .1
-
 -- ---- values
 
 -- a value: 32 bytes
 abbrev pub IsValue : Bytes → Type 0
 IsValue v = (length v ≡ digestLength) × AreBytes v
 
--- zeros are a value
-pub zeros-value : IsValue zeros
-unfolding zeros
-zeros-value = (refl, bytes-zeros digestLength)
-
--- what a field has is a value
-pub value-is : (s : Bytes) → IsValue (valueIn s)
-unfolding valueIn
-value-is s = go (readField (exactly digestLength) s) refl
-  where
-    go : (o : Option Bytes) → readField (exactly digestLength) s ≡ o → IsValue (Option·getD o zeros)
-    go none e = zeros-value
-    go (some v) e = let (l, d, n, b) = digest-was s v e in (n, b)
-
--- it is the value that is read there
+-- what a field has is the value that is read there
 pub value-read : (s : Bytes) → digestIn s .value ≡ valueIn s
 unfolding digestIn valueIn zeros asDigest
 value-read s = go (readField (exactly digestLength) s)
@@ -117,31 +93,10 @@ pub node-none : (s : Bytes) (i : ℕ) → length s / nodeLine ≤ i → getD (no
 unfolding nodesIn
 node-none s i h = mapped-none (λ (l : Bytes). valueIn (take valueDigits (drop nodeWord l))) (length s / nodeLine) nodeLine s i zeros h
 
--- what a function to values makes of a list are values
-mapped-values : (f : Bytes → Bytes) → ((s : Bytes) → IsValue (f s)) → (xs : List Bytes) (v : Bytes) → List·Memᴰ v (map f xs) → IsValue v
-mapped-values f h [] v m = absurd (List·Memᴰ·not-nil m)
-mapped-values f h (x ∷ xs) v m = pick (List·Memᴰ·cases-cons m) (λ n. mapped-values f h xs v n)
-  where
-    pick : (v ≡ f x) ⊎ List·Memᴰ v (map f xs) → (List·Memᴰ v (map f xs) → IsValue v) → IsValue v
-    pick (inl e) ih = rw e (h x)
-    pick (inr n) ih = ih n
-
 -- a text holds as many siblings as it has room for their digits
 pub length-siblings : (s : Bytes) → length (valuesIn s) ≡ length s / valueDigits
 unfolding valuesIn
 length-siblings s = length-map (runs (length s / valueDigits) valueDigits s) valueIn ∙ length-runs (length s / valueDigits) valueDigits s
-
--- siblings are values
-pub siblings-values : (s v : Bytes) → List·Memᴰ v (valuesIn s) → IsValue v
-unfolding valuesIn
-siblings-values s v m = mapped-values valueIn value-is (runs (length s / valueDigits) valueDigits s) v m
-
--- so are nodes
-pub nodes-values : (s v : Bytes) → List·Memᴰ v (nodesIn s) → IsValue v
-unfolding nodesIn
-nodes-values s v m =
-    mapped-values (λ (l : Bytes). valueIn (take valueDigits (drop nodeWord l))) (λ l. value-is (take valueDigits (drop nodeWord l)))
-    (runs (length s / nodeLine) nodeLine s) v m
 
 -- ---- what is written
 
@@ -264,18 +219,3 @@ siblings-written s b = go s b
     go (x ∷ s) b =
         let n : length (hex (x ∷ s)) / valueDigits ≡ length (x ∷ s) / digestLength = omega (arith, length-hex (x ∷ s)) in
         ap (λ (k : ℕ). map valueIn (runs k valueDigits (hex (x ∷ s)))) n ∙ values-runs (length (x ∷ s) / digestLength) (x ∷ s) b (omega arith)
-
--- lists of bytes join to bytes
-bytes-flatten : (vs : List Bytes) → ((v : Bytes) → List·Memᴰ v vs → AreBytes v) → AreBytes (flatten vs)
-unfolding flatten
-bytes-flatten [] h = tt
-bytes-flatten (v ∷ vs) h = bytes-append v (flatten vs) (h v (List·Memᴰ·head refl)) (bytes-flatten vs (λ u m. h u (List·Memᴰ·tail m)))
-
--- values joined and written are the values
-pub values-written : (vs : List Bytes) → ((v : Bytes) → List·Memᴰ v vs → IsValue v) → valuesIn (hexField (flatten vs)) ≡ vs
-values-written vs h =
-    let s = flatten vs in
-    let long : (v : Bytes) → List·Memᴰ v vs → length v ≡ digestLength = λ v m. h v m .0 in
-    let n : length s / digestLength ≡ length vs = omega (arith, length-joined digestLength vs long) in
-    siblings-written s (bytes-flatten vs (λ v m. h v m .1))
-    ∙ ap₂ (λ (k : ℕ) (t : Bytes). runs k digestLength t) n (sym (append-nil s)) ∙ runs-joined digestLength vs [] long

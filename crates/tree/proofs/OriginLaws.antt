@@ -1,7 +1,7 @@
 -- Where the values come from that a walk of the log tree and a lookup in a prefix tree work out, and what the listed strings are for (specs/LogTree.antt,
 -- specs/PrefixTree.antt): each value is the digest of a listed string, a kept or given value, or zeros; each listed string was hashed for one of these values.
 use mathlib.Core.Path.{_≡_, refl, sym, ap, subst}
-use mathlib.Core.Logic.{_⊎_, ⊎-elim}
+use mathlib.Core.Logic.{⊎-elim}
 use mathlib.Core.Bool.{true, _&&_}
 use mathlib.Core.List.{List, [], _∷_, List·Memᴰ, List·Memᴰ·head, List·Memᴰ·tail, List·Memᴰ·cases-cons, List·Memᴰ·not-nil, List·Memᴰ·append-cases, Memᴰ·append-left, Memᴰ·append-right}
 use Prim.Native.Nat.{ℕ}

@@ -1,7 +1,7 @@
 -- Laws of the largest power of two not above a number, and of the halves of a tree, which splits at such a power (specs/SearchTree.antt, specs/LogTree.antt).
-use mathlib.Core.Path.{_≡_, refl, sym, _∙_}
+use mathlib.Core.Path.{_≡_, refl, _∙_}
 use Prim.Native.Nat.{ℕ, zero, suc, _+_, _-_, _*_, _/_, _^_, _≤_, _<_}
-use native.Mathlib.Decide.{decLe, decLt}
+use native.Mathlib.Decide.{decLe}
 use native.Mathlib.Omega.{arith}
 use lib.Count.{leading-top}
 use lib.Pow.{pow-pos, pow-mono}
@@ -73,26 +73,9 @@ pub power-end : (x : ℕ) → x < 2 → power x ≡ 1
 unfolding power
 power-end x h = powerFrom-end x x h
 
--- any number of steps that are enough for the digits of x gives the power of x
-pub power-fuel : (f x : ℕ) → x < 2 ^ f → powerFrom f x ≡ power x
-power-fuel f x h = go (decLt 0 x)
-  where
-    go : Dec (0 < x) → powerFrom f x ≡ power x
-    go (yes p) =
-        let (k, e, l, u) = power-at x p in
-        let i : k < f = exponent-below k f (omega arith) in
-        powerFrom-is f k x (omega arith) (omega arith) (omega arith) ∙ sym e
-    go (no p) = powerFrom-end f x (omega arith) ∙ sym (power-end x (omega arith))
-
 -- a power of two is its own power
 pub power-of-power : (k : ℕ) → power (2 ^ k) ≡ 2 ^ k
 power-of-power k = let p = pow-pos k in power-unique k (2 ^ k) (omega arith) (omega arith)
-
--- the power of x is twice the power of its half
-pub power-double : (x : ℕ) → 2 ≤ x → power x ≡ 2 * power (x / 2)
-power-double x h =
-    let (k, e, l, u) = power-at (x / 2) (omega arith) in
-    power-unique (suc k) x (omega arith) (omega arith) ∙ omega arith
 
 -- ---- the halves of a tree
 

@@ -207,17 +207,7 @@ reach-root n c t p h o k =
 
 -- ---- entries to which the walk comes
 
--- What is behind c is clear of it.
-pub clear-behind : (c : ℕ) (r : Range) (t : Walk) → Over r t → c ≤ r .start → Clear c t
-clear-behind c r (retained x) o h = let e : x .start ≡ r .start = ap (λ (y : Range). y .start) o in inl (omega arith)
-clear-behind c r (given x) o h = let e : x .start ≡ r .start = ap (λ (y : Range). y .start) o in inl (omega arith)
-clear-behind c r (shown p) o h = tt
-clear-behind c r (parent z x y) (_, w, a, b) h =
-    let (i, j) = halves-meet r w in
-    let (k, l) = left-half r in
-    (clear-behind c (leftHalf r) x a (omega arith), clear-behind c (rightHalf r) y b (omega arith))
-
--- So are whole blocks before it.
+-- Whole blocks before c are clear of it.
 pub clear-before : (c : ℕ) (r : Range) (t : Walk) → Over r t → Stops IsBlock IsBlock t → r .start + r .width ≤ c → Clear c t
 clear-before c r (retained x) o (j, w) h = inr (j, w, rw o h)
 clear-before c r (given x) o (j, w) h = inr (j, w, rw o h)

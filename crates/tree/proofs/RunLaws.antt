@@ -24,11 +24,6 @@ module _ {A : Type 0} where
   length-runs zero k s = refl
   length-runs (suc n) k s = ap suc (length-runs n k (drop k s))
 
-  -- the runs without the first
-  pub runs-rest : (n k : ℕ) (s : List A) → drop 1 (runs (suc n) k s) ≡ runs n k (drop k s)
-  unfolding runs
-  runs-rest n k s = refl
-
   -- the run of a number below theirs
   pub runs-at : (n k : ℕ) (s : List A) (i : ℕ) (d : List A) → i < n → getD (runs n k s) i d ≡ take k (drop (k * i) s)
   unfolding runs

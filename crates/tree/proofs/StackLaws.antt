@@ -1,7 +1,7 @@
--- The law of pieces of the log tree: the subtrees at which a walk stops, put on a stack one after the other, are at each entry the full subtrees of the
--- entries before it; so they are the new kept values at the end, the root when they are joined, and what refusal 14 compares with the kept values.
+-- The law of pieces of the log tree: the subtrees at which a walk stops, put on a stack one after the other, are at each entry across which none lies the
+-- full subtrees of the entries before it; so they are the new kept values at the end, the root when they are joined, and what refusal 14 compares with the
+-- kept values.
 use mathlib.Core.Path.{_≡_, refl, sym, ap, ap₂, _∙_}
-use mathlib.Core.Logic.{inl, inr}
 use mathlib.Core.Bool.{true}
 use mathlib.Core.List.{List, [], _∷_, _++_, map, reverse, reverseAux, reverse-reverse}
 use Prim.Native.Nat.{ℕ, _+_, _-_, _*_, _^_, _≤_, _<_}
@@ -10,16 +10,14 @@ use lib.ListN.{length, take, drop, length-map}
 use lib.Pow.{pow-pos}
 use lib.Seq.{take-all}
 use Rattle.lists.specs.Lists.{Bytes}
-use Rattle.tree.specs.LogTree.{Range, leftHalf, rightHalf, fullSubtrees, Walk, retained, given, shown, parent, walk, walkOf, nodeCount, widthOf, Known, value, keptValuesMet, fullValues}
-use Rattle.tree.proofs.PowerLaws.{halves-filled, halves-meet, left-half}
-use Rattle.tree.proofs.DigitLaws.{by-order}
+use Rattle.tree.specs.LogTree.{Range, fullSubtrees, Walk, walk, walkOf, nodeCount, widthOf, Known, value, keptValuesMet, fullValues}
 use Rattle.tree.specs.LogWalk.{range}
 use Rattle.tree.proofs.SubtreeLaws.{block, subtree-root}
 use Rattle.tree.proofs.WalkCaseLaws.{Walks, walk-cases, Over, over-width, walks-over}
 use Rattle.tree.proofs.WalkValueLaws.{full-values-one, full-values-both}
-use Rattle.tree.proofs.ReachLaws.{over-right, fullsFrom, fulls-none, fulls-first, fulls-all, Stops, IsBlock, Apart, Clear, Reach, starting, ending, left, right, reach-root, clear-behind, clear-before, clear-kept, LastKnown, stops-blocks}
+use Rattle.tree.proofs.ReachLaws.{over-right, fullsFrom, fulls-none, fulls-first, fulls-all, Stops, IsBlock, Clear, Reach, starting, ending, left, right, reach-root, clear-before, clear-kept, LastKnown, stops-blocks}
 use Rattle.tree.proofs.KeptLaws.{fulls-last, full-values-enough, full-values-all, none-given, kept-values-met}
-use Rattle.tree.proofs.PieceLaws.{Piece, joined, pieceOf, pieces, push, stackFrom, stackOf, passed, upTo, widths, valued, fullStack, rootOf, Wide, wide-less, push-on, stack-append, piece-joined, stack-block, passed-append, pieces-passed, upTo-none, upTo-more, upTo-first, upTo-later, upTo-all}
+use Rattle.tree.proofs.PieceLaws.{Piece, joined, pieceOf, pieces, push, stackFrom, stackOf, passed, upTo, widths, valued, fullStack, rootOf, Wide, wide-less, push-on, stack-append, piece-joined, stack-block, passed-append, pieces-passed, upTo-none, upTo-first, upTo-later, upTo-all}
 
 -- ---- full subtrees as pieces
 
@@ -117,47 +115,6 @@ root-reach {c} (right e q b r x y ox n l u f g i) w p z v k nodes =
     ∙ ap₂ (λ (i : ℕ) (z : Piece). joined (record { width = i; digest = value k x nodes }) z) (sym (over-width (block e q) x ox)) h
     ∙ piece-joined k (range (q * 2 ^ e) w) r x y nodes v)
 
--- ---- where pieces end
-
--- An entry at which the piece of a block ends, or before it, is not inside of the block.
-apart-passed : (c : ℕ) (r x : Range) (v : Bytes) → x ≡ r → IsBlock x → r .start ≤ c
-    → passed (upTo (c - r .start) (record { width = x .width; digest = v } ∷ [])) ≡ c - r .start → Apart c x
-unfolding passed upTo
-apart-passed c r x v o (j, w) l h =
-    let e : x .start ≡ r .start = ap (λ (y : Range). y .start) o in
-    by-order (r .start) c
-    (λ a.
-    let p : Piece = record { width = x .width; digest = v } in
-    let z : x .width + 0 ≡ c - r .start = sym (ap passed (upTo-more (c - r .start) p [] (omega arith))) ∙ h in
-    inr (j, w, omega arith))
-    (λ a. inl (omega arith))
-
--- So a walk that stops at blocks is clear of each entry at which one of its pieces ends.
-clear-passed : (c : ℕ) (r : Range) (t : Walk) → 0 < r .width → Over r t → Stops IsBlock IsBlock t → r .start ≤ c → (k : Known) (nodes : List Bytes)
-    → passed (upTo (c - r .start) (pieces k t nodes)) ≡ c - r .start → Clear c t
-unfolding pieces widthOf
-clear-passed c r (retained x) p o s l k nodes h = apart-passed c r x (value k (retained x) nodes) o s l h
-clear-passed c r (given x) p o s l k nodes h = apart-passed c r x (value k (given x) nodes) o s l h
-clear-passed c r (shown x) p o s l k nodes h = tt
-clear-passed c r (parent z x y) p (_, w, a, b) (s, t) l k nodes h =
-    let (f, g) = halves-filled r w in
-    let (d, e) = halves-meet r w in
-    let (i, j) = left-half r in
-    let ys : List Piece = pieces k y (drop (nodeCount x) nodes) in
-    let (fx, px) = pieces-passed (leftHalf r) x f a k nodes in
-    by-order c (rightHalf r .start)
-    (λ u.
-    let v : c - leftHalf r .start ≡ c - r .start = omega arith in (
-      clear-passed c (leftHalf r) x f a s (omega arith) k nodes (rw v (sym (ap passed (upTo-first (c - r .start) (pieces k x nodes) ys (omega arith))) ∙ h)),
-      clear-behind c (rightHalf r) y b (omega arith),
-    ))
-    (λ u.
-    let v : c - r .start - passed (pieces k x nodes) ≡ c - rightHalf r .start = omega arith in
-    let q : passed (pieces k x nodes) + passed (upTo (c - rightHalf r .start) ys) ≡ c - r .start =
-    sym (ap passed (upTo-later (c - r .start) (pieces k x nodes) ys fx (omega arith) ∙ ap (λ (z : ℕ). pieces k x nodes ++ upTo z ys) v)
-    ∙ passed-append (pieces k x nodes) (upTo (c - rightHalf r .start) ys)) ∙ h in
-    (clear-before c (leftHalf r) x a s (omega arith), clear-passed c (rightHalf r) y g b t u k (drop (nodeCount x) nodes) (omega arith)))
-
 -- ---- the values on a stack
 
 -- Of the values only as many matter as there are widths.
@@ -230,15 +187,7 @@ module _ (n : ℕ) (k : Known) (ps : List ℕ) (nodes : List Bytes) (filled : 0 
   reach-end : LastKnown n (k .size) ps → Reach n 0 (2 ^ n) (walkOf n (k .size) ps)
   reach-end last = reach-root n n (walkOf n (k .size) ps) filled (omega arith) over (clear-end last)
 
-  -- At each entry at which a piece ends the stack is the full subtrees of the entries before it.
-  pub stack-passed : LastKnown n (k .size) ps → (c : ℕ) → c ≤ n → passed (upTo c (allPieces n k ps nodes)) ≡ c
-      → stackOf (upTo c (allPieces n k ps nodes)) ≡ fullStack c (fullValues c k (walkOf n (k .size) ps) nodes)
-  stack-passed last c h e =
-      let z : c - 0 ≡ c = omega arith in
-      let a = clear-passed c (range 0 n) (walkOf n (k .size) ps) filled over (blocks last) (omega arith) k nodes (rw z e) in
-      stack-clear n c (walkOf n (k .size) ps) filled h over a k nodes .1
-
-  -- At the end it is the full subtrees of the log, with their values, of which there is one for each.
+  -- At the end the stack is the full subtrees of the log, with their values, of which there is one for each.
   pub stack-end : LastKnown n (k .size) ps → (stackOf (allPieces n k ps nodes) ≡ fullStack n (fullValues n k (walkOf n (k .size) ps) nodes))
       × (length (fullValues n k (walkOf n (k .size) ps) nodes) ≡ length (fullSubtrees n))
   stack-end last =
@@ -254,12 +203,6 @@ module _ (n : ℕ) (k : Known) (ps : List ℕ) (nodes : List Bytes) (filled : 0 
   root-end last =
       rw (fulls-all n) (root-reach (reach-end last) n filled (omega arith) over k nodes
       ∙ ap (λ (z : ℕ). record { width = z; digest = value k (walkOf n (k .size) ps) nodes }) (over-width (range 0 n) (walkOf n (k .size) ps) over))
-
-  -- So it is what the stack makes from its top down.
-  pub root-stack : LastKnown n (k .size) ps → rootOf (reverse (stackOf (allPieces n k ps nodes))) ≡ record { width = n; digest = value k (walkOf n (k .size) ps) nodes }
-  unfolding fullStack
-  root-stack last =
-      rw (stack-end last .0, reverse-reverse (valued (widths (fullSubtrees n)) (fullValues n k (walkOf n (k .size) ps) nodes))) (root-end last)
 
   clear-m : k .size ≤ n → Clear (k .size) (walkOf n (k .size) ps)
   clear-m grown = clear-kept n (k .size) grown walked (subtree-root n filled)

@@ -1,5 +1,5 @@
 -- Each number is a node of the search tree, one of a level and a number in that level; the steps left and right lead to the nodes of its two halves.
-use mathlib.Core.Path.{_≡_, refl, sym, ap, _∙_}
+use mathlib.Core.Path.{_≡_, refl, ap, _∙_}
 use Prim.Native.Nat.{ℕ, zero, suc, _+_, _-_, _*_, _/_, _%_, _^_, _≤_, _<_}
 use native.Mathlib.Nat.{pow-succ'}
 use native.Mathlib.Omega.{arith}
@@ -50,12 +50,6 @@ level-node k q = level-from (node k q) k q (omega (arith, below-power k))
 pub number-node : (k q : ℕ) → node k q / 2 ^ suc k ≡ q
 number-node k q = high q (suc k) (rw (pow-succ' 2 k) (omega (arith, pow-pos k)))
 
--- A node has one level and one number in it.
-pub node-unique : (k q j r : ℕ) → node k q ≡ node j r → (k ≡ j) × (q ≡ r)
-node-unique k q j r e =
-    let l : k ≡ j = sym (level-node k q) ∙ ap level e ∙ level-node j r in
-    (l, sym (number-node k q) ∙ ap (λ (x : ℕ). x / 2 ^ suc k) e ∙ rw l (number-node j r))
-
 -- Each number is a node.
 node-of : (x : ℕ) → (k : ℕ) × (q : ℕ) × (x ≡ node k q)
 node-of = bin-ind (λ (x : ℕ). (k : ℕ) × (q : ℕ) × (x ≡ node k q)) (0, 0, refl) step
@@ -74,10 +68,6 @@ node-level x =
     let l : level x ≡ k = ap level e ∙ level-node k q in
     let m : x / 2 ^ suc k ≡ q = ap (λ (y : ℕ). y / 2 ^ suc k) e ∙ number-node k q in
     rw (l, m) e
-
--- With fuel enough for the level, the level does not depend on the fuel.
-pub level-fuel : (f x : ℕ) → level x ≤ f → levelFrom f x ≡ level x
-level-fuel f x h = ap (levelFrom f) (node-level x) ∙ level-from f (level x) (x / 2 ^ suc (level x)) h
 
 -- ---- steps
 

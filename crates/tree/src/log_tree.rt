@@ -1,8 +1,8 @@
 // The walk over the log tree (paper 01, Trees): from the root down, by subtrees whose width falls at each call.
 ghost use mathlib.Core.Path.{_≡_};
-ghost use mathlib.Core.Bool.{true, false, _&&_, cond};
+ghost use mathlib.Core.Bool.{true, _&&_, cond};
 ghost use mathlib.Core.List.{[]};
-ghost use Prim.Native.Nat.{_+_, _-_, _*_, _<_, _≤_, _^_};
+ghost use Prim.Native.Nat.{_+_, _-_, _<_, _≤_, _^_};
 ghost use lib.Count.{ones};
 ghost use lib.Dec.{ltb, eqb};
 ghost use lib.ListN.{length};
