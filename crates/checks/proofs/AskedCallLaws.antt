@@ -9,7 +9,8 @@ use lib.Dec.{eqb, ltb}
 use lib.ListN.{length, drop, length-take, length-drop}
 use borrow.Author.Tests.{eq-eqb, eqb-true, lt-ltb, le-leb, not-false}
 use Rattle.lists.specs.Lists.{Bytes, all, any, every, same, begins, rising}
-use Rattle.lists.proofs.ListLaws.{and-holds, holds-and, choose-true, at-all, all-implied, every-cons, same-true, equal-same, never-fails}
+use Rattle.lists.proofs.ChoiceLaws.{and-holds, holds-and, choose-true, never-fails}
+use Rattle.lists.proofs.ListLaws.{at-all, all-implied, every-cons, same-true, equal-same}
 use Rattle.lines.specs.declared.part.Part.{Part}
 use Rattle.lines.specs.Readings.{partOf}
 use Rattle.tree.specs.Ladder.{ladder}

@@ -10,7 +10,7 @@ use lib.ListN.{length, take, drop, getD, set, length-map}
 use lib.Seq.{take-suc-set}
 use borrow.Author.Tests.{eq-eqb, ne-eqb, eqb-true, eqb-false, lt-ltb}
 use Rattle.lists.specs.Lists.{Bytes, begins}
-use Rattle.lists.proofs.ListLaws.{holds-and}
+use Rattle.lists.proofs.ChoiceLaws.{holds-and}
 use Rattle.lists.proofs.SameLaws.{begins-none, begins-next}
 use Rattle.lines.specs.Line.{endedLines, leading}
 use Rattle.lines.proofs.PlaceLaws.{at-cons, at-end}

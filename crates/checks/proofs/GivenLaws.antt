@@ -11,7 +11,8 @@ use lib.ListN.{length, take, drop, getD, replicate, length-replicate}
 use borrow.Author.Tests.{lt-ltb, le-ltb, ltb-false, lt-leb, le-leb, eq-eqb, ne-eqb, not-true, not-false}
 use Rattle.lists.specs.Choice.{given}
 use Rattle.lists.specs.Lists.{Bytes, any, same}
-use Rattle.lists.proofs.ListLaws.{given-some, differ-same, or-fails}
+use Rattle.lists.proofs.ChoiceLaws.{given-some, or-fails}
+use Rattle.lists.proofs.ListLaws.{differ-same}
 use Rattle.hash.proofs.BytesLaws.{take-padded}
 use Rattle.lines.specs.Hex.{readHex}
 use Rattle.lines.specs.Readings.{partOf}

@@ -7,7 +7,8 @@ use Prim.Native.Nat.{ℕ}
 use lib.Count.{ones}
 use borrow.Author.Tests.{eqb-true}
 use Rattle.lists.specs.Lists.{Bytes, runs}
-use Rattle.lists.proofs.ListLaws.{choose-true, bind-some, provided-true, equal-same}
+use Rattle.lists.proofs.ChoiceLaws.{choose-true, bind-some, provided-true}
+use Rattle.lists.proofs.ListLaws.{equal-same}
 use Rattle.lines.specs.Line.{endedLines, openRest, readLines, readLine, writeLine, leading}
 use Rattle.lines.specs.Readings.{partOf}
 use Rattle.lines.proofs.LineLaws.{lineText, write-line, line-read, linesText, text-written, joined-lines, leading-was, leading-each}

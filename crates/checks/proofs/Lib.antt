@@ -5,7 +5,9 @@ pub mod LineStepLaws
 pub mod SearchStepLaws
 pub mod EntryLaws
 pub mod TimeLaws
-pub mod JudgeLaws
+pub mod JudgedEntriesLaws
+pub mod JudgedLookupsLaws
+pub mod TriedLookupLaws
 pub mod CommitmentLaws
 pub mod TreeHeadLaws
 pub mod TreeHeadWritingLaws

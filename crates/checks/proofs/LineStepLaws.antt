@@ -12,7 +12,8 @@ use lib.Seq.{length-take-le, drop-drop, drop-append-seam}
 use borrow.Author.Tests.{eq-eqb, ne-eqb, eqb-true}
 use Rattle.lists.specs.Choice.{given, orElse}
 use Rattle.lists.specs.Lists.{Bytes}
-use Rattle.lists.proofs.ListLaws.{or-holds, provided-some, bind-some, bind-by, map-some, same-true}
+use Rattle.lists.proofs.ChoiceLaws.{or-holds, provided-some, bind-some, bind-by, map-some}
+use Rattle.lists.proofs.ListLaws.{same-true}
 use Rattle.hash.specs.Bytes.{AreBytes}
 use Rattle.lines.specs.Number.{ascii, decimal, readNumber}
 use Rattle.lines.specs.Hex.{dash, hex, hexField}

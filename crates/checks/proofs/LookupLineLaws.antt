@@ -12,7 +12,8 @@ use lib.Seq.{take-all, drop-drop, drop-append-add}
 use borrow.Author.Tests.{le-leb, lt-leb, eqb-true}
 use Rattle.lists.specs.Choice.{orElse}
 use Rattle.lists.specs.Lists.{Bytes, same}
-use Rattle.lists.proofs.ListLaws.{bind-some, choose-true, choose-false, Lacks, all-lacks, orElse-some}
+use Rattle.lists.proofs.ChoiceLaws.{bind-some, choose-true, choose-false, orElse-some}
+use Rattle.lists.proofs.ListLaws.{Lacks, all-lacks}
 use Rattle.hash.specs.Bytes.{AreBytes}
 use Rattle.lines.specs.Number.{ascii, readNumber, decimal}
 use Rattle.lines.specs.Hex.{hex, hexField}
@@ -23,7 +24,7 @@ use Rattle.lines.proofs.PlaceLaws.{before-lacks}
 use Rattle.lines.proofs.NumberLaws.{isPlain, read-decimal, decimal-plain}
 use Rattle.lines.proofs.HexLaws.{length-hex, hexField-some}
 use Rattle.lines.proofs.LineLaws.{lineText, line-read}
-use Rattle.lines.proofs.FieldLaws.{read-some}
+use Rattle.lines.proofs.CursorLaws.{read-some}
 use Rattle.tree.specs.LogText.{valueDigits, valueIn, valuesIn}
 use Rattle.tree.specs.PrefixTree.{Terminal, ownLeaf, emptyPlace, foreignLeaf, lookupRoot, terminalFits}
 use Rattle.tree.proofs.LogTextLaws.{IsValue, length-siblings, value-front, siblings-written}

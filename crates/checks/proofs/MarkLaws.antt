@@ -9,7 +9,8 @@ use lib.Dec.{eqb, leb}
 use lib.ListN.{length, getD, set, replicate, length-set, length-replicate}
 use borrow.Author.Tests.{eq-eqb, ne-eqb}
 use Rattle.lists.specs.Lists.{all, rising, insertAll}
-use Rattle.lists.proofs.ListLaws.{choose-true, choose-false, set-only, repeated-only}
+use Rattle.lists.proofs.ChoiceLaws.{choose-true, choose-false}
+use Rattle.lists.proofs.ListLaws.{set-only, repeated-only}
 use Rattle.lists.proofs.RisingLaws.{insertAll-has, insertAll-keeps, insertAll-only, insertAll-rising}
 use Rattle.rules.specs.Limits.{greatestVersion, versionBound}
 use Rattle.checks.specs.MonitoredVersions.{notAbove, countedOf, counted}

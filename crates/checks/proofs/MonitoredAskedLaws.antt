@@ -11,7 +11,8 @@ use lib.ListN.{length, take, length-append}
 use lib.Seq.{take-append-seam}
 use borrow.Author.Tests.{lt-ltb}
 use Rattle.lists.specs.Lists.{Bytes, all, same, rising}
-use Rattle.lists.proofs.ListLaws.{and-holds, holds-and, at-all, mapped-at, same-true, equal-same, never-fails}
+use Rattle.lists.proofs.ChoiceLaws.{and-holds, holds-and, never-fails}
+use Rattle.lists.proofs.ListLaws.{at-all, mapped-at, same-true, equal-same}
 use Rattle.lists.proofs.RisingLaws.{insertAll-has, insertAll-keeps}
 use Rattle.tree.specs.SearchTree.{frontierAndPaths}
 use Rattle.tree.specs.LogTree.{walkOf, nodeCount}

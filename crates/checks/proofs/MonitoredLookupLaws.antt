@@ -27,7 +27,7 @@ use Rattle.checks.specs.Steps.{versionsOf}
 use Rattle.checks.specs.Lookups.{reaches}
 use Rattle.checks.specs.Monitoring.{CommitmentsBy, Watched, isStep, Reaches, AllReach, allIncluded}
 use Rattle.checks.proofs.SearchStepLaws.{isOf, stepOf, commitmentIn, value-there}
-use Rattle.checks.proofs.JudgeLaws.{reaches-holds}
+use Rattle.checks.proofs.TriedLookupLaws.{reaches-holds}
 use Rattle.checks.proofs.MonitoredStepLaws.{commitment-given}
 
 -- ---- one lookup

@@ -13,7 +13,8 @@ use lib.Seq.{append-snoc, getD-set-same, getD-set-other}
 use borrow.Author.Tests.{eqb-true, eqb-false, not-true, not-false}
 use Rattle.lists.specs.Choice.{given}
 use Rattle.lists.specs.Lists.{Bytes, all, same}
-use Rattle.lists.proofs.ListLaws.{and-holds, holds-and, or-holds, or-fails, never-holds, all-at, same-true, equal-same, mapped-at, all-with, all-without}
+use Rattle.lists.proofs.ChoiceLaws.{and-holds, holds-and, or-holds, or-fails, never-holds}
+use Rattle.lists.proofs.ListLaws.{all-at, same-true, equal-same, mapped-at, all-with, all-without}
 use Rattle.tree.specs.SearchTree.{nextFrom}
 use Rattle.tree.proofs.NextLaws.{listedFrom, from-all, from-none, next-above, from-next}
 use Rattle.rules.specs.Limits.{versionBound}

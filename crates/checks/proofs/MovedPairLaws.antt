@@ -11,7 +11,8 @@ use lib.Seq.{getD-take}
 use borrow.Author.Tests.{eq-eqb, ne-eqb, eqb-true, eqb-false, ltb-true, le-leb}
 use Rattle.lists.specs.Choice.{choose}
 use Rattle.lists.specs.Lists.{first, rising, lastOr}
-use Rattle.lists.proofs.ListLaws.{and-holds, first-here, first-later}
+use Rattle.lists.proofs.ChoiceLaws.{and-holds}
+use Rattle.lists.proofs.ListLaws.{first-here, first-later}
 use Rattle.lists.proofs.RisingLaws.{rising-tail}
 use Rattle.hash.specs.Bytes.{padded}
 use Rattle.hash.proofs.BytesLaws.{padded-nil, take-padded}

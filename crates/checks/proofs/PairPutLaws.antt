@@ -10,7 +10,7 @@ use lib.ListN.{length, take, getD, set, replicate, length-append, length-take, l
 use lib.Seq.{set-at, getD-at, length-take-le}
 use borrow.Author.Tests.{lt-ltb, le-ltb, eq-eqb, ne-eqb, le-leb, lt-leb, ltb-true}
 use Rattle.lists.specs.Lists.{rising}
-use Rattle.lists.proofs.ListLaws.{choose-true, choose-false, and-holds}
+use Rattle.lists.proofs.ChoiceLaws.{choose-true, choose-false, and-holds}
 use Rattle.lists.proofs.RisingLaws.{rising-tail}
 use Rattle.hash.specs.Bytes.{padded}
 use Rattle.hash.proofs.BytesLaws.{length-padded, padded-set}

@@ -8,7 +8,8 @@ use lib.ListN.{length}
 use borrow.Author.Tests.{leb-true, eqb-true}
 use Rattle.lists.specs.Choice.{provided, given}
 use Rattle.lists.specs.Lists.{Bytes}
-use Rattle.lists.proofs.ListLaws.{every-cons, given-some, given-none}
+use Rattle.lists.proofs.ChoiceLaws.{given-some, given-none}
+use Rattle.lists.proofs.ListLaws.{every-cons}
 use Rattle.rules.specs.Limits.{responseLimit, vrfOutputsLimit, identifierLength}
 use Rattle.rules.specs.Configuration.{Configuration, readConfiguration}
 use Rattle.rules.specs.VrfOutputs.{VrfOutput, readOutputs}

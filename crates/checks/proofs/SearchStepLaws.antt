@@ -12,7 +12,8 @@ use lib.Seq.{append-snoc, take-suc, take-all, take-suc-set, length-take-le, getD
 use borrow.Author.Tests.{ltb-false, leb-true, le-leb, le-ltb, eqb-true, eqb-false, eq-eqb, ne-eqb}
 use Rattle.lists.specs.Choice.{given}
 use Rattle.lists.specs.Lists.{Bytes, all, first, same}
-use Rattle.lists.proofs.ListLaws.{and-holds, holds-and, never-holds, all-at, cons-all, all-append, first-here, first-later, same-true}
+use Rattle.lists.proofs.ChoiceLaws.{and-holds, holds-and, never-holds}
+use Rattle.lists.proofs.ListLaws.{all-at, cons-all, all-append, first-here, first-later, same-true}
 use Rattle.lists.proofs.ListLaws.{equal-same, Lacks, lacks-append, none-left}
 use Rattle.lines.proofs.PlaceLaws.{at-cons, at-end}
 use Rattle.tree.specs.LogText.{valueDigits, valueIn}

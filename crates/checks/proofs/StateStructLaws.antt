@@ -10,7 +10,8 @@ use lib.ListN.{length, take, length-map, length-take}
 use borrow.Author.Tests.{le-leb}
 use Rattle.lists.specs.Choice.{given}
 use Rattle.lists.specs.Lists.{Bytes, all}
-use Rattle.lists.proofs.ListLaws.{given-some, provided-some, all-mapped}
+use Rattle.lists.proofs.ChoiceLaws.{given-some, provided-some}
+use Rattle.lists.proofs.ListLaws.{all-mapped}
 use Rattle.hash.specs.Bytes.{padded}
 use Rattle.hash.proofs.BytesLaws.{take-padded}
 use Rattle.tree.specs.LogTree.{fullValues}

@@ -5,7 +5,7 @@ use mathlib.Core.Option.{Option, some, Option·getD}
 use Prim.Native.Nat.{_≤_}
 use lib.ListN.{length}
 use Rattle.lists.specs.Lists.{Bytes}
-use Rattle.lists.proofs.ListLaws.{given-some}
+use Rattle.lists.proofs.ChoiceLaws.{given-some}
 use Rattle.lines.specs.Hex.{readHex}
 use Rattle.lines.specs.Readings.{partOf}
 use Rattle.rules.specs.Limits.{openingLength, valueLimit}

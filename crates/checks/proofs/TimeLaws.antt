@@ -8,7 +8,7 @@ use lib.Dec.{leb}
 use lib.ListN.{length, getD, drop}
 use borrow.Author.Tests.{le-leb, lt-leb, leb-true}
 use Rattle.lists.specs.Lists.{Bytes, all, unfalling, lastOr}
-use Rattle.lists.proofs.ListLaws.{same-test, and-holds, holds-and}
+use Rattle.lists.proofs.ChoiceLaws.{same-test, and-holds, holds-and}
 use Rattle.lines.proofs.PlaceLaws.{at-cons, at-end}
 use Rattle.tree.specs.LogTree.{LogEntry}
 use Rattle.tree.specs.LogText.{entryIn, entriesAt}

@@ -12,7 +12,7 @@ use lib.ListN.{length, take, set, replicate, length-append, length-take}
 use lib.Seq.{take-nil, take-all, take-length, take-append-le, set-out}
 use borrow.Author.Tests.{leb-true, leb-false}
 use Rattle.lists.specs.Lists.{Bytes, written}
-use Rattle.lists.proofs.ListLaws.{provided-some, provided-none}
+use Rattle.lists.proofs.ChoiceLaws.{provided-some, provided-none}
 use Rattle.hash.specs.Bytes.{padded}
 use Rattle.hash.proofs.BytesLaws.{length-padded, padded-nil, padded-set, padded-paste}
 use Rattle.lines.specs.Writing.{placeAfter, putAt, putAny}

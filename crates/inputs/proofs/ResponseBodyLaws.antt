@@ -11,7 +11,8 @@ use lib.ListN.{length, drop}
 use borrow.Author.Tests.{eq-eqb, eqb-true, ltb-true, ltb-false}
 use Rattle.lists.specs.Choice.{_>>_}
 use Rattle.lists.specs.Lists.{Bytes, same}
-use Rattle.lists.proofs.ListLaws.{and-holds, holds-and, test-true, test-some, same-refl, same-true}
+use Rattle.lists.proofs.ChoiceLaws.{and-holds, holds-and, test-true, test-some}
+use Rattle.lists.proofs.ListLaws.{same-refl, same-true}
 use Rattle.lines.specs.Line.{Read as ReadForm, endedLines, openRest, readLine, leading}
 use Rattle.lines.specs.Readings.{partOf}
 use Rattle.lines.proofs.SectionLaws.{line-end, line-more}

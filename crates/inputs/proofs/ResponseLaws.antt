@@ -7,7 +7,7 @@ use native.Mathlib.Omega.{arith}
 use lib.ListN.{length, take, drop}
 use Rattle.lists.specs.Choice.{_>>_}
 use Rattle.lists.specs.Lists.{Bytes, same}
-use Rattle.lists.proofs.ListLaws.{provided-then, test-none, bind-some, map-some}
+use Rattle.lists.proofs.ChoiceLaws.{provided-then, test-none, bind-some, map-some}
 use Rattle.lines.specs.Line.{Read as ReadForm, endedLines, openRest, readLines, readLine}
 use Rattle.lines.specs.Cursor.{lineAt}
 use Rattle.lines.proofs.SectionLaws.{LineHere, line-here, line-none}

@@ -9,7 +9,7 @@ use lib.Dec.{ltb}
 use lib.ListN.{length}
 use Rattle.lists.specs.Choice.{provided, given, orElse}
 use Rattle.lists.specs.Lists.{Bytes}
-use Rattle.lists.proofs.ListLaws.{none-given, given-orElse, bind-some, given-provided, given-bind}
+use Rattle.lists.proofs.ChoiceLaws.{none-given, given-orElse, bind-some, given-provided, given-bind}
 use Rattle.lines.specs.Number.{ascii, readNumber}
 use Rattle.lines.specs.Hex.{spelledLength}
 use Rattle.lines.specs.Field.{Field, number, bytes, readField, readFields}

@@ -10,7 +10,7 @@ use lib.ListN.{length, length-append, take, drop}
 use borrow.Author.Tests.{lt-ltb}
 use Rattle.lists.specs.Choice.{given, orElse}
 use Rattle.lists.specs.Lists.{Bytes}
-use Rattle.lists.proofs.ListLaws.{map-some, given-some, given-none}
+use Rattle.lists.proofs.ChoiceLaws.{map-some, given-some, given-none}
 use Rattle.lines.specs.Line.{Read as ReadForm, endedLines, readLine, leading}
 use Rattle.lines.specs.Cursor.{lineAt}
 use Rattle.lines.specs.Readings.{partOf}

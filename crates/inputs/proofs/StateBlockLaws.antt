@@ -12,7 +12,8 @@ use lib.Seq.{length-take-le}
 use borrow.Author.Tests.{le-leb, lt-ltb, eq-eqb, leb-true}
 use Rattle.lists.specs.Choice.{given, provided}
 use Rattle.lists.specs.Lists.{Bytes, all, every, rising, runs}
-use Rattle.lists.proofs.ListLaws.{same-test, and-holds, holds-and, all-mapped, every-cons, provided-true, provided-some, given-provided}
+use Rattle.lists.proofs.ChoiceLaws.{same-test, and-holds, holds-and, provided-true, provided-some, given-provided}
+use Rattle.lists.proofs.ListLaws.{all-mapped, every-cons}
 use Rattle.hash.specs.Bytes.{padded}
 use Rattle.hash.proofs.BytesLaws.{take-padded}
 use Rattle.tree.specs.LogTree.{fullSubtrees}

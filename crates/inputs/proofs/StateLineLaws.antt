@@ -19,7 +19,7 @@ use Rattle.lines.specs.Cursor.{fieldAt, fieldsFrom, readAt, wordAt}
 use Rattle.lines.specs.Readings.{asDigest, digestIn}
 use Rattle.lines.specs.Writing.{putAny}
 use Rattle.lines.proofs.NumberLaws.{decimal-read}
-use Rattle.lines.proofs.FieldLaws.{read-beyond, read-some}
+use Rattle.lines.proofs.CursorLaws.{read-beyond, read-some}
 use Rattle.lines.proofs.FormLaws.{withRest, here-read, read-not, read-ended, read-number-on, bytes-fit, bytes-unfit, bytes-none, line-on, line-off, field-on, field-off}
 use Rattle.rules.specs.Limits.{labelLimit, hashLength, numberBound, versionBound}
 use Rattle.rules.specs.StateText.{sizeForm, keepForm, pairForm, readKeep, readPair}

@@ -12,7 +12,8 @@ use lib.ListN.{length, take, drop, length-map}
 use borrow.Author.Tests.{le-leb, lt-leb}
 use Rattle.lists.specs.Choice.{provided, _>>_, given}
 use Rattle.lists.specs.Lists.{Bytes, same}
-use Rattle.lists.proofs.ListLaws.{provided-then, test-then, test-none, none-left, choose-true, choose-false, same-true}
+use Rattle.lists.proofs.ChoiceLaws.{provided-then, test-then, test-none, choose-true, choose-false}
+use Rattle.lists.proofs.ListLaws.{none-left, same-true}
 use Rattle.hash.specs.Bytes.{padded}
 use Rattle.lines.specs.Line.{Read, endedLines, openRest, readLines, readLine, leading}
 use Rattle.lines.specs.Cursor.{lineAt}

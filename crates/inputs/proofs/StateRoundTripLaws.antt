@@ -7,7 +7,7 @@ use lib.ListN.{length}
 use borrow.Author.Tests.{le-leb}
 use Rattle.lists.specs.Choice.{choose}
 use Rattle.lists.specs.Lists.{Bytes}
-use Rattle.lists.proofs.ListLaws.{choose-true}
+use Rattle.lists.proofs.ChoiceLaws.{choose-true}
 use Rattle.rules.specs.Limits.{stateTextLimit}
 use Rattle.rules.specs.State.{State, HasBytes}
 use Rattle.rules.specs.StateText.{readState, readStateText, writeState}

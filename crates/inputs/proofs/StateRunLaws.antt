@@ -11,7 +11,7 @@ use native.Mathlib.Omega.{arith}
 use lib.ListN.{length, take, drop, set, replicate, length-append, length-map}
 use borrow.Author.Tests.{eqb-true}
 use Rattle.lists.specs.Lists.{Bytes}
-use Rattle.lists.proofs.ListLaws.{bind-some}
+use Rattle.lists.proofs.ChoiceLaws.{bind-some}
 use Rattle.lines.specs.Line.{Read, endedLines, openRest, readLine, leading}
 use Rattle.lines.specs.Cursor.{lineAt}
 use Rattle.lines.specs.declared.hex.Digest.{Digest}

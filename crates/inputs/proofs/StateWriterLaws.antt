@@ -14,7 +14,8 @@ use lib.Seq.{take-all, take-suc}
 use borrow.Author.Tests.{le-leb, lt-leb, leb-true}
 use Rattle.lists.specs.Choice.{given}
 use Rattle.lists.specs.Lists.{Bytes, runs, written}
-use Rattle.lists.proofs.ListLaws.{choose-true, choose-false, choose-by, provided-some, given-some, given-none, every-cons}
+use Rattle.lists.proofs.ChoiceLaws.{choose-true, choose-false, choose-by, provided-some, given-some, given-none}
+use Rattle.lists.proofs.ListLaws.{every-cons}
 use Rattle.lines.specs.Number.{ascii, decimal}
 use Rattle.lines.specs.Hex.{hexField}
 use Rattle.lines.specs.Field.{writeField, writeFields}

@@ -12,7 +12,8 @@ use lib.Seq.{drop-drop, take-take}
 use borrow.Author.Tests.{eq-eqb, ne-eqb, eqb-true, lt-ltb, le-ltb, ltb-true}
 use Rattle.lists.specs.Choice.{given}
 use Rattle.lists.specs.Lists.{Bytes, select, first, rising, runs}
-use Rattle.lists.proofs.ListLaws.{at-member, member-at, given-first, first-here, first-later, given-provided, provided-some, and-holds, mapped-at, any-at}
+use Rattle.lists.proofs.ChoiceLaws.{given-first, given-provided, provided-some, and-holds}
+use Rattle.lists.proofs.ListLaws.{at-member, member-at, first-here, first-later, mapped-at, any-at}
 use Rattle.lists.proofs.ListLaws.{select-here, select-later, select-fewer}
 use Rattle.lists.proofs.RisingLaws.{rising-at, rising-two, short-rises, rising-first, rising-tail}
 use Rattle.lines.proofs.PlaceLaws.{at-cons}

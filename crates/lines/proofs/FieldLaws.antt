@@ -1,72 +1,97 @@
--- Laws of the line and the field that begin at a place (specs/Cursor.antt): one for each way in which they are read.
-use mathlib.Core.Path.{_≡_, refl}
-use mathlib.Core.Bool.{true, false}
-use mathlib.Core.List.{[]}
-use mathlib.Core.Option.{Option, none, some, bind}
-use Prim.Native.Nat.{ℕ, _+_, _≤_, _<_}
-use native.Mathlib.Omega.{arith}
-use lib.Dec.{ltb}
-use lib.ListN.{length, drop}
-use borrow.Author.Tests.{lt-ltb, le-ltb, le-leb, lt-leb}
-use Rattle.lists.specs.Choice.{provided, _>>_}
-use Rattle.lists.specs.Lists.{Bytes, same}
-use Rattle.lists.proofs.ListLaws.{provided-true}
-use Rattle.lines.specs.Line.{newline, before}
-use Rattle.lines.specs.Cursor.{lineAt, fieldAt, readAt, wordAt}
-use Rattle.lines.proofs.PlaceLaws.{at-end}
+-- Laws of fields, and of words and fields (specs/Field.antt, specs/Line.antt): what is written reads as itself, and what reads is what is written.
+use mathlib.Core.Path.{_≡_, refl, _∙_, ap₂}
+use mathlib.Core.Bool.{Bool, true}
+use mathlib.Core.List.{List, [], _∷_, _++_}
+use mathlib.Core.Option.{some, bind, Option·some-injective, Option·none-ne-some}
+use Prim.Native.Nat.{_≤_}
+use lib.ListN.{length}
+use Rattle.lists.specs.Choice.{_>>_}
+use Rattle.lists.specs.Lists.{Bytes, all, same}
+use Rattle.lists.proofs.ChoiceLaws.{holds-and, test-true, test-some, bind-at, bind-some}
+use Rattle.lists.proofs.ListLaws.{same-refl, same-true}
+use Rattle.hash.specs.Bytes.{AreBytes}
+use Rattle.lines.specs.Hex.{readHex}
+use Rattle.lines.specs.Field.{Field, number, bytes, Value, Values, readField, readFields, writeField, writeFields}
+use Rattle.lines.specs.Line.{readAfter}
+use Rattle.lines.proofs.NumberLaws.{isPlain, read-decimal, decimal-read, decimal-plain}
+use Rattle.lines.proofs.HexLaws.{read-hex, hex-read, hexField-plain}
 
--- ---- the line at a place
+-- a string has no tab and no newline
+abbrev pub arePlain : Bytes → Bool
+arePlain s = all isPlain s
 
-module _ (s : Bytes) (at stop : ℕ) (e : stop ≡ at + length (before newline (drop at s))) where
-  -- a line that a newline ends, and the place after it
-  pub line-ended : stop < length s → lineAt s at ≡ some (stop, stop + 1)
-  unfolding lineAt
-  line-ended h = rw (← e) (provided-true (ltb stop (length s)) (stop, stop + 1) (lt-ltb stop (length s) h))
+-- a value fits its field: a number is not above its bound; a byte string has bytes, and a length that passes the test
+abbrev pub FitsField : (f : Field) → Value f → Type 0
+FitsField (number bound) n = n ≤ bound
+FitsField (bytes fits) b = (fits (length b) ≡ true) × AreBytes b
 
-  -- a line that none ends
-  pub line-open : length s ≤ stop → lineAt s at ≡ none
-  unfolding lineAt provided
-  line-open h = rw (← e, le-ltb stop (length s) h) refl
+-- each value fits its field
+abbrev pub Fits : (fs : List Field) → Values fs → Type 0
+Fits [] u = Unit {0}
+Fits (f ∷ fs) (v, vs) = FitsField f v × Fits fs vs
 
--- ---- the field at a place
+-- a value that fits, once written, reads as itself
+pub read-field : (f : Field) (v : Value f) → FitsField f v → readField f (writeField f v) ≡ some v
+unfolding readField writeField
+read-field (number bound) v h = read-decimal bound v h
+read-field (bytes fits) v h = bind-at _ (λ (b : Bytes). fits (length b) >> some b) v (read-hex v (h .1)) ∙ test-true (fits (length v)) (some v) (h .0)
 
--- beyond the end of a line the field is empty
-pub field-beyond : (l : Bytes) (at : ℕ) → length l < at → fieldAt l at ≡ []
-unfolding fieldAt before
-field-beyond l at h = rw (at-end l at (omega arith)) refl
+-- what reads as a value is what is written for it, and the value fits
+pub field-read : (f : Field) (p : Bytes) (v : Value f) → readField f p ≡ some v → (p ≡ writeField f v) × FitsField f v
+unfolding readField writeField
+field-read (number bound) p v e = decimal-read bound p v e
+field-read (bytes fits) p v e =
+    let (b, r, t) = bind-some (readHex p) (λ (b : Bytes). fits (length b) >> some b) v e in
+    let (l, q) = test-some (fits (length b)) (some b) v t in
+    let i : b ≡ v = Option·some-injective b v q in
+    let (w, a) = hex-read p b r in
+    rw (← i) (w, (l, a))
 
-module _ {A : Type 0} (read : Bytes → Option A) (l : Bytes) (at : ℕ) where
-  -- beyond the end of a line nothing is read
-  pub read-beyond : length l < at → readAt read l at ≡ none
-  unfolding readAt _>>_
-  read-beyond h = rw (lt-leb at (length l) h) refl
+-- values that fit, once written, read as themselves
+pub read-fields : (fs : List Field) (vs : Values fs) → Fits fs vs → readFields fs (writeFields fs vs) ≡ some vs
+unfolding readFields writeFields bind
+read-fields [] vs h = refl
+read-fields (f ∷ fs) (v, vs) (h, i) = rw (read-field f v h, read-fields fs vs i) refl
 
-  -- a field of which a reader makes nothing is not read
-  pub read-none : (f : Bytes) → f ≡ fieldAt l at → at ≤ length l → read f ≡ none → readAt read l at ≡ none
-  unfolding readAt _>>_ bind
-  read-none f e h r = rw (le-leb at (length l) h, ← e, r) refl
+-- parts that read as values are what is written for them, and the values fit
+pub fields-read : (fs : List Field) (ps : List Bytes) (vs : Values fs) → readFields fs ps ≡ some vs → (ps ≡ writeFields fs vs) × Fits fs vs
+unfolding readFields writeFields
+fields-read [] [] vs e = (refl, tt)
+fields-read [] (p ∷ ps) vs e = absurd (Option·none-ne-some vs e)
+fields-read (f ∷ fs) [] vs e = absurd (Option·none-ne-some vs e)
+fields-read (f ∷ fs) (p ∷ ps) vs e =
+    let (v, r, t) = bind-some (readField f p) (λ (v : Value f). bind (readFields fs ps) (λ (us : Values fs). some (v, us))) vs e in
+    let (us, q, u) = bind-some (readFields fs ps) (λ (us : Values fs). some (v, us)) vs t in
+    let i : _≡_ {A = Values (f ∷ fs)} (v, us) vs = Option·some-injective (v, us) vs u in
+    let (w, h) = field-read f p v r in
+    let (x, j) = fields-read fs ps us q in
+    rw (← i) (ap₂ _∷_ w x, (h, j))
 
-  -- of any other its reader's value is read, and the place after it is known
-  pub read-some : (f : Bytes) → f ≡ fieldAt l at → at ≤ length l → (a : A) → read f ≡ some a → readAt read l at ≡ some (a, at + length f + 1)
-  unfolding readAt _>>_ bind
-  read-some f e h a r = rw (le-leb at (length l) h, ← e, r) refl
+-- the words of a line are passed over
+pub read-after : (ws : List Bytes) (fs : List Field) (ps : List Bytes) → readAfter ws fs (ws ++ ps) ≡ readFields fs ps
+unfolding readAfter
+read-after [] fs ps = refl
+read-after (w ∷ ws) fs ps = test-true (same w w) (readAfter ws fs (ws ++ ps)) (same-refl w) ∙ read-after ws fs ps
 
--- the reader that takes one word and no other
-abbrev oneWord : Bytes → Bytes → Option (Unit {0})
-oneWord w f = provided (same f w) tt
+-- parts that read after words are the words and what is written for the values
+pub after-read : (ws : List Bytes) (fs : List Field) (ps : List Bytes) (vs : Values fs) → readAfter ws fs ps ≡ some vs
+    → (ps ≡ ws ++ writeFields fs vs) × Fits fs vs
+unfolding readAfter
+after-read [] fs ps vs e = fields-read fs ps vs e
+after-read (w ∷ ws) fs [] vs e = absurd (Option·none-ne-some vs e)
+after-read (w ∷ ws) fs (p ∷ ps) vs e =
+    let (t, r) = test-some (same p w) (readAfter ws fs ps) vs e in
+    let (q, h) = after-read ws fs ps vs r in
+    (ap₂ _∷_ (same-true p w t) q, h)
 
-module _ (w l : Bytes) (at : ℕ) where
-  -- beyond the end of a line there is no word
-  pub word-beyond : length l < at → wordAt w l at ≡ none
-  unfolding wordAt
-  word-beyond h = rw (read-beyond (oneWord w) l at h) refl
+-- a value as written has no tab and no newline
+field-plain : (f : Field) (v : Value f) → FitsField f v → all isPlain (writeField f v) ≡ true
+unfolding writeField
+field-plain (number bound) v h = decimal-plain v
+field-plain (bytes fits) v h = hexField-plain v (h .1)
 
-  -- a field that is not the word
-  pub word-other : (f : Bytes) → f ≡ fieldAt l at → at ≤ length l → same f w ≡ false → wordAt w l at ≡ none
-  unfolding wordAt provided
-  word-other f e h d = rw (read-none (oneWord w) l at f e h (rw d refl)) refl
-
-  -- a field that is the word, and the place after it
-  pub word-same : (f : Bytes) → f ≡ fieldAt l at → at ≤ length l → same f w ≡ true → wordAt w l at ≡ some (at + length f + 1)
-  unfolding wordAt
-  word-same f e h d = rw (read-some (oneWord w) l at f e h tt (provided-true (same f w) tt d)) refl
+-- nor have values as written
+pub fields-plain : (fs : List Field) (vs : Values fs) → Fits fs vs → all arePlain (writeFields fs vs) ≡ true
+unfolding writeFields all
+fields-plain [] vs h = refl
+fields-plain (f ∷ fs) (v, vs) (h, i) = holds-and (all isPlain (writeField f v)) (all arePlain (writeFields fs vs)) (field-plain f v h) (fields-plain fs vs i)

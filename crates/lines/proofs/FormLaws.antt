@@ -11,7 +11,7 @@ use lib.ListN.{length, length-drop, take, drop}
 use borrow.Author.Tests.{le-leb, lt-leb, leb-true, lt-ltb, le-ltb}
 use Rattle.lists.specs.Choice.{given, provided, _>>_}
 use Rattle.lists.specs.Lists.{Bytes, same}
-use Rattle.lists.proofs.ListLaws.{bind-at, bind-none, given-bind, choose-true, choose-false, test-some, bind-some, map-some}
+use Rattle.lists.proofs.ChoiceLaws.{bind-at, bind-none, given-bind, choose-true, choose-false, test-some, bind-some, map-some}
 use Rattle.lines.specs.Number.{readNumber}
 use Rattle.lines.specs.Hex.{readHex, spelledLength}
 use Rattle.lines.specs.Field.{Field, number, bytes, Value, Values, readField, readFields}
@@ -19,7 +19,7 @@ use Rattle.lines.specs.Line.{tab, Form, partsAt, before, after, readAfte
 use Rattle.lines.specs.Cursor.{fieldAt, fieldsFrom, readAt, wordAt}
 use Rattle.lines.proofs.LineLaws.{parts-last, parts-more}
 use Rattle.lines.proofs.PlaceLaws.{before-front, after-at}
-use Rattle.lines.proofs.FieldLaws.{read-beyond, read-some, word-beyond}
+use Rattle.lines.proofs.CursorLaws.{read-beyond, read-some, word-beyond}
 use Rattle.lines.proofs.SpellingLaws.{spelled-some}
 use Rattle.lines.proofs.SectionLaws.{before-free, split-before, all-before, before-short}
 

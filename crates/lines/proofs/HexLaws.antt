@@ -12,7 +12,7 @@ use lib.ListN.{length}
 use borrow.Author.Tests.{eq-eqb, lt-ltb, le-ltb, le-leb, lt-leb, leb-true, ltb-true, eqb-true}
 use Rattle.lists.specs.Choice.{provided}
 use Rattle.lists.specs.Lists.{Bytes, all, same}
-use Rattle.lists.proofs.ListLaws.{and-holds, holds-and, or-holds, provided-true, provided-some}
+use Rattle.lists.proofs.ChoiceLaws.{and-holds, holds-and, or-holds, provided-true, provided-some}
 use Rattle.lists.proofs.ListLaws.{all-cons, cons-all, all-implied, same-refl, same-true, differ-same}
 use Rattle.hash.specs.Bytes.{AreBytes}
 use Rattle.lines.specs.Number.{ascii, isDigit}

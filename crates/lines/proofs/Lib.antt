@@ -1,12 +1,13 @@
 pub mod Computing
 pub mod NumberLaws
 pub mod HexLaws
+pub mod FieldLaws
 pub mod LineLaws
 pub mod PlaceLaws
 pub mod PartLaws
 pub mod SectionLaws
 pub mod SpellingLaws
-pub mod FieldLaws
+pub mod CursorLaws
 pub mod FormLaws
 pub mod ReadingLaws
 pub mod WritingLaws

@@ -11,7 +11,8 @@ use lib.ListN.{length, length-append}
 use borrow.Author.Tests.{ne-eqb, lt-ltb, le-ltb, le-leb, lt-leb, leb-true, eqb-false, not-true}
 use Rattle.lists.specs.Choice.{choose}
 use Rattle.lists.specs.Lists.{Bytes, all}
-use Rattle.lists.proofs.ListLaws.{and-holds, holds-and, provided-true, provided-some, cons-all, all-cons, all-append, all-implied}
+use Rattle.lists.proofs.ChoiceLaws.{and-holds, holds-and, provided-true, provided-some}
+use Rattle.lists.proofs.ListLaws.{cons-all, all-cons, all-append, all-implied}
 use Rattle.lines.specs.Line.{tab, newline}
 use Rattle.lines.specs.Number.{isDigit, isDecimal, digitsAfter, readNumber, decimalFrom, decimal}
 

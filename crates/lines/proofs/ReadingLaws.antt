@@ -12,7 +12,8 @@ use lib.Seq.{take-suc-set, append-snoc, take-all}
 use borrow.Author.Tests.{eq-eqb, ne-eqb, le-leb, lt-leb, eqb-true}
 use Rattle.lists.specs.Choice.{provided, _>>_}
 use Rattle.lists.specs.Lists.{Bytes, all, same}
-use Rattle.lists.proofs.ListLaws.{provided-true, bind-at, test-true, differ-same}
+use Rattle.lists.proofs.ChoiceLaws.{provided-true, bind-at, test-true}
+use Rattle.lists.proofs.ListLaws.{differ-same}
 use Rattle.hash.specs.Bytes.{AreBytes}
 use Rattle.hash.specs.Sha256.{digestLength}
 use Rattle.lines.specs.Number.{ascii, isDigit, isDecimal, digitsAfter, readNumber}
@@ -21,7 +22,7 @@ use Rattle.lines.specs.Field.{exactly, readField, writeField}
 use Rattle.lines.specs.Readings.{asDigest, digestIn}
 use Rattle.lines.proofs.NumberLaws.{is-digit}
 use Rattle.lines.proofs.HexLaws.{parts-hex, hex-unhex, hex-digits, length-hex, hexField-some}
-use Rattle.lines.proofs.LineLaws.{field-read}
+use Rattle.lines.proofs.FieldLaws.{field-read}
 use Rattle.lines.proofs.PlaceLaws.{at-cons, at-end}
 
 -- ---- numbers

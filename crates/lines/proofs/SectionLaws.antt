@@ -10,7 +10,8 @@ use lib.ListN.{length, length-append, length-drop, length-take, take, drop}
 use lib.Seq.{take-append-seam}
 use borrow.Author.Tests.{ltb-true, ltb-false, eqb-true, eqb-false}
 use Rattle.lists.specs.Lists.{Bytes, allButLast, lastOr}
-use Rattle.lists.proofs.ListLaws.{Lacks, provided-some, provided-none}
+use Rattle.lists.proofs.ChoiceLaws.{provided-some, provided-none}
+use Rattle.lists.proofs.ListLaws.{Lacks}
 use Rattle.lines.specs.Line.{newline, partsAt, before, after, endedLines, openRest, leading, joined}
 use Rattle.lines.specs.Cursor.{lineAt}
 use Rattle.lines.proofs.LineLaws.{AllLack, all-lack-append, parts-ended, joined-parts, parts-last, parts-more, parts-some, linesText, text-append, leading-end, leading-none, leading-some}

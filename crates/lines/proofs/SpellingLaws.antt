@@ -8,7 +8,8 @@ use native.Mathlib.Omega.{arith}
 use lib.ListN.{length, getD}
 use Rattle.lists.specs.Choice.{provided}
 use Rattle.lists.specs.Lists.{Bytes, all, same}
-use Rattle.lists.proofs.ListLaws.{all-cons, map-some, provided-true}
+use Rattle.lists.proofs.ChoiceLaws.{map-some, provided-true}
+use Rattle.lists.proofs.ListLaws.{all-cons}
 use Rattle.hash.specs.Bytes.{AreBytes}
 use Rattle.lines.specs.Number.{ascii}
 use Rattle.lines.specs.Hex.{dash, isHexDigit, unhex, isHex, readHex, spelledLength, hexField}

@@ -1,4 +1,5 @@
 pub mod Computing
+pub mod ChoiceLaws
 pub mod ListLaws
 pub mod MemberLaws
 pub mod RisingLaws

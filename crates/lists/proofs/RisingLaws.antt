@@ -11,7 +11,8 @@ use lib.ListN.{length, getD}
 use borrow.Author.Tests.{lt-ltb, le-ltb, ltb-true, eq-eqb, ne-eqb}
 use Rattle.lists.specs.Choice.{choose}
 use Rattle.lists.specs.Lists.{lastOr, rising, insert, insertAll}
-use Rattle.lists.proofs.ListLaws.{and-holds, rising-cons, at-member}
+use Rattle.lists.proofs.ChoiceLaws.{and-holds}
+use Rattle.lists.proofs.ListLaws.{rising-cons, at-member}
 
 -- ---- members
 

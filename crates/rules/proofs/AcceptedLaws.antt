@@ -8,7 +8,8 @@ use Prim.Native.Nat.{ℕ, _^_, _≤_, _<_}
 use native.Mathlib.Omega.{arith}
 use lib.Dec.{eqb, ltb}
 use borrow.Author.Tests.{ltb-false, eqb-true, eqb-false, not-false}
-use Rattle.lists.proofs.ListLaws.{and-holds, or-fails, every-cons, same-true, mapped-at}
+use Rattle.lists.proofs.ChoiceLaws.{and-holds, or-fails}
+use Rattle.lists.proofs.ListLaws.{every-cons, same-true, mapped-at}
 use Rattle.tree.specs.Ladder.{ladder}
 use Rattle.tree.specs.SearchTree.{frontier, frontierAndPaths}
 use Rattle.tree.specs.LogTree.{LogEntry, logLeafString, stringAt}

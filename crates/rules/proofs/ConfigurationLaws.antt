@@ -9,7 +9,8 @@ use lib.ListN.{length, length-append}
 use borrow.Author.Tests.{eqb-true}
 use Rattle.lists.specs.Choice.{_>>_}
 use Rattle.lists.specs.Lists.{Bytes, same}
-use Rattle.lists.proofs.ListLaws.{bind-by, test-some, same-true}
+use Rattle.lists.proofs.ChoiceLaws.{bind-by, test-some}
+use Rattle.lists.proofs.ListLaws.{same-true}
 use Rattle.hash.specs.Bytes.{AreBytes, bigEndian}
 use Rattle.hash.proofs.BytesLaws.{length-bigEndian}
 use Rattle.rules.specs.Encoding.{opaque, readUint, readOpaque}

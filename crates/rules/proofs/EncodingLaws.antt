@@ -11,7 +11,7 @@ use lib.Seq.{append-snoc, take-at, drop-at, length-take-le}
 use borrow.Author.Tests.{le-leb, lt-leb, leb-true}
 use Rattle.lists.specs.Choice.{provided}
 use Rattle.lists.specs.Lists.{Bytes}
-use Rattle.lists.proofs.ListLaws.{provided-true, provided-some, bind-some}
+use Rattle.lists.proofs.ChoiceLaws.{provided-true, provided-some, bind-some}
 use Rattle.hash.specs.Bytes.{AreBytes, bigEndian}
 use Rattle.hash.proofs.BytesLaws.{length-bigEndian}
 use Rattle.rules.specs.Encoding.{opaque, bytesAfter, uint, readBytes, readUint, readOpaque}

@@ -8,7 +8,8 @@ use lib.Dec.{eqb, ltb}
 use lib.ListN.{length}
 use borrow.Author.Tests.{ltb-true}
 use Rattle.lists.specs.Lists.{Bytes, all, first}
-use Rattle.lists.proofs.ListLaws.{choose-by, all-cons, first-listed}
+use Rattle.lists.proofs.ChoiceLaws.{choose-by}
+use Rattle.lists.proofs.ListLaws.{all-cons, first-listed}
 use Rattle.lists.proofs.MemberLaws.{each-nil, each-cons, each-append, at-mapped, flat-listed, listed-flat}
 use Rattle.hash.specs.Bytes.{AreBytes, bigEndian}
 use Rattle.hash.specs.Hmac.{innerString, outerString}

@@ -10,7 +10,8 @@ use lib.Dec.{eqb}
 use lib.ListN.{length}
 use borrow.Author.Tests.{le-leb, eq-eqb, not-false}
 use Rattle.lists.specs.Lists.{Bytes, all, lastOr, same}
-use Rattle.lists.proofs.ListLaws.{and-holds, choose-true, choose-false, all-at, same-true}
+use Rattle.lists.proofs.ChoiceLaws.{and-holds, choose-true, choose-false}
+use Rattle.lists.proofs.ListLaws.{all-at, same-true}
 use Rattle.lists.proofs.RisingLaws.{last-largest}
 use Rattle.lists.proofs.MemberLaws.{at-mapped, last-mapped, last-listed}
 use Rattle.hash.specs.Sha256.{digestLength}

@@ -11,7 +11,8 @@ use lib.ListN.{length}
 use borrow.Author.Tests.{lt-ltb, ltb-false, eqb-true}
 use Rattle.lists.specs.Choice.{choose}
 use Rattle.lists.specs.Lists.{Bytes, first, lastOr, rising, insert}
-use Rattle.lists.proofs.ListLaws.{or-fails, choose-by, first-listed, mapped-at}
+use Rattle.lists.proofs.ChoiceLaws.{or-fails, choose-by}
+use Rattle.lists.proofs.ListLaws.{first-listed, mapped-at}
 use Rattle.lists.proofs.MemberLaws.{each-cons}
 use Rattle.lists.proofs.RisingLaws.{insert-rising}
 use Rattle.tree.specs.Ladder.{ladder}

@@ -8,7 +8,8 @@ use native.Mathlib.Omega.{arith}
 use lib.Dec.{eqb}
 use lib.ListN.{length, drop, length-drop}
 use Rattle.lists.specs.Lists.{Bytes, first, runs}
-use Rattle.lists.proofs.ListLaws.{provided-some, first-listed, given-some, given-first}
+use Rattle.lists.proofs.ChoiceLaws.{provided-some, given-some, given-first}
+use Rattle.lists.proofs.ListLaws.{first-listed}
 use Rattle.lists.proofs.MemberLaws.{at-mapped}
 use Rattle.hash.specs.Bytes.{AreBytes}
 use Rattle.hash.proofs.BytesLaws.{bytes-drop}

@@ -9,7 +9,7 @@ use lib.ListN.{length}
 use borrow.Author.Tests.{leb-true, eqb-true}
 use Rattle.lists.specs.Choice.{orElse}
 use Rattle.lists.specs.Lists.{Bytes}
-use Rattle.lists.proofs.ListLaws.{test-some, bind-some, map-some, orElse-some}
+use Rattle.lists.proofs.ChoiceLaws.{test-some, bind-some, map-some, orElse-some}
 use Rattle.lists.proofs.MemberLaws.{each-nil, each-cons}
 use Rattle.hash.specs.Bytes.{AreBytes}
 use Rattle.lines.specs.Line.{Read, readLines, readLine, leading}

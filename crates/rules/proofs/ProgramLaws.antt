@@ -13,7 +13,8 @@ use lib.Seq.{take-all, length-take-le}
 use borrow.Author.Tests.{leb-true, leb-false, lt-leb}
 use Rattle.lists.specs.Choice.{_>>_, given}
 use Rattle.lists.specs.Lists.{Bytes, every}
-use Rattle.lists.proofs.ListLaws.{test-true, every-cons, given-none}
+use Rattle.lists.proofs.ChoiceLaws.{test-true, given-none}
+use Rattle.lists.proofs.ListLaws.{every-cons}
 use Rattle.rules.specs.Limits.{programResponseLimit, configurationLimit, signedTextLimit, vrfOutputsLimit, stateTextLimit, requestLimit}
 use Rattle.rules.specs.State.{State}
 use Rattle.rules.specs.StateText.{readState}

@@ -8,7 +8,7 @@ use Prim.Native.Nat.{ℕ, _≤_}
 use native.Mathlib.Omega.{arith}
 use Rattle.lists.specs.Choice.{choose}
 use Rattle.lists.specs.Lists.{Bytes}
-use Rattle.lists.proofs.ListLaws.{provided-true, provided-some}
+use Rattle.lists.proofs.ChoiceLaws.{provided-true, provided-some}
 use Rattle.rules.specs.Configuration.{readConfiguration}
 use Rattle.rules.specs.VrfOutputs.{readOutputs}
 use Rattle.rules.specs.State.{State, isValid}

@@ -12,7 +12,8 @@ use lib.ListN.{length}
 use borrow.Author.Tests.{le-leb, leb-true, not-false}
 use Rattle.lists.specs.Choice.{choose}
 use Rattle.lists.specs.Lists.{Bytes, every, written}
-use Rattle.lists.proofs.ListLaws.{choose-true, choose-by, all-implied, every-cons, equal-same}
+use Rattle.lists.proofs.ChoiceLaws.{choose-true, choose-by}
+use Rattle.lists.proofs.ListLaws.{all-implied, every-cons, equal-same}
 use Rattle.hash.specs.Sha256.{digestLength}
 use Rattle.tree.proofs.WalkValueLaws.{value-length}
 use Rattle.rules.specs.Limits.{responseLimit, configurationLimit, signedTextLimit, vrfOutputsLimit, identifierLength, stateTextLimit}

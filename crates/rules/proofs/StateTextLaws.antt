@@ -10,13 +10,15 @@ use lib.ListN.{length, length-append}
 use borrow.Author.Tests.{le-leb, eq-eqb}
 use Rattle.lists.specs.Choice.{_>>_}
 use Rattle.lists.specs.Lists.{Bytes, all, same}
-use Rattle.lists.proofs.ListLaws.{none-left, test-some, bind-some}
+use Rattle.lists.proofs.ChoiceLaws.{test-some, bind-some}
+use Rattle.lists.proofs.ListLaws.{none-left}
 use Rattle.hash.specs.Bytes.{AreBytes}
 use Rattle.lines.specs.Number.{ascii, decimal}
 use Rattle.lines.specs.Hex.{hexField}
 use Rattle.lines.specs.Field.{writeField, writeFields}
 use Rattle.lines.specs.Line.{tab, newline, Read, readLines, readLine, leading, joined}
-use Rattle.lines.proofs.LineLaws.{Fits, isPlainForm, lineText, write-line, read-line, line-read, line-lacks, read-other, AllLack, all-lack-append, all-lack-map}
+use Rattle.lines.proofs.FieldLaws.{Fits}
+use Rattle.lines.proofs.LineLaws.{isPlainForm, lineText, write-line, read-line, line-read, line-lacks, read-other, AllLack, all-lack-append, all-lack-map}
 use Rattle.lines.proofs.LineLaws.{linesText, text-append, text-written, text-short, lines-joined, joined-lines}
 use Rattle.lines.proofs.LineLaws.{leading-end, leading-none, leading-all, leading-was, leading-each}
 use Rattle.lines.proofs.NumberLaws.{decimal-short}

@@ -10,7 +10,8 @@ use lib.ListN.{length}
 use borrow.Author.Tests.{lt-leb, le-ltb, not-true, not-false}
 use Rattle.lists.specs.Choice.{choose}
 use Rattle.lists.specs.Lists.{all, same}
-use Rattle.lists.proofs.ListLaws.{and-holds, choose-true, choose-false, all-at, same-true}
+use Rattle.lists.proofs.ChoiceLaws.{and-holds, choose-true, choose-false}
+use Rattle.lists.proofs.ListLaws.{all-at, same-true}
 use Rattle.lists.proofs.MemberLaws.{each-nil, each-cons}
 use Rattle.tree.specs.Ladder.{ladder}
 use Rattle.tree.specs.PrefixTree.{lookupRoot, terminalFits}

@@ -10,7 +10,7 @@ use lib.ListN.{length, drop, getD, length-map, List·getD-eq-default}
 use borrow.Author.Tests.{lt-ltb, le-ltb, le-leb, lt-leb, ltb-true, eq-eqb, ne-eqb}
 use Rattle.lists.specs.Choice.{choose}
 use Rattle.lists.specs.Lists.{Bytes, any, rising}
-use Rattle.lists.proofs.ListLaws.{and-holds}
+use Rattle.lists.proofs.ChoiceLaws.{and-holds}
 use Rattle.lists.proofs.RisingLaws.{rising-tail}
 use Rattle.tree.specs.LogTree.{LogEntry, logLeafString, Range, isShown, stringAt}
 use Rattle.tree.specs.LogText.{entryIn, entriesAt}

@@ -13,7 +13,7 @@ use lib.ListN.{length, getD, take, drop}
 use lib.Pow.{pow-pos, shl-shr, split}
 use borrow.Author.Tests.{lt-ltb, le-ltb, eq-eqb, ne-eqb, eqb-true}
 use Rattle.lists.specs.Lists.{Bytes, runs}
-use Rattle.lists.proofs.ListLaws.{and-holds}
+use Rattle.lists.proofs.ChoiceLaws.{and-holds}
 use Rattle.hash.specs.Sha256.{digestLength}
 use Rattle.tree.specs.declared.log_tree.Step.{Step}
 use Rattle.tree.specs.declared.log_tree.Step.the-variants.{Retained, Given, Shown, Parent}

@@ -16,7 +16,8 @@ use lib.Seq.{getD-drop}
 use borrow.Author.Tests.{eq-eqb, eqb-true, lt-ltb, ltb-true, le-leb, leb-true}
 use Rattle.lists.specs.Choice.{choose}
 use Rattle.lists.specs.Lists.{Bytes}
-use Rattle.lists.proofs.ListLaws.{same-test, and-holds, holds-and, or-holds, never-holds, any-at, at-any}
+use Rattle.lists.proofs.ChoiceLaws.{same-test, and-holds, holds-and, or-holds, never-holds}
+use Rattle.lists.proofs.ListLaws.{any-at, at-any}
 use Rattle.tree.specs.SearchTree.{power}
 use Rattle.tree.specs.LogTree.{Range, sameRange, holds, fullFrom, fullSubtrees, isFull, holdsFull, zeros, valueAmong}
 use Rattle.tree.proofs.PowerLaws.{below-power, exponent-below, power-at}

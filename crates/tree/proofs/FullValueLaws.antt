@@ -8,7 +8,7 @@ use native.Mathlib.Omega.{arith}
 use lib.ListN.{length, drop}
 use lib.Pow.{pow-pos}
 use Rattle.lists.specs.Lists.{Bytes, any}
-use Rattle.lists.proofs.ListLaws.{choose-by}
+use Rattle.lists.proofs.ChoiceLaws.{choose-by}
 use Rattle.tree.specs.SearchTree.{power}
 use Rattle.tree.specs.LogTree.{Range, sameRange, splitAt, leftHalf, rightHalf, fullFrom, fullSubtrees, isFull, holdsFull, isShown, Walk, parent, nodeCount, Known, valueAmong, value, fullValues, walkOf}
 use Rattle.tree.proofs.CollisionLaws.{Sized}

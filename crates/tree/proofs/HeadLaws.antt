@@ -10,7 +10,7 @@ use lib.Dec.{leb, ltb}
 use lib.ListN.{replicate}
 use borrow.Author.Tests.{lt-ltb, le-ltb, le-leb, lt-leb, ltb-true, leb-true}
 use Rattle.lists.specs.Lists.{Bytes, all, every, rising}
-use Rattle.lists.proofs.ListLaws.{and-holds, choose-true, choose-false}
+use Rattle.lists.proofs.ChoiceLaws.{and-holds, choose-true, choose-false}
 use Rattle.hash.specs.Bytes.{padded}
 use Rattle.hash.specs.Sha256.{digestLength}
 use Rattle.hash.proofs.BytesLaws.{padded-nil}

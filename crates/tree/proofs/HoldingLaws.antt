@@ -8,7 +8,8 @@ use native.Mathlib.Omega.{arith}
 use lib.Dec.{leb, ltb}
 use lib.Pow.{pow-mono}
 use borrow.Author.Tests.{le-leb, lt-ltb}
-use Rattle.lists.proofs.ListLaws.{holds-and, at-any}
+use Rattle.lists.proofs.ChoiceLaws.{holds-and}
+use Rattle.lists.proofs.ListLaws.{at-any}
 use Rattle.tree.specs.LogTree.{Range, splitAt, leftHalf, rightHalf, fullSubtrees, isFull, holdsFull, isShown}
 use Rattle.tree.proofs.DigitLaws.{cut-bounds, by-order}
 use Rattle.tree.proofs.PowerLaws.{split-full, split-unique, left-half, halves-meet}

@@ -11,7 +11,8 @@ use lib.Pow.{pow-pos}
 use borrow.Author.Tests.{eqb-true, eq-eqb, ne-eqb}
 use Rattle.lists.specs.Choice.{choose}
 use Rattle.lists.specs.Lists.{Bytes, same}
-use Rattle.lists.proofs.ListLaws.{and-holds, holds-and, equal-same, same-true}
+use Rattle.lists.proofs.ChoiceLaws.{and-holds, holds-and}
+use Rattle.lists.proofs.ListLaws.{equal-same, same-true}
 use Rattle.tree.specs.LogTree.{Range, sameRange, leftHalf, rightHalf, isFull, fullSubtrees, Walk, retained, given, shown, parent, nodeCount, Known, valueAmong, keptValue, value, agrees, keptValuesMet, fullValues}
 use Rattle.tree.proofs.PowerLaws.{left-half, halves-meet}
 use Rattle.tree.proofs.DigitLaws.{cut-bounds}

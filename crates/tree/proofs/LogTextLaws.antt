@@ -20,7 +20,7 @@ use Rattle.lines.specs.Line.{tab, newline, Form, before, after, joined, line, w
 use Rattle.lines.proofs.PlaceLaws.{before-at, before-lacks, after-lacks}
 use Rattle.lines.proofs.NumberLaws.{isPlain, read-decimal, decimal-plain}
 use Rattle.lines.proofs.HexLaws.{length-hex, hexField-some}
-use Rattle.lines.proofs.LineLaws.{read-field}
+use Rattle.lines.proofs.FieldLaws.{read-field}
 use Rattle.lines.proofs.ReadingLaws.{number-empty, digest-long}
 use Rattle.tree.specs.LogTree.{zeros}
 use Rattle.tree.specs.LogText.{numberIn, valueDigits, valueIn, valuesIn, entryIn, nodeWord, nodeLine, nodesIn}

@@ -8,7 +8,8 @@ use native.Mathlib.Omega.{arith}
 use lib.ListN.{length, take}
 use borrow.Author.Tests.{not-true}
 use Rattle.lists.specs.Lists.{Bytes, same}
-use Rattle.lists.proofs.ListLaws.{and-holds, same-false}
+use Rattle.lists.proofs.ChoiceLaws.{and-holds}
+use Rattle.lists.proofs.ListLaws.{same-false}
 use Rattle.lists.proofs.MemberLaws.{each-nil, each-cons, each-append}
 use Rattle.hash.specs.Bytes.{AreBytes}
 use Rattle.hash.specs.Sha256.{digestLength, sha256}

@@ -7,7 +7,7 @@ use mathlib.Core.List.{List, [], _∷_, List·Memᴰ, List·Memᴰ·head, List·
 use Prim.Native.Nat.{ℕ}
 use lib.ListN.{drop}
 use Rattle.lists.specs.Lists.{Bytes}
-use Rattle.lists.proofs.ListLaws.{and-holds, holds-and}
+use Rattle.lists.proofs.ChoiceLaws.{and-holds, holds-and}
 use Rattle.hash.specs.Sha256.{sha256}
 use Rattle.tree.specs.LogTree.{Range, Walk, retained, given, shown, parent, nodeCount, Known, zeros, value, agrees, keptValuesMet, walkStrings, keptValue, fullSubtrees}
 use Rattle.tree.specs.PrefixTree.{Terminal, ownLeaf, emptyPlace, foreignLeaf, bits, terminalStrings, terminalValue, valueAbove, stringsAbove, lookupRoot, lookupStrings}

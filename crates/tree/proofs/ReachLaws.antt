@@ -10,7 +10,7 @@ use native.Mathlib.Omega.{arith}
 use lib.Dec.{eqb}
 use lib.Pow.{pow-pos, pow-mono, high}
 use borrow.Author.Tests.{eq-eqb, lt-ltb, ltb-false}
-use Rattle.lists.proofs.ListLaws.{holds-and}
+use Rattle.lists.proofs.ChoiceLaws.{holds-and}
 use Rattle.tree.specs.SearchTree.{power}
 use Rattle.tree.specs.LogTree.{Range, leftHalf, rightHalf, isFull, holdsFull, isShown, Walk, retained, given, shown, parent, fullFrom, fullSubtrees}
 use Rattle.tree.proofs.PowerLaws.{below-power, exponent-below, left-half, halves-filled, halves-meet, power-unique}

@@ -7,7 +7,7 @@ use native.Mathlib.Omega.{arith}
 use lib.Dec.{eqb}
 use borrow.Author.Tests.{eqb-true, eqb-false, not-true}
 use Rattle.lists.specs.Choice.{choose}
-use Rattle.lists.proofs.ListLaws.{and-holds, choose-by}
+use Rattle.lists.proofs.ChoiceLaws.{and-holds, choose-by}
 use Rattle.tree.specs.LogTree.{Range, leftHalf, rightHalf, isFull, holdsFull, Walk, retained, given, shown, parent, isShown, walk, widthOf}
 use Rattle.tree.proofs.PowerLaws.{halves-meet, halves-filled}
 use Rattle.tree.specs.LogWalk.{range}

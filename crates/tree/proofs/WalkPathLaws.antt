@@ -7,7 +7,8 @@ use Prim.Native.Nat.{ℕ, _+_, _≤_, _<_}
 use native.Mathlib.Omega.{arith}
 use lib.ListN.{drop}
 use Rattle.lists.specs.Lists.{Bytes}
-use Rattle.lists.proofs.ListLaws.{and-holds, same-true}
+use Rattle.lists.proofs.ChoiceLaws.{and-holds}
+use Rattle.lists.proofs.ListLaws.{same-true}
 use Rattle.hash.specs.Sha256.{sha256}
 use Rattle.tree.specs.LogTree.{Range, splitAt, leftHalf, rightHalf, logParentString, isFull, Walk, parent, nodeCount, widthOf, Known, keptValue, stringAt, value, agrees, keptValuesMet, walkStrings}
 use Rattle.tree.proofs.CollisionLaws.{Sized, Within}

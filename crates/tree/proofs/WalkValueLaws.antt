@@ -8,7 +8,7 @@ use lib.Dec.{eqb}
 use lib.ListN.{length, getD, drop, length-replicate}
 use Rattle.lists.specs.Choice.{choose}
 use Rattle.lists.specs.Lists.{Bytes}
-use Rattle.lists.proofs.ListLaws.{choose-by}
+use Rattle.lists.proofs.ChoiceLaws.{choose-by}
 use Rattle.lists.proofs.MemberLaws.{each-nil, each-cons, each-append}
 use Rattle.hash.specs.Bytes.{AreBytes, bigEndian}
 use Rattle.hash.specs.Sha256.{digestLength, sha256}

@@ -10,7 +10,7 @@ use lib.ListN.{length}
 use borrow.Author.Tests.{le-leb, lt-leb}
 use Rattle.lists.specs.Choice.{provided, choose}
 use Rattle.lists.specs.Lists.{Bytes, every}
-use Rattle.lists.proofs.ListLaws.{bind-some, test-some, choose-true, choose-false}
+use Rattle.lists.proofs.ChoiceLaws.{bind-some, test-some, choose-true, choose-false}
 use Rattle.rules.specs.Limits.{labelLimit, stateTextLimit}
 use Rattle.rules.specs.State.{State, isValid}
 use Rattle.rules.specs.StateText.{readState, writeState, readStateLines, readStateText}

@@ -1,5 +1,5 @@
 -- Functions that take a reader apart and ask a cursor at its place of its text (src/reading.rt): each says of the reader what the cursor's function says of text and place.
-use mathlib.Core.Path.{_≡_, refl}
+use mathlib.Core.Path.{refl}
 use mathlib.Core.List.{List, [], _∷_}
 use Prim.Native.Nat.{ℕ, _<_, _^_}
 use lib.ListN.{length}
@@ -11,7 +11,7 @@ use base.Fml.{Lft, Share, Fml}
 use lib.Dec.{T as Holds}
 use prog.Wp.{Heap, Calls, Loops, WpFn, Tables}
 use ghost.Atoms.{Atoms, sem}
-use types.Kit.{Given, ‵, raw, _⊛_, given, _$_, _∵_, !, qed, by, move, drop, use1, use2, split, join, learn, fjoin, frame, done}
+use types.Kit.{Given, ‵, raw, _⊛_, _$_, _∵_, !, qed, by, move, use1, use2, split, join, fjoin, frame, done}
 use types.Part.{whole, sub, look-in, agg}
 use types.Run.{look, init, forget, stop, fld, from, load, of-opd, and-then, no-more, assigns, land, returns, enter, alloc1, alloc0, params1, pass1, pass0, free1, free0}
 use sound.WpLaws.{FmC, fmOf}
@@ -20,7 +20,7 @@ use denote.Signature.{Slot, plain, namedLft}
 use denote.Laws.{Is, shows}
 use denote.Plain.{uint-makes}
 use denote.Steps.{owned, peeks, nothing}
-use denote.Struct.Rest.{all-own, ownAt, rest, own-open, own-out, own-shut}
+use denote.Struct.Rest.{own-shut}
 use denote.Triple.Statement.{Contract, Triple}
 use denote.Triple.Entry.{Vals}
 use denote.Exit.{yes}
@@ -33,10 +33,9 @@ use Rattle.lines.specs.declared.cursor.Cursor.{Cursor}
 use Rattle.lines.proofs.cursor.Cursor as C
 use Rattle.lines.proofs.cursor.Cursor.Laws as C′
 use Rattle.verifier.specs.declared.reading.Reader.{Reader}
-use Rattle.verifier.proofs.reading.Reader as T
 use Rattle.verifier.proofs.reading.Reader.Laws as T′
 use Rattle.verifier.proofs.ByHandLaws.{Token, signature, Call, at, calls}
-use Rattle.verifier.proofs.ReaderTakenLaws.{Contracted, Entry, Post, Own, begins, exits, twice, meets}
+use Rattle.verifier.proofs.ReaderTakenLaws.{Text, held-text, held-twice, Contracted, Entry, Post, Own, begins, exits, meets}
 
 -- the code of such a function, by the function called and the type of its answer
 abbrev pub apart : Name → Ty → Fn
@@ -98,14 +97,12 @@ module _ (R : RattleType) (Says : Bytes → ℕ → R .Denot → Type 0) where
       hands : d .at < 2 ^ 64 → ent 𝓤 (Entry R Same 𝓤 H A W κ q d) (sep 𝓤 (CursorCall .pre asked) (sem 𝓤 H A Owned))
       hands fits =
           qed W (raw (Entry R Same 𝓤 H A W κ q d) ∷ []) ∵ use1 W (‵ Owned ⊛ Token 𝓤 A κ q) (begins R Same 𝓤 H A W κ q d) $ split ! $
-          use1 W (‵ Owned ⊛ ‵ Owned) (twice R Same 𝓤 H A W κ q d (T′.lowered d)) $ split ! $
-          use1 W (given (T′.lowered d ∷ [] ≡ T′.lowered d ∷ []) (‵ (all-own (T.the-type α .parts) (T′.the-laws α) (d .text, (d .at, tt))))) (own-open 𝓤 H A W (T.the-type α) (T′.the-laws α) (d .text, (d .at, tt)) (T′.lowered d)) $ learn ! (λ _.
-          use1 W (‵ (ownAt (T.the-type α .parts) (T′.the-laws α) 0 (d .text)) ⊛ ‵ (rest (T.the-type α .parts) (T′.the-laws α) 0 (d .text, (d .at, tt)))) (own-out 𝓤 H A W (T.the-type α .parts) (T′.the-laws α) 0 (d .text, (d .at, tt))) $ split ! $
-          -- here: what the text owns; what the place owns; what the reader owns; the token
-          move ! (1 ∷ []) $ drop ! $ nothing ! $ move ! (1 ∷ 0 ∷ []) $ fjoin ! $
+          use1 W (‵ Owned ⊛ ‵ Owned) (held-twice 𝓤 H A W κ d (T′.lowered d)) $ split ! $ use1 W (‵ (Text 𝓤 H A W κ (d .text))) (held-text 𝓤 H A W κ d) $
+          -- here: what the text owns; what the reader owns; the token
+          nothing ! $ move ! (1 ∷ 0 ∷ []) $ fjoin ! $
           nothing ! $ owned ! usize (Is usize) (uint-makes 𝓤 H A W w64) (d .at) _ (refl, fits) $ fjoin ! $
           use1 W (‵ (C.the-row .own cursor (C′.lowered cursor ∷ []))) (own-shut 𝓤 H A W C.the-type C′.the-laws (d .at, tt)) $ fjoin ! $ move ! (2 ∷ 0 ∷ []) $
-          use2 W (raw (CursorCall .pre asked)) (qed W (Token 𝓤 A κ q ∷ ‵ (owns (C.the-row ∷ ShrSlice (named 0) κ u8 ∷ []) (cursor, (d .text, tt)) handed) ∷ []) ∵ join ! $ frame ! $ done !) $ frame ! $ done !)
+          use2 W (raw (CursorCall .pre asked)) (qed W (Token 𝓤 A κ q ∷ ‵ (owns (C.the-row ∷ ShrSlice (named 0) κ u8 ∷ []) (cursor, (d .text, tt)) handed) ∷ []) ∵ join ! $ frame ! $ done !) $ frame ! $ done !
 
       module _ (ty : Ty) (typed : (r : R .Denot) (u : Val) → Is R r (u ∷ []) → Holds (hasTy ty u) × WT u) (C : Calls 𝓤 H) (Λ : Loops 𝓤 H) (fm : FmC 𝓤 H (W .laws) C) (f : Name) (known : Triple 𝓤 (C f) CursorCall) where
         follow : Holds (hasTy (T′.mir (named 0)) (T′.lowered d)) × WT (T′.lowered d) → ent 𝓤 (Entry R Same 𝓤 H A W κ q d) (WpFn 𝓤 H C Λ (apart f ty) (T′.lowered d ∷ []) (Post R Same 𝓤 H A W κ q d))

@@ -11,10 +11,9 @@ use contract.Lifetimes.{Lfts}
 use types.Kit.{Given, ‵, raw, _⊛_, ⋆, _$_, _∵_, !, qed, move, use1, use2, split, join, fjoin, frame, done}
 use denote.RattleType.{owns}
 use denote.Laws.{Is}
-use denote.Signature.{Slot, plain, namedLft}
+use denote.Signature.{Slot, plain}
 use denote.Steps.{nothing, owned}
 use denote.Enum.Laws as EL
-use denote.Struct.Laws as LL
 use denote.Triple.End.{Kepts}
 use denote.Triple.Statement.{Contract}
 use denote.Triple.Walked.{Stays, stay-none}
@@ -26,9 +25,7 @@ use Rattle.lines.proofs.cursor.NextLine as L
 use Rattle.lines.proofs.cursor.NextLine.Laws as L′
 use Rattle.verifier.specs.declared.reading.Reader.{Reader}
 use Rattle.verifier.proofs.ByHandLaws.{Token, Call, at}
-use Rattle.verifier.proofs.ReaderTakenLaws.{held}
-use Rattle.verifier.proofs.reading.Reader as T
-use Rattle.verifier.proofs.reading.Reader.Laws as T′
+use Rattle.verifier.proofs.ReaderTakenLaws.{held, held-twice}
 
 abbrev pub taken : List (Slot 1)
 taken = plain held ∷ plain (λ κs. L.the-row) ∷ []
@@ -53,8 +50,7 @@ module _ {M : Type 1} (𝓤 : URA M) (H : Heap 𝓤) (A : Atoms 𝓤) where
       (sep 𝓤 (Contracted .pre (at 1 taken kept held Behind 𝓤 H A (κ, tt) (q, tt) (d, (l, tt)) (v ∷ [], (w ∷ [], tt)))) (sem 𝓤 H A (held (κ, tt) .own d (v ∷ []))))
   hands W κ q d l v w is =
       let Own = held (κ, tt) .own d (v ∷ []) in
-      let α = namedLft 1 0 tt (κ, tt) in
-      qed W (‵ Own ∷ Token 𝓤 A κ q ∷ []) ∵ use1 W (‵ Own ⊛ ‵ Own) (LL.copy (T.the-type α) (T′.the-copy α) 𝓤 H A W .twice d (v ∷ [])) $ split ! $
+      qed W (‵ Own ∷ Token 𝓤 A κ q ∷ []) ∵ use1 W (‵ Own ⊛ ‵ Own) (held-twice 𝓤 H A W κ d v) $ split ! $
       nothing ! $ owned ! L.the-row (Is L.the-row) (EL.makes L.the-type L′.the-plain 𝓤 H A) l _ is $ fjoin ! $ move ! (1 ∷ 0 ∷ []) $ fjoin ! $ move ! (2 ∷ 0 ∷ []) $
       use2 W (raw (Contracted .pre (at 1 taken kept held Behind 𝓤 H A (κ, tt) (q, tt) (d, (l, tt)) (v ∷ [], (w ∷ [], tt)))))
       (qed W (Token 𝓤 A κ q ∷ ‵ (owns (held (κ, tt) ∷ L.the-row ∷ []) (d, (l, tt)) (v ∷ [], (w ∷ [], tt))) ∷ []) ∵ join ! $ frame ! $ done !) $ frame ! $ done !

@@ -1,5 +1,5 @@
 -- Functions that take a reader (src/reading.rt): what they have at entry and owe at exit, and what their callers have.
-use mathlib.Core.Path.{refl, sym, subst}
+use mathlib.Core.Path.{_≡_, refl, sym, subst}
 use mathlib.Core.List.{List, [], _∷_}
 use Prim.Native.Nat.{ℕ}
 use lib.ListN.{length}
@@ -12,7 +12,7 @@ use lib.Dec.{T as Holds}
 use prog.Wp.{Heap, Env, Calls, Loops, WpFn, Tables}
 use ghost.Atoms.{Atoms, sem}
 use contract.Lifetimes.{Lfts}
-use types.Kit.{Given, Item, Post as Exits, Seq, runs, lands, ‵, raw, _⊛_, ⋆, _$_, _∵_, !, qed, by, move, drop, use1, use2, split, join, fsplit, fjoin, suffices, frame, done}
+use types.Kit.{Given, Item, Post as Exits, Seq, runs, lands, ‵, raw, _⊛_, given, ⋆, _$_, _∵_, !, qed, by, move, drop, use1, use2, split, join, learn, fsplit, fjoin, suffices, frame, done}
 use types.Run.{Opds}
 use sound.WpLaws.{FmC, WpFn-mono}
 use denote.RattleType.{RattleType, owns}
@@ -23,7 +23,8 @@ use denote.Plain.{uint-makes}
 use denote.Builtin.{u8, usize}
 use denote.Ref.{RefT, now}
 use denote.Slice.{sliceVal, ShrSlice}
-use denote.Struct.Rest.{own-shut}
+use denote.Struct.Values.{Values}
+use denote.Struct.Rest.{all-own, ownAt, rest, own-open, own-out, own-shut}
 use denote.Struct.Laws as LL
 use denote.Triple.Statement.{Contract, Triple}
 use denote.Triple.Entry.{onEntry}
@@ -41,19 +42,34 @@ use Rattle.verifier.proofs.ByHandLaws.{Token, signature, ended, clauses
 abbrev pub held : Lfts 1 → RattleType
 held κs = T.the-row (namedLft 1 0 tt κs)
 
--- of what a text owns, with a place, a reader is made
-module _ {M : Type 1} (𝓤 : URA M) (H : Heap 𝓤) (A : Atoms 𝓤) (W : Given 𝓤 H A) (κ : Lft) (s : RefT Bytes) (n : ℕ) where
+module _ {M : Type 1} (𝓤 : URA M) (H : Heap 𝓤) (A : Atoms 𝓤) (W : Given 𝓤 H A) (κ : Lft) where
+  -- what a text owns
+  abbrev pub Text : RefT Bytes → Fml
+  Text s = ShrSlice (named 0) κ u8 .own s (sliceVal (s .ptr) (length (now s)) ∷ [])
+
+  -- of it, with a place, a reader is made
   pub held-made :
-      (u : Val) → Is usize n (u ∷ [])
-      → ent 𝓤 (sem 𝓤 H A (ShrSlice (named 0) κ u8 .own s (sliceVal (s .ptr) (length (now s)) ∷ [])))
-      (sem 𝓤 H A (held (κ, tt) .own (record { text = s; at = n }) (vstruct (ofList (sliceVal (s .ptr) (length (now s)) ∷ u ∷ [])) ∷ [])))
-  held-made u is =
-      let text = sliceVal (s .ptr) (length (now s)) in
+      (s : RefT Bytes) (n : ℕ) (u : Val) → Is usize n (u ∷ [])
+      → ent 𝓤 (sem 𝓤 H A (Text s)) (sem 𝓤 H A (held (κ, tt) .own (record { text = s; at = n }) (vstruct (ofList (sliceVal (s .ptr) (length (now s)) ∷ u ∷ [])) ∷ [])))
+  held-made s n u is =
       let α = namedLft 1 0 tt (κ, tt) in
       subst
-      (λ (us : List Val). ent 𝓤 (sem 𝓤 H A (ShrSlice (named 0) κ u8 .own s (text ∷ []))) (sem 𝓤 H A (held (κ, tt) .own (record { text = s; at = n }) (vstruct (ofList (text ∷ us)) ∷ [])))) (sym (is .0))
-      (qed W (‵ (ShrSlice (named 0) κ u8 .own s (text ∷ [])) ∷ []) ∵
-      nothing ! $ owned ! usize (Is usize) (uint-makes 𝓤 H A W w64) n _ (refl, is .1) $ fjoin ! $ move ! (1 ∷ 0 ∷ []) $ fjoin ! $ by ! (own-shut 𝓤 H A W (T.the-type α) (T′.the-laws α) (s, (n, tt))))
+      (λ (us : List Val). ent 𝓤 (sem 𝓤 H A (Text s)) (sem 𝓤 H A (held (κ, tt) .own (record { text = s; at = n }) (vstruct (ofList (sliceVal (s .ptr) (length (now s)) ∷ us)) ∷ [])))) (sym (is .0))
+      (qed W (‵ (Text s) ∷ []) ∵ nothing ! $ owned ! usize (Is usize) (uint-makes 𝓤 H A W w64) n _ (refl, is .1) $ fjoin ! $ move ! (1 ∷ 0 ∷ []) $ fjoin ! $ by ! (own-shut 𝓤 H A W (T.the-type α) (T′.the-laws α) (s, (n, tt))))
+
+  -- and of a reader it is had again
+  pub held-text : (d : Reader) → ent 𝓤 (sem 𝓤 H A (held (κ, tt) .own d (T′.lowered d ∷ []))) (sem 𝓤 H A (Text (d .text)))
+  held-text d =
+      let D = T.the-type (namedLft 1 0 tt (κ, tt)) in
+      let L = T′.the-laws (namedLft 1 0 tt (κ, tt)) in
+      let fields : Values (D .parts) = (d .text, (d .at, tt)) in
+      qed W (‵ (held (κ, tt) .own d (T′.lowered d ∷ [])) ∷ []) ∵
+      use1 W (given (T′.lowered d ∷ [] ≡ T′.lowered d ∷ []) (‵ (all-own (D .parts) L fields))) (own-open 𝓤 H A W D L fields (T′.lowered d)) $ learn ! (λ _.
+      use1 W (‵ (ownAt (D .parts) L 0 (d .text)) ⊛ ‵ (rest (D .parts) L 0 fields)) (own-out 𝓤 H A W (D .parts) L 0 fields) $ split ! $ move ! (1 ∷ []) $ drop ! $ done !)
+
+  -- what a reader owns can be copied
+  pub held-twice : (d : Reader) (v : Val) → ent 𝓤 (sem 𝓤 H A (held (κ, tt) .own d (v ∷ []))) (sep 𝓤 (sem 𝓤 H A (held (κ, tt) .own d (v ∷ []))) (sem 𝓤 H A (held (κ, tt) .own d (v ∷ []))))
+  held-twice d v = let α = namedLft 1 0 tt (κ, tt) in LL.copy (T.the-type α) (T′.the-copy α) 𝓤 H A W .twice d (v ∷ [])
 
 -- the one parameter, which stays as it is
 abbrev pub taken : List (Slot 1)
@@ -100,13 +116,10 @@ module _ (R : RattleType) (Says : Reader → R .Denot → Type 0) {M : Type 1} (
         suffices ! _ (ends-at 𝓤 H A (ended 1 taken kept (λ κs. R)) stayed said W (passed (T′.lowered d)) u r (tt, tt) (tt, tt)) $ says ! e $
         move ! (1 ∷ []) $ frame ! $ nothing ! $ move ! (2 ∷ 0 ∷ []) $ fjoin ! $ frame ! $ done !
 
-    -- a reader can be copied: its owner hands it over and still owns it
-    pub twice : (v : Val) → ent 𝓤 (sem 𝓤 H A (Own v)) (sep 𝓤 (sem 𝓤 H A (Own v)) (sem 𝓤 H A (Own v)))
-    twice v = LL.copy (T.the-type (namedLft 1 0 tt (κ, tt))) (T′.the-copy (namedLft 1 0 tt (κ, tt))) 𝓤 H A W .twice d (v ∷ [])
-
+    -- the owner of a reader hands it over and still owns it
     hands : (v : Val) → ent 𝓤 (⋆ 𝓤 H A (‵ (Own v) ∷ Token 𝓤 A κ q ∷ [])) (sep 𝓤 (Contracted .pre (passed v)) (sem 𝓤 H A (Own v)))
     hands v =
-        qed W (‵ (Own v) ∷ Token 𝓤 A κ q ∷ []) ∵ use1 W (‵ (Own v) ⊛ ‵ (Own v)) (twice v) $ split ! $ nothing ! $ move ! (1 ∷ 0 ∷ []) $ fjoin ! $ move ! (2 ∷ 0 ∷ []) $
+        qed W (‵ (Own v) ∷ Token 𝓤 A κ q ∷ []) ∵ use1 W (‵ (Own v) ⊛ ‵ (Own v)) (held-twice 𝓤 H A W κ d v) $ split ! $ nothing ! $ move ! (1 ∷ 0 ∷ []) $ fjoin ! $ move ! (2 ∷ 0 ∷ []) $
         use2 W (raw (Contracted .pre (passed v))) (qed W (Token 𝓤 A κ q ∷ ‵ (owns (held (κ, tt) ∷ []) (d, tt) (v ∷ [], tt)) ∷ []) ∵ join ! $ frame ! $ done !) $ frame ! $ done !
 
     -- so a caller has reader and token as before, and an answer with what is said of it

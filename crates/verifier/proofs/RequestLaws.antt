@@ -9,7 +9,8 @@ use lib.ListN.{length, take, drop, replicate}
 use borrow.Author.Tests.{lt-ltb, le-ltb}
 use Rattle.lists.specs.Choice.{provided, _>>_, orElse}
 use Rattle.lists.specs.Lists.{Bytes, same}
-use Rattle.lists.proofs.ListLaws.{provided-some, provided-then, test-none, same-true}
+use Rattle.lists.proofs.ChoiceLaws.{provided-some, provided-then, test-none}
+use Rattle.lists.proofs.ListLaws.{same-true}
 use Rattle.hash.proofs.BytesLaws.{take-padded}
 use Rattle.lines.specs.Number.{ascii, readNumber}
 use Rattle.lines.specs.Hex.{readHex, spelledLength}

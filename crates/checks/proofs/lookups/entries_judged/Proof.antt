@@ -5,7 +5,7 @@ use lib.ListN.{length}
 use Rattle.checks.specs.declared.sections.NextEntry.the-variants.{Entry as EntryAt}
 use Rattle.checks.specs.Sections.{IsNextEntry}
 use Rattle.checks.proofs.EntryLaws.{entry-found, entry-missing}
-use Rattle.checks.proofs.JudgeLaws.{EntriesJudged, entries-none, entries-before, entries-here, entries-later, entries-all}
+use Rattle.checks.proofs.JudgedEntriesLaws.{EntriesJudged, entries-none, entries-before, entries-here, entries-later, entries-all}
 use borrow.Author.Needs.{needs}
 use Rattle.checks.proofs.lookups.entries_judged.Statement.{statement}
 use Rattle.checks.proofs.lookups.entries_judged.Tie as tie

@@ -1,7 +1,7 @@
 -- `checks::lookups::lookup_passes` meets its contract: each way of trying a lookup is with the output and the commitment that the rules name.
 use native.Mathlib.Omega.{arith}
 use borrow.Author.Tests.{not-true, not-false}
-use Rattle.checks.proofs.JudgeLaws.{passes-absent, passes-untried, passes-own, passes-step}
+use Rattle.checks.proofs.TriedLookupLaws.{passes-absent, passes-untried, passes-own, passes-step}
 use borrow.Author.Needs.{needs}
 use Rattle.checks.proofs.lookups.lookup_passes.Statement.{statement}
 use Rattle.checks.proofs.lookups.lookup_passes.Tie as tie

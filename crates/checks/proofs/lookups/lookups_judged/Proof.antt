@@ -5,7 +5,7 @@ use lib.ListN.{length}
 use Rattle.checks.specs.declared.sections.NextLookup.the-variants.{Lookup as LookupAt}
 use Rattle.checks.specs.Sections.{IsNextLookup}
 use Rattle.checks.proofs.EntryLaws.{lookup-found, lookup-missing}
-use Rattle.checks.proofs.JudgeLaws.{LookupsJudged, judged-none, judged-next, judged-all}
+use Rattle.checks.proofs.JudgedLookupsLaws.{LookupsJudged, judged-none, judged-next, judged-all}
 use borrow.Author.Needs.{needs}
 use Rattle.checks.proofs.lookups.lookups_judged.Statement.{statement}
 use Rattle.checks.proofs.lookups.lookups_judged.Tie as tie

@@ -2,7 +2,7 @@
 use mathlib.Core.Path.{sym, _∙_, ap}
 use mathlib.Core.List.{[]}
 use Rattle.lists.specs.Choice.{given}
-use Rattle.lists.proofs.ListLaws.{given-provided, none-given}
+use Rattle.lists.proofs.ChoiceLaws.{given-provided, none-given}
 use Rattle.lines.specs.Number.{ascii}
 use Rattle.lines.specs.Readings.{wordOf}
 use Rattle.lines.proofs.FormLaws.{read-ended, line-on, line-off}

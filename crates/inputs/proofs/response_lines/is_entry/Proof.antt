@@ -2,7 +2,7 @@
 use mathlib.Core.Path.{_≡_, sym, _∙_, ap}
 use mathlib.Core.List.{[], _∷_}
 use Rattle.lists.specs.Choice.{given}
-use Rattle.lists.proofs.ListLaws.{none-given}
+use Rattle.lists.proofs.ChoiceLaws.{none-given}
 use Rattle.lines.specs.Number.{ascii}
 use Rattle.lines.specs.Field.{number, exactly, readFields}
 use Rattle.lines.specs.Cursor.{fieldsFrom}

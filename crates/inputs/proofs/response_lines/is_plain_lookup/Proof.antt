@@ -1,7 +1,7 @@
 -- `inputs::response_lines::is_plain_lookup` meets its contract: the line is the word, a version and siblings.
 use mathlib.Core.Path.{sym, _∙_, ap}
 use mathlib.Core.List.{[], _∷_}
-use Rattle.lists.proofs.ListLaws.{none-given}
+use Rattle.lists.proofs.ChoiceLaws.{none-given}
 use Rattle.lines.specs.Readings.{nextNumberOf}
 use Rattle.rules.specs.ResponseText.{siblingsField}
 use Rattle.inputs.proofs.ResponseLineLaws.{number-off, number-given}

@@ -3,7 +3,7 @@ use mathlib.Core.Path.{_≡_, refl, sym, _∙_, ap}
 use mathlib.Core.List.{[], _∷_}
 use borrow.Author.Tests.{eq-eqb, ne-eqb}
 use Rattle.lists.specs.Choice.{given}
-use Rattle.lists.proofs.ListLaws.{none-given}
+use Rattle.lists.proofs.ChoiceLaws.{none-given}
 use Rattle.lines.specs.Number.{ascii}
 use Rattle.lines.specs.Field.{readFields}
 use Rattle.lines.specs.Cursor.{fieldsFrom}

@@ -1,6 +1,6 @@
 -- `inputs::response_lines::number_after` meets its contract: the word is passed over, and the number read after it.
 use mathlib.Core.Path.{sym, _∙_, ap}
-use Rattle.lists.proofs.ListLaws.{bind-at, bind-none}
+use Rattle.lists.proofs.ChoiceLaws.{bind-at, bind-none}
 use Rattle.lines.specs.Readings.{wordOf}
 use borrow.Author.Needs.{needs}
 use Rattle.inputs.proofs.response_lines.number_after.Statement.{statement}

@@ -3,7 +3,7 @@ use mathlib.Core.Path.{sym, _∙_, ap}
 use native.Mathlib.Omega.{arith}
 use Rattle.lines.specs.Hex.{spelledLength}
 use Rattle.lines.specs.Readings.{spellingOf}
-use Rattle.lines.proofs.FieldLaws.{read-beyond, read-none, read-some}
+use Rattle.lines.proofs.CursorLaws.{read-beyond, read-none, read-some}
 use borrow.Author.Needs.{needs}
 use Rattle.lines.proofs.cursor.Cursor.bytes.Statement.{statement}
 use Rattle.lines.proofs.cursor.Cursor.bytes.Tie as tie

@@ -4,7 +4,7 @@ use native.Mathlib.Omega.{arith}
 use Rattle.lines.specs.Line.{tab}
 use Rattle.lines.specs.Cursor.{fieldAt}
 use Rattle.lines.proofs.PlaceLaws.{before-at}
-use Rattle.lines.proofs.FieldLaws.{field-beyond}
+use Rattle.lines.proofs.CursorLaws.{field-beyond}
 use borrow.Author.Needs.{needs}
 use Rattle.lines.proofs.cursor.Cursor.field.Statement.{statement}
 use Rattle.lines.proofs.cursor.Cursor.field.Tie as tie

@@ -1,7 +1,7 @@
 -- `lines::cursor::Cursor::line` meets its contract: the line stops at the first newline from the cursor on.
 use mathlib.Core.Path.{sym}
 use native.Mathlib.Omega.{arith}
-use Rattle.lines.proofs.FieldLaws.{line-ended, line-open}
+use Rattle.lines.proofs.CursorLaws.{line-ended, line-open}
 use borrow.Author.Needs.{needs}
 use Rattle.lines.proofs.cursor.Cursor.line.Statement.{statement}
 use Rattle.lines.proofs.cursor.Cursor.line.Tie as tie

@@ -3,7 +3,7 @@ use mathlib.Core.Path.{sym, _∙_, ap}
 use native.Mathlib.Omega.{arith}
 use Rattle.lines.specs.Number.{readNumber}
 use Rattle.lines.specs.Readings.{numberOf}
-use Rattle.lines.proofs.FieldLaws.{read-beyond, read-none, read-some}
+use Rattle.lines.proofs.CursorLaws.{read-beyond, read-none, read-some}
 use borrow.Author.Needs.{needs}
 use Rattle.lines.proofs.cursor.Cursor.number.Statement.{statement}
 use Rattle.lines.proofs.cursor.Cursor.number.Tie as tie

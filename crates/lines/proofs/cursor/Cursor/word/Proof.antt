@@ -1,7 +1,7 @@
 -- `lines::cursor::Cursor::word` meets its contract: the field at the cursor is compared with the word.
 use mathlib.Core.Path.{sym, _∙_}
 use native.Mathlib.Omega.{arith}
-use Rattle.lines.proofs.FieldLaws.{word-beyond, word-other, word-same}
+use Rattle.lines.proofs.CursorLaws.{word-beyond, word-other, word-same}
 use borrow.Author.Needs.{needs}
 use Rattle.lines.proofs.cursor.Cursor.word.Statement.{statement}
 use Rattle.lines.proofs.cursor.Cursor.word.Tie as tie

@@ -13,7 +13,7 @@ use prog.Wp.{Heap, Calls, Loops, WpFn, Tables}
 use ghost.Atoms.{Atoms}
 use contract.Lifetimes.{Lfts}
 use contract.Running.{givenOf, tables, tablesOf}
-use types.Kit.{Given, ‵, raw, _⊛_, given, _$_, _∵_, !, qed, by, move, drop, use1, use2, split, join, learn, fsplit, fjoin, suffices, frame, done}
+use types.Kit.{Given, ‵, raw, _⊛_, _$_, _∵_, !, qed, by, move, drop, use1, use2, split, join, fsplit, fjoin, suffices, frame, done}
 use types.Part.{whole, sub, look-in, agg}
 use types.Run.{look, init, forget, stop, fld, from, load, of-opd, and-then, no-more, assigns, land, returns, enter, alloc1, alloc0, params1, pass1, pass0, free1, free0}
 use sound.WpLaws.{FmC, fmOf, WpFn-mono}
@@ -27,7 +27,7 @@ use denote.Slice.{sliceVal}
 use denote.Steps.{facts, nothing, owned}
 use denote.Enum.Laws as EL
 use denote.Struct.Laws as LL
-use denote.Struct.Rest.{all-own, ownAt, rest, own-open, own-out, own-shut}
+use denote.Struct.Rest.{own-shut}
 use denote.Triple.Entry.{Vals, onEntry}
 use denote.Triple.Statement.{Contract, Triple}
 use denote.Triple.Clauses.{Clauses}
@@ -46,7 +46,7 @@ use Rattle.lines.proofs.cursor.NextLine as L
 use Rattle.lines.proofs.cursor.NextLine.Laws as L′
 use Rattle.verifier.specs.declared.reading.Reader.{Reader}
 use Rattle.verifier.proofs.ByHandLaws.{Tokens, Token, signature, ended, clauses, Call, at, calls}
-use Rattle.verifier.proofs.ReaderTakenLaws.{held, held-made}
+use Rattle.verifier.proofs.ReaderTakenLaws.{held, Text, held-made, held-text, held-twice}
 use Rattle.verifier.proofs.ReaderBehindLaws.{taken, kept, stayed, Behind, Contracted}
 use Rattle.verifier.proofs.reading.Reader as T
 use Rattle.verifier.proofs.reading.Reader.Laws as T′
@@ -101,15 +101,12 @@ module _ {M : Type 1} (𝓤 : URA M) (H : Heap 𝓤) (A : Atoms 𝓤) (W : Given
 
   exits : (n : ℕ) (u : Val) → Is usize n (u ∷ []) → n ≡ behind (lineOf l) (d .at) → ent 𝓤 Entry (Post (vstruct (ofList (text ∷ u ∷ []))))
   exits n u is e =
-      let α = namedLft 1 0 tt (κ, tt) in
       let made : Reader = record { text = d .text; at = n } in
       let Own = held (κ, tt) .own d (T′.lowered d ∷ []) in
       qed W (Token 𝓤 A κ q ∷ ‵ (owns (held (κ, tt) ∷ L.the-row ∷ []) (d, (l, tt)) passed) ∷ []) ∵
       suffices ! _ (ends-at 𝓤 H A (ended 1 taken kept held) stayed (said 𝓤 H A) W (at 1 taken kept held Behind 𝓤 H A (κ, tt) (q, tt) (d, (l, tt)) passed) (vstruct (ofList (text ∷ u ∷ []))) made (tt, (tt, tt)) (tt, (tt, tt))) $ says ! (refl, e) $
-      frame ! $ fsplit ! $ use1 W (‵ Own ⊛ ‵ Own) (LL.copy (T.the-type α) (T′.the-copy α) 𝓤 H A W .twice d (T′.lowered d ∷ [])) $ split ! $ move ! (0 ∷ 2 ∷ []) $ fjoin ! $ frame ! $
-      use1 W (given (T′.lowered d ∷ [] ≡ T′.lowered d ∷ []) (‵ (all-own (T.the-type α .parts) (T′.the-laws α) (d .text, (d .at, tt))))) (own-open 𝓤 H A W (T.the-type α) (T′.the-laws α) (d .text, (d .at, tt)) (T′.lowered d)) $ learn ! (λ _.
-      use1 W (‵ (ownAt (T.the-type α .parts) (T′.the-laws α) 0 (d .text)) ⊛ ‵ (rest (T.the-type α .parts) (T′.the-laws α) 0 (d .text, (d .at, tt)))) (own-out 𝓤 H A W (T.the-type α .parts) (T′.the-laws α) 0 (d .text, (d .at, tt))) $ split ! $
-      move ! (1 ∷ []) $ drop ! $ by ! (held-made 𝓤 H A W κ (d .text) n u is))
+      frame ! $ fsplit ! $ use1 W (‵ Own ⊛ ‵ Own) (held-twice 𝓤 H A W κ d (T′.lowered d)) $ split ! $ move ! (0 ∷ 2 ∷ []) $ fjoin ! $ frame ! $
+      use1 W (‵ (Text 𝓤 H A W κ (d .text))) (held-text 𝓤 H A W κ d) $ by ! (held-made 𝓤 H A W κ (d .text) n u is)
 
   module _ (C : Calls 𝓤 H) (Λ : Loops 𝓤 H) (fm : FmC 𝓤 H (W .laws) C) (known : Triple 𝓤 (C cursor-behind.name) (CursorCall 𝓤 H A)) where
     follow : Holds (hasTy (T′.mir (named 0)) (T′.lowered d)) × WT (T′.lowered d) → Is L.the-row l (line ∷ []) → ent 𝓤 Entry (WpFn 𝓤 H C Λ code.function (T′.lowered d ∷ line ∷ []) Post)
