@@ -12,3 +12,4 @@ pub mod CursorAskedLaws
 pub mod ReaderMadeLaws
 pub mod ReaderBehindLaws
 pub mod ReadOnLaws
+pub mod ReadOnExamples
