@@ -18,7 +18,7 @@ use Rattle.inputs.specs.Response.{partsIn}
 use Rattle.checks.specs.Calls.{argumentsOf, numberTried, rules16, IsCall}
 use Rattle.checks.proofs.TrialLaws.{Numbered, none-applies}
 
--- the rule tried next
+-- 15 by itself
 abbrev pub rules15 : List Rule
 rules15 = rule 15 headDiffers ∷ []
 

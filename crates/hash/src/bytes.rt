@@ -16,8 +16,8 @@ pub(crate) fn copy_at(dst: &mut [u8], at: usize, src: &[u8])
     }
 }
 
-// The number of four bytes.
-pub fn joined(a: u8, b: u8, c: u8, d: u8) -> u32
+// The number that four bytes spell.
+pub fn number4(a: u8, b: u8, c: u8, d: u8) -> u32
     ensures { λ r. ⌜ r ≡ ((a * 256 + b) * 256 + c) * 256 + d ⌝ }
 {
     ((a as u32 * 256 + b as u32) * 256 + c as u32) * 256 + d as u32

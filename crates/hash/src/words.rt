@@ -3,7 +3,7 @@ ghost use mathlib.Core.Path.{_≡_};
 ghost use Prim.Native.Nat.{_+_, _%_, _^_, _≤_};
 ghost use lib.ListN.{length};
 ghost use Rattle.hash.specs.Words as Words;
-use crate::bytes::joined;
+use crate::bytes::number4;
 
 pub(crate) fn ch(x: u32, y: u32, z: u32) -> u32
     ensures { λ r. ⌜ r ≡ Words.ch x y z ⌝ }
@@ -64,5 +64,5 @@ pub(crate) fn word(s: &[u8], at: usize) -> u32
     requires { ⌜ at + 4 ≤ length (now s) ⌝ }
     ensures { λ r. ⌜ r ≡ Words.word (now (s .entry)) at ⌝ }
 {
-    joined(s[at], s[at + 1], s[at + 2], s[at + 3])
+    number4(s[at], s[at + 1], s[at + 2], s[at + 3])
 }

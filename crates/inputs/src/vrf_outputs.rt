@@ -5,7 +5,7 @@ ghost use lib.ListN.{length};
 ghost use Rattle.lists.specs.Choice.{given};
 ghost use Rattle.rules.specs.VrfOutputs.{recordLength, readOutputs};
 ghost use Rattle.inputs.specs.VrfOutputs.{recordAt, IsRecordOf, IsOfSomeRecord};
-use hash::bytes::joined;
+use hash::bytes::number4;
 
 // The bytes of a version, of an output, and of a record of the two.
 const VERSION: usize = 4;
@@ -75,7 +75,7 @@ fn version_at(outputs: &[u8], i: usize) -> u32
     ensures { λ r. ⌜ r ≡ recordAt (now (outputs .entry)) i .version ⌝ }
 {
     let at = RECORD * i;
-    joined(
+    number4(
         outputs[at],
         outputs[at + 1],
         outputs[at + 2],

@@ -2,7 +2,7 @@
 use crate::ended_lines::ended_lines;
 use libc::STDERR_FILENO;
 
-// Explains a refusal by its number; `response` is what was refused.
+// Explains a refusal by its number; `response` is what was read of that file.
 pub(crate) fn explain(number: u64, response: &[u8]) {
     match number {
         1 => say(

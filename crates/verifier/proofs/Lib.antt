@@ -7,6 +7,7 @@ pub mod AnswerLineLaws
 pub mod SignedTextExportLaws
 pub mod FilesLaws
 pub mod ByHandLaws
+pub mod HeldLaws
 pub mod ReaderTakenLaws
 pub mod CursorAskedLaws
 pub mod ReaderMadeLaws

@@ -6,7 +6,7 @@ use Rattle.lists.specs.Choice.{provided}
 use Rattle.lists.specs.Lists.{Bytes}
 use Rattle.lines.specs.Line.{before}
 use Rattle.lines.specs.Cursor.{leftAt, lineAt, behind}
-use Rattle.verifier.specs.Reading.{ReadOn, readOn}
+use Rattle.verifier.specs.Reading.{readOn}
 
 -- 0x0a stands at places 3 and 4
 abbrev text : Bytes

@@ -8,46 +8,46 @@ use Rattle.inputs.proofs.vrf_outputs.version_at.Tie as tie
 mul-at : tie.Need-mul-at
 mul-at c = search needs
 
-shared-slice-read-joined : tie.Need-shared-slice-read-joined
-shared-slice-read-joined c = search needs
+shared-slice-read-number4 : tie.Need-shared-slice-read-number4
+shared-slice-read-number4 c = search needs
 
-add-joined : tie.Need-add-joined
-add-joined c = search needs
+add-number4 : tie.Need-add-number4
+add-number4 c = search needs
 
-shared-slice-read-joined-2 : tie.Need-shared-slice-read-joined-2
-shared-slice-read-joined-2 c = search needs
+shared-slice-read-number4-2 : tie.Need-shared-slice-read-number4-2
+shared-slice-read-number4-2 c = search needs
 
-add-joined-2 : tie.Need-add-joined-2
-add-joined-2 c = search needs
+add-number4-2 : tie.Need-add-number4-2
+add-number4-2 c = search needs
 
-shared-slice-read-joined-3 : tie.Need-shared-slice-read-joined-3
-shared-slice-read-joined-3 c = search needs
+shared-slice-read-number4-3 : tie.Need-shared-slice-read-number4-3
+shared-slice-read-number4-3 c = search needs
 
-add-joined-3 : tie.Need-add-joined-3
-add-joined-3 c = search needs
+add-number4-3 : tie.Need-add-number4-3
+add-number4-3 c = search needs
 
-shared-slice-read-joined-4 : tie.Need-shared-slice-read-joined-4
-shared-slice-read-joined-4 c = search needs
+shared-slice-read-number4-4 : tie.Need-shared-slice-read-number4-4
+shared-slice-read-number4-4 c = search needs
 
-joined-requires : tie.Need-joined-requires
-joined-requires c κs = search needs
+number4-requires : tie.Need-number4-requires
+number4-requires c κs = search needs
 
 returns : tie.Need-returns
 returns c =
     let b = c .before .before .before .before .before .before in
-    c .joined .ensures ∙ sym (version-bytes (b .args .outputs .now) (b .args .i) (b .pre))
+    c .number4 .ensures ∙ sym (version-bytes (b .args .outputs .now) (b .args .i) (b .pre))
 
 pub version-at-spec : {M : Type 1} → statement M
 version-at-spec =
     tie.close
     (tie.spec
     mul-at
-    shared-slice-read-joined
-    add-joined
-    shared-slice-read-joined-2
-    add-joined-2
-    shared-slice-read-joined-3
-    add-joined-3
-    shared-slice-read-joined-4
-    joined-requires
+    shared-slice-read-number4
+    add-number4
+    shared-slice-read-number4-2
+    add-number4-2
+    shared-slice-read-number4-3
+    add-number4-3
+    shared-slice-read-number4-4
+    number4-requires
     returns)

@@ -37,8 +37,9 @@ use Rattle.verifier.specs.Reading.{readOn, readOnOf}
 use Rattle.verifier.specs.declared.reading.Reader.{Reader}
 use Rattle.verifier.specs.declared.reading.ReadOn.{ReadOn}
 use Rattle.verifier.proofs.ByHandLaws.{Token, at, calls}
-use Rattle.verifier.proofs.ReaderTakenLaws.{held, Contracted as OfReader, asks}
-use Rattle.verifier.proofs.ReaderMadeLaws.{taken, kept, Contracted, text, asked, Entry, Post, Own, begins, exits, hands, meets}
+use Rattle.verifier.proofs.HeldLaws.{held, Held, textVal, Text}
+use Rattle.verifier.proofs.ReaderTakenLaws.{Contracted as OfReader, asks}
+use Rattle.verifier.proofs.ReaderMadeLaws.{taken, kept, Contracted, asked, Entry, Post, begins, exits, hands, meets}
 use Rattle.verifier.proofs.ReaderBehindLaws as B
 use Rattle.verifier.proofs.reading.Reader as T
 use Rattle.verifier.proofs.reading.Reader.Laws as T′
@@ -96,14 +97,14 @@ module _ {M : Type 1} (𝓤 : URA M) (H : Heap 𝓤) (A : Atoms 𝓤) (W : Given
   typed-local : (d : Reader) (u : Val) → Is (held (κ, tt)) d (u ∷ []) → Holds (hasTy (T′.mir erased) u) × WT u
   typed-local d u is = let α : NamedLft = record { mir = erased; lft = κ } in LL.lawful (T.the-type α) (T′.the-laws α) 𝓤 H A W .typed d _ is .0
 
-  follow : Holds (hasTy (sliceTy (tyRef (named 0) imm (tyInt w8))) (text answer Reads 𝓤 H A W κ q s n)) × WT (text answer Reads 𝓤 H A W κ q s n)
-      → ent 𝓤 (Entry answer Reads 𝓤 H A W κ q s n) (WpFn 𝓤 H C Λ code.function (text answer Reads 𝓤 H A W κ q s n ∷ vint w64 n ∷ []) (Post answer Reads 𝓤 H A W κ q s n))
+  follow : Holds (hasTy (sliceTy (tyRef (named 0) imm (tyInt w8))) (textVal s)) × WT (textVal s)
+      → ent 𝓤 (Entry answer Reads 𝓤 H A W κ q s n) (WpFn 𝓤 H C Λ code.function (textVal s ∷ vint w64 n ∷ []) (Post answer Reads 𝓤 H A W κ q s n))
   follow typed =
-      qed W (raw (Entry answer Reads 𝓤 H A W κ q s n) ∷ []) ∵ enter ! C Λ code.function (text answer Reads 𝓤 H A W κ q s n ∷ vint w64 n ∷ []) _ $
+      qed W (raw (Entry answer Reads 𝓤 H A W κ q s n) ∷ []) ∵ enter ! C Λ code.function (textVal s ∷ vint w64 n ∷ []) _ $
       alloc1 ! (λ l₀. alloc1 ! (λ l₁. alloc1 ! (λ l₂. alloc1 ! (λ l₃. alloc1 ! (λ l₄. alloc1 ! (λ l₅. alloc1 ! (λ l₆. alloc1 ! (λ l₇. alloc1 ! (λ l₈. alloc1 ! (λ l₉. alloc1 ! (λ l₁₀. alloc1 ! (λ l₁₁. alloc0 ! $
       params1 ! $ pass1 ! (init ! 20 refl typed) $ pass1 ! (init ! 18 refl (tt, record { fits = fits })) $ pass0 ! $ move ! (24 ∷ []) $
-      use1 W (‵ (Own answer Reads 𝓤 H A W κ q s n) ⊛ Token 𝓤 A κ q) (begins answer Reads 𝓤 H A W κ q s n) $ split ! $
-      use2 W (raw (Contracted held Made 𝓤 H A .pre (asked held Made 𝓤 H A W κ q s n)) ⊛ ‵ (Own held Made 𝓤 H A W κ q s n)) (hands held Made 𝓤 H A W κ q s n fits) $ split ! $
+      use1 W (‵ (Text κ s) ⊛ Token 𝓤 A κ q) (begins answer Reads 𝓤 H A W κ q s n) $ split ! $
+      use2 W (raw (Contracted held Made 𝓤 H A .pre (asked held Made 𝓤 H A W κ q s n)) ⊛ ‵ (Text κ s)) (hands held Made 𝓤 H A W κ q s n fits) $ split ! $
       calls 1 taken kept held (λ κs a d. Made κs (a .0) (a .1 .0) d) 𝓤 H A (κ, tt) (q, tt) (s, (n, tt)) _ ! fm known-new (and-then ! (load ! (from ! (stop !)) (look ! 22 refl)) (and-then ! (load ! (from ! (stop !)) (look ! 20 refl)) (no-more !))) (λ d u made.
       -- here: what the reader owns; the token; what the text owns; the locals, the last first
       peeks ! (held (κ, tt)) (Is (held (κ, tt))) (shows 𝓤 H A (held (κ, tt))) d (u ∷ []) (λ is.
@@ -112,7 +113,7 @@ module _ {M : Type 1} (𝓤 : URA M) (H : Heap 𝓤) (A : Atoms 𝓤) (W : Given
       asks L.the-row Line 𝓤 H A W κ q d ! fm known-line u (and-then ! (load ! (from ! (stop !)) (look ! 13 refl)) (no-more !)) (λ l u₁ is-line at₁.
       land ! (from ! (stop !)) (init ! 17 refl (EL.lawful L.the-type L′.the-laws 𝓤 H A W tt .typed l _ at₁ .0)) $
       assigns ! (of-opd ! (load ! (from ! (stop !)) (look ! 19 refl))) (from ! (stop !)) (init ! 11 refl (typed-local d u is)) $
-      use2 W (raw (B.Contracted 𝓤 H A .pre (at 1 B.taken B.kept held B.Behind 𝓤 H A (κ, tt) (q, tt) (d, (l, tt)) (u ∷ [], (u₁ ∷ [], tt)))) ⊛ ‵ (held (κ, tt) .own d (u ∷ []))) (B.hands 𝓤 H A W κ q d l u u₁ at₁) $ split ! $
+      use2 W (raw (B.Contracted 𝓤 H A .pre (at 1 B.taken B.kept held B.Behind 𝓤 H A (κ, tt) (q, tt) (d, (l, tt)) (u ∷ [], (u₁ ∷ [], tt)))) ⊛ ‵ (Held κ d u)) (B.hands 𝓤 H A W κ q d l u u₁ at₁) $ split ! $
       calls 1 B.taken B.kept held B.Behind 𝓤 H A (κ, tt) (q, tt) (d, (l, tt)) _ ! fm known-behind (and-then ! (load ! (from ! (stop !)) (look ! 11 refl)) (and-then ! (load ! (from ! (stop !)) (look ! 17 refl)) (no-more !))) (λ d′ u′ is-behind.
       move ! (2 ∷ []) $ drop ! $
       -- here: what the reader behind the line owns; the token; what the text owns; the locals

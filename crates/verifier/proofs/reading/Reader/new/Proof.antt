@@ -20,8 +20,8 @@ use denote.Slice.{sliceTy}
 use denote.Triple.Table.{entered}
 use Rattle.lists.specs.Lists.{Bytes}
 use Rattle.verifier.specs.declared.reading.Reader.{Reader}
-use Rattle.verifier.proofs.ReaderTakenLaws.{held, held-made}
-use Rattle.verifier.proofs.ReaderMadeLaws.{Contracted, text, Entry, Post, Own, begins, exits, twice, meets}
+use Rattle.verifier.proofs.HeldLaws.{held, Held, textVal, Text, text-twice, held-made}
+use Rattle.verifier.proofs.ReaderMadeLaws.{Contracted, Entry, Post, begins, exits, meets}
 use Rattle.verifier.proofs.ByHandLaws.{Token}
 use Rattle.verifier.proofs.reading.Reader.Laws as T′
 use Rattle.verifier.proofs.reading.Reader.new.Key.{name}
@@ -35,17 +35,17 @@ module _ {M : Type 1} (𝓤 : URA M) (H : Heap 𝓤) (A : Atoms 𝓤) (W : Given
   abbrev made : Reader
   made = record { text = s; at = n }
 
-  follow : Holds (hasTy (sliceTy (tyRef (named 0) imm (tyInt w8))) (text held Says 𝓤 H A W κ q s n)) × WT (text held Says 𝓤 H A W κ q s n)
-      → ent 𝓤 (Entry held Says 𝓤 H A W κ q s n) (WpFn 𝓤 H C Λ code.function (text held Says 𝓤 H A W κ q s n ∷ vint w64 n ∷ []) (Post held Says 𝓤 H A W κ q s n))
+  follow : Holds (hasTy (sliceTy (tyRef (named 0) imm (tyInt w8))) (textVal s)) × WT (textVal s)
+      → ent 𝓤 (Entry held Says 𝓤 H A W κ q s n) (WpFn 𝓤 H C Λ code.function (textVal s ∷ vint w64 n ∷ []) (Post held Says 𝓤 H A W κ q s n))
   follow typed =
-      qed W (raw (Entry held Says 𝓤 H A W κ q s n) ∷ []) ∵ enter ! C Λ code.function (text held Says 𝓤 H A W κ q s n ∷ vint w64 n ∷ []) _ $
+      qed W (raw (Entry held Says 𝓤 H A W κ q s n) ∷ []) ∵ enter ! C Λ code.function (textVal s ∷ vint w64 n ∷ []) _ $
       alloc1 ! (λ l₀. alloc1 ! (λ l₁. alloc1 ! (λ l₂. alloc0 ! $ params1 ! $ pass1 ! (init ! 2 refl typed) $ pass1 ! (init ! 0 refl (tt, record { fits = fits })) $ pass0 ! $
       assigns ! (agg ! (and-then ! (load ! (from ! (stop !)) (look ! 2 refl)) (and-then ! (load ! (from ! (stop !)) (look ! 0 refl)) (no-more !)))) (from ! (stop !)) (init ! 4 refl (tt, (typed .1, (record { fits = fits }, tt)))) $
       returns ! (look ! 4 refl) $ forget ! 0 refl $ forget ! 2 refl $ forget ! 4 refl $ move ! (4 ∷ 5 ∷ []) $ free1 ! $ move ! (2 ∷ 3 ∷ []) $ free1 ! $ free1 ! $ free0 ! $
-      use1 W (‵ (Own held Says 𝓤 H A W κ q s n) ⊛ Token 𝓤 A κ q) (begins held Says 𝓤 H A W κ q s n) $ split ! $
-      use1 W (‵ (Own held Says 𝓤 H A W κ q s n) ⊛ ‵ (Own held Says 𝓤 H A W κ q s n)) (twice held Says 𝓤 H A W κ q s n) $ split ! $
+      use1 W (‵ (Text κ s) ⊛ Token 𝓤 A κ q) (begins held Says 𝓤 H A W κ q s n) $ split ! $
+      use1 W (‵ (Text κ s) ⊛ ‵ (Text κ s)) (text-twice 𝓤 H A W κ s) $ split ! $
       -- here: what the text owns; the same once more; the token
-      use1 W (‵ (held (κ, tt) .own made (T′.lowered made ∷ []))) (held-made 𝓤 H A W κ s n (vint w64 n) (refl, fits)) $ move ! (0 ∷ 2 ∷ []) $
+      use1 W (‵ (Held κ made (T′.lowered made))) (held-made 𝓤 H A W κ s n (vint w64 n) (refl, fits)) $ move ! (0 ∷ 2 ∷ []) $
       by ! (exits held Says 𝓤 H A W κ q s n fits made (T′.lowered made) (refl, refl)))))
 
 pub new-spec : {M : Type 1} → statement M

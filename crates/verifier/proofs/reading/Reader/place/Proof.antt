@@ -24,7 +24,8 @@ use Rattle.verifier.proofs.reading.Reader.Laws as T′
 use Rattle.verifier.proofs.reading.Reader.place.Key.{name}
 use Rattle.verifier.proofs.reading.Reader.place.Statement.{statement}
 use Rattle.verifier.proofs.reading.Reader.place.Code as code
-use Rattle.verifier.proofs.ReaderTakenLaws.{Contracted, Entry, Post, Own, begins, exits, meets}
+use Rattle.verifier.proofs.ReaderTakenLaws.{Contracted, Entry, Post, begins, exits, meets}
+use Rattle.verifier.proofs.HeldLaws.{Held}
 use Rattle.verifier.proofs.ByHandLaws.{Token}
 
 abbrev Says : Reader → ℕ → Type 0
@@ -37,7 +38,7 @@ module _ {M : Type 1} (𝓤 : URA M) (H : Heap 𝓤) (A : Atoms 𝓤) (W : Given
       alloc1 ! (λ l₀. alloc1 ! (λ l₁. alloc0 ! $ params1 ! $ pass1 ! (init ! 0 refl typed) $ pass0 ! $
       assigns ! (of-opd ! (load ! (from ! (fld ! refl (stop !))) (look-in ! 0 (sub ! 1 refl (whole !))))) (from ! (stop !)) (init ! 2 refl (tt, typed .1 .1 .0)) $
       returns ! (look ! 2 refl) $ forget ! 0 refl $ forget ! 2 refl $ move ! (2 ∷ 3 ∷ []) $ free1 ! $ free1 ! $ free0 ! $
-      use1 W (‵ (Own usize Says 𝓤 H A W κ q d (T′.lowered d)) ⊛ Token 𝓤 A κ q) (begins usize Says 𝓤 H A W κ q d) $ split ! $
+      use1 W (‵ (Held κ d (T′.lowered d)) ⊛ Token 𝓤 A κ q) (begins usize Says 𝓤 H A W κ q d) $ split ! $
       owned ! usize (Is usize) (uint-makes 𝓤 H A W w64) (d .at) _ (refl, typed .1 .1 .0 .fits) $ move ! (0 ∷ 2 ∷ []) $ by ! (exits usize Says 𝓤 H A W κ q d (d .at) (vint w64 (d .at)) refl)))
 
 pub place-spec : {M : Type 1} → statement M
