@@ -40,3 +40,4 @@ pub mod MovedPairLaws
 pub mod MonitoringCallLaws
 pub mod MonitoringLaws
 pub mod SignedTextLaws
+pub mod AfterCallLaws

@@ -10,8 +10,8 @@ ghost use Rattle.lines.specs.Cursor.{fieldsFrom};
 ghost use Rattle.lines.specs.Readings.{asDigest};
 ghost use Rattle.rules.specs.Limits.{labelLimit, stateTextLimit};
 ghost use Rattle.rules.specs.State.{State as StateRead};
-ghost use Rattle.rules.specs.StateText.{sizeForm, readKeep, readPair, readStateText};
-ghost use Rattle.inputs.specs.State.{numberedBlock};
+ghost use Rattle.rules.specs.StateText.{sizeForm, readKeep, readPair, readState, readStateText};
+ghost use Rattle.inputs.specs.State.{numberedBlock, stateOf};
 ghost use Rattle.inputs.specs.StateReader.{labelled, asSize, pairOf, KeepsFrom, PairsFrom, ReadAs, ifValid, readAfterSize, refusedBy, orRefused};
 use crate::state::NumberedState;
 use crate::state::State;
@@ -81,6 +81,19 @@ pub fn read_state(text: &[u8]) -> NumberedState
         return refused(NO_VALID_STATE);
     }
     read_after_size(text, next.at, first)
+}
+
+// The struct of the state that a text says; where it says none, as a text that is too long does, one
+// that stands for none.
+pub fn state_in(text: &[u8]) -> State
+    ensures { λ r. ⌜ stateOf r ≡ readState (now (text .entry)) ⌝ }
+{
+    let read = read_state(text);
+    let mut state = read.state;
+    if read.number != 0 {
+        state.length = State::LABEL + 1;
+    }
+    state
 }
 
 // The state that a `size` line and the text from a place on say, or refusal 3.

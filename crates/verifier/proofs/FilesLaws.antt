@@ -30,13 +30,12 @@ use Rattle.checks.specs.declared.monitoring.MonitoringAnswer.{MonitoringAnswer}
 use Rattle.checks.specs.Calls.{argumentsOf, blockAfter, IsReadingNumber}
 use Rattle.checks.specs.Search.{versionFound, versionOf, searchAnswer}
 use Rattle.checks.specs.Monitoring.{monitoringAnswer}
+use Rattle.checks.proofs.AfterCallLaws.{text-accepted, no-value}
 use Rattle.verifier.specs.declared.request.Asked.{Asked}
 use Rattle.verifier.specs.declared.request.Request.{Request as RequestBlock}
 use Rattle.verifier.specs.Request.{askedKind, requestIn}
 use Rattle.verifier.specs.declared.files.Outcome.{Outcome}
 use Rattle.verifier.specs.Files.{fileRead, filesRead, outcomeOf, areWithin, Left, IsRefusal}
-use Rattle.verifier.proofs.CallExportLaws.{text-accepted}
-use Rattle.verifier.proofs.MonitorExportLaws.{no-value}
 
 -- what is written from byte 0 on stops at its length
 stop-at : (line text line′ : Bytes) (stop : ℕ) → Wrote line 0 text stop line′ → stop ≡ length text
@@ -201,15 +200,10 @@ asked-left q kind e st response configuration outputs signed r line value text l
 
 -- ---- the files
 
--- where none is too long, request and state are not
-pub texts-within : (request response settings state sheet signed : Bytes) → areWithin request response settings state sheet signed ≡ true
-    → (length request ≤ requestLimit) × (length state ≤ stateTextLimit)
-texts-within request response settings state sheet signed h =
-    let (a, h1) = every-cons _ _ h in
-    let (_, h2) = every-cons _ _ h1 in
-    let (_, h3) = every-cons _ _ h2 in
-    let (d, _) = every-cons _ _ h3 in
-    (leb-true (length request) requestLimit a, leb-true (length state) stateTextLimit d)
+-- where none is too long, the request is not
+pub request-within : (request response settings state sheet signed : Bytes) → areWithin request response settings state sheet signed ≡ true
+    → length request ≤ requestLimit
+request-within request response settings state sheet signed h = leb-true (length request) requestLimit (every-cons _ _ h .0)
 
 module _ (unread : Bool) (request response settings state sheet signed : Bytes) where
   -- what is judged

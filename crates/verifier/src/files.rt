@@ -17,13 +17,13 @@ use crate::answer_line::put_refusal;
 use crate::request::Asked;
 use crate::request::Request;
 use crate::request::read_request;
-use crate::state_text::state_in;
 use checks::limits::InputLimit;
 use checks::monitoring::monitor;
 use checks::readings::reading_number;
 use checks::search::search;
 use inputs::response_lines::Target;
 use inputs::state::State;
+use inputs::state_reader::state_in;
 use inputs::state_writer::write_state;
 
 // 0 for acceptance, or the number of the refusal; how many bytes of the line, of the value and of the new state's text were written, and whether there is a value.

@@ -19,7 +19,7 @@ use Rattle.inputs.specs.State.{stateOf}
 use Rattle.inputs.specs.StateWriter.{textFor}
 use Rattle.checks.specs.declared.search.SearchAnswer.{SearchAnswer}
 use Rattle.checks.specs.Search.{searchAnswer}
-use Rattle.verifier.proofs.CallExportLaws.{refusal-answered, text-refused, room-refused, call-judged, call-refused, call-answered}
+use Rattle.kt.proofs.CallExportLaws.{refusal-answered, text-refused, room-refused, call-judged, call-refused, call-answered}
 
 -- a value of a length that a response may have
 found-short : (f : Finding) → FindingFits f → length (Option·getD (valueFound f) []) ≤ valueLimit

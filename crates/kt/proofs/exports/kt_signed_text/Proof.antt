@@ -1,9 +1,9 @@
--- `verifier::exports::kt_signed_text` meets its contract: the state is read, and the signed text placed.
+-- `kt::exports::kt_signed_text` meets its contract: the state is read, and the signed text placed.
 use native.Mathlib.Omega.{arith}
-use Rattle.verifier.proofs.SignedTextExportLaws.{signed-text-over, signed-text-answered}
+use Rattle.kt.proofs.SignedTextExportLaws.{signed-text-over, signed-text-answered}
 use borrow.Author.Needs.{needs}
-use Rattle.verifier.proofs.exports.kt_signed_text.Statement.{statement}
-use Rattle.verifier.proofs.exports.kt_signed_text.Tie as tie
+use Rattle.kt.proofs.exports.kt_signed_text.Statement.{statement}
+use Rattle.kt.proofs.exports.kt_signed_text.Tie as tie
 
 returns : tie.Need-returns
 returns c = signed-text-over _ _ _ _ _ (omega (arith, c .if1 .taken))

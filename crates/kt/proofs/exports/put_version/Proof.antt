@@ -1,11 +1,11 @@
--- `verifier::exports::put_version` meets its contract: the four bytes stored are those of the definition.
+-- `kt::exports::put_version` meets its contract: the four bytes stored are those of the definition.
 use native.Mathlib.Numerals.{add-one, add-two, add-three}
 use native.Mathlib.Omega.{arith}
 use lib.ListN.{length-set}
 use Rattle.hash.specs.Bytes.{bigEndian}
 use borrow.Author.Needs.{needs}
-use Rattle.verifier.proofs.exports.put_version.Statement.{statement}
-use Rattle.verifier.proofs.exports.put_version.Tie as tie
+use Rattle.kt.proofs.exports.put_version.Statement.{statement}
+use Rattle.kt.proofs.exports.put_version.Tie as tie
 
 cast-bytes : tie.Need-cast-bytes
 cast-bytes c = search needs

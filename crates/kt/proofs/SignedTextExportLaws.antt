@@ -9,7 +9,7 @@ use Rattle.rules.specs.Refusals.{Judgement}
 use Rattle.rules.specs.Calls.{Arguments, judgeUnsigned, signedTextAfter, kindNumbered, ktSignedText}
 use Rattle.inputs.specs.declared.state.State.{State as StateBlock}
 use Rattle.inputs.specs.State.{stateOf}
-use Rattle.verifier.proofs.CallExportLaws.{text-refused, text-fits}
+use Rattle.kt.proofs.CallExportLaws.{text-refused, text-fits}
 
 module _ (kind : ℕ) (text : Bytes) (a : Arguments) (buffer : Bytes) (offset : ℕ) where
   -- what the rules say of the state that the text says

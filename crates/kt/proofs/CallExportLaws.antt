@@ -1,77 +1,28 @@
--- Laws of a call over state texts (rules/specs/Calls.antt), be it a search or monitoring: the state that a text says, and the answer as one number.
+-- Laws of a call over state texts (rules/specs/Calls.antt), be it a search or monitoring: which texts fit, and the answer as one number.
 use mathlib.Core.Path.{_≡_, refl, sym, ap, _∙_}
 use mathlib.Core.Bool.{Bool, true, false}
 use mathlib.Core.List.{[]}
-use mathlib.Core.Option.{Option, none, some, Option·elim, Option·getD, Option·map, Option·some-injective}
+use mathlib.Core.Option.{Option, none, some, Option·elim, Option·getD, Option·map}
 use Prim.Native.Nat.{ℕ, _+_, _*_, _^_, _≤_, _<_}
 use native.Mathlib.Omega.{arith}
 use lib.Dec.{leb}
 use lib.ListN.{length}
 use borrow.Author.Tests.{le-leb, lt-leb}
-use Rattle.lists.specs.Choice.{provided, choose}
-use Rattle.lists.specs.Lists.{Bytes, every}
-use Rattle.lists.proofs.ChoiceLaws.{bind-some, test-some, choose-true, choose-false}
-use Rattle.rules.specs.Limits.{labelLimit, stateTextLimit}
-use Rattle.rules.specs.State.{State, isValid}
-use Rattle.rules.specs.StateText.{readState, writeState, readStateLines, readStateText}
-use Rattle.rules.specs.Refusals.{Inputs, Call, Judgement, refused, passed, validState, judge}
-use Rattle.rules.specs.Calls.{numberOf, nextState, valueOf, writtenFirst, textJudged, roomJudged, textOf, textAfter, answerWord}
+use Rattle.lists.specs.Choice.{choose}
+use Rattle.lists.specs.Lists.{Bytes}
+use Rattle.lists.proofs.ChoiceLaws.{choose-true, choose-false}
+use Rattle.rules.specs.Limits.{stateTextLimit}
+use Rattle.rules.specs.State.{State}
+use Rattle.rules.specs.StateText.{readState, writeState}
+use Rattle.rules.specs.Refusals.{Inputs, Judgement, refused, validState, judge}
+use Rattle.rules.specs.Calls.{numberOf, valueOf, writtenFirst, textJudged, roomJudged, textOf, textAfter, answerWord}
 use Rattle.rules.proofs.StateTextLaws.{state-short}
 use Rattle.rules.proofs.RefusalLaws.{zero-accepts, number-refused, valid-some}
-use Rattle.rules.proofs.NextStateLaws.{state-valid}
-use Rattle.lines.specs.Line.{readLines}
 use Rattle.inputs.specs.declared.state.State.{State as StateBlock}
-use Rattle.inputs.specs.declared.state.NumberedState.{NumberedState as NumberedBlock}
-use Rattle.inputs.specs.State.{blockOf, numberedBlock, roomIsZero, stateOf}
-use Rattle.inputs.specs.StateReader.{orRefused}
+use Rattle.inputs.specs.State.{stateOf}
 use Rattle.inputs.specs.StateWriter.{textFor}
-use Rattle.inputs.proofs.StateBlockLaws.{block-state, block-stands}
-use Rattle.inputs.proofs.StateReaderLaws.{text-read}
 use Rattle.checks.specs.Calls.{blockAfter}
-
--- ---- the state that a text says
-
--- a struct whose label is too long stands for no state
-pub label-over : (b : StateBlock) → labelLimit < b .length → stateOf b ≡ none
-unfolding stateOf roomIsZero every provided
-label-over b h = rw (lt-leb (b .length) labelLimit h) refl
-
--- a state that was read is valid
-read-valid : (text : Bytes) (s : State) → readState text ≡ some s → isValid s ≡ true
-unfolding readState
-read-valid text s e =
-    let (ls, _, e1) = bind-some (readLines text) _ s e in
-    let (st, _, e2) = bind-some (readStateLines ls) _ s e1 in
-    let (v, e3) = test-some (isValid st) (some st) s e2 in
-    ap isValid (sym (Option·some-injective st s e3)) ∙ v
-
-module _ (text : Bytes) (r : NumberedBlock) (e : r ≡ numberedBlock (readStateText text)) (l : length text ≤ stateTextLimit) where
-  -- what was read, from the state that the text says
-  read-as : (o : Option State) → readState text ≡ o → r ≡ numberedBlock (orRefused o)
-  read-as o q = e ∙ ap numberedBlock (text-read text l ∙ ap orRefused q)
-
-  -- a number says that it says none
-  pub text-broken : (r .number ≡ 0 → ⊥) → readState text ≡ none
-  unfolding numberedBlock orRefused Option·elim
-  text-broken z = go (readState text) refl
-    where
-      go : (o : Option State) → readState text ≡ o → o ≡ none
-      go none q = refl
-      go (some s) q = absurd (z (ap (λ (x : NumberedBlock). x .number) (read-as (some s) q)))
-
-  -- and else the struct stands for it
-  pub text-held : r .number ≡ 0 → stateOf (r .state) ≡ readState text
-  unfolding numberedBlock orRefused Option·elim
-  text-held z = go (readState text) refl
-    where
-      go : (o : Option State) → readState text ≡ o → stateOf (r .state) ≡ readState text
-      go none q = absurd (three (sym (ap (λ (x : NumberedBlock). x .number) (read-as none q)) ∙ z))
-        where
-          three : _≡_ {A = ℕ} 3 0 → ⊥
-          three h = omega (arith, h)
-      go (some s) q = ap (λ (x : NumberedBlock). stateOf (x .state)) (read-as (some s) q) ∙ block-state s (read-valid text s q) ∙ sym q
-
--- ---- what came of a call
+use Rattle.checks.proofs.AfterCallLaws.{text-accepted}
 
 -- one number, and the bytes lent for the new text afterwards
 abbrev pub Answers : Bytes → Judgement → ℕ → Bytes → Type 0
@@ -81,12 +32,6 @@ Answers newText j word newText′ = (word ≡ answerWord j) × (newText′ ≡ t
 pub refusal-answered : (newText : Bytes) (j : Judgement) (k : ℕ) → j ≡ refused k → Answers newText j k newText
 unfolding answerWord numberOf valueOf textOf textAfter writtenFirst Option·elim
 refusal-answered newText j k e = rw e (omega arith, refl)
-
--- the text of a valid state is written where there is room
-text-for : (s : State) (lent : Bytes) → isValid s ≡ true → stateTextLimit ≤ length lent → textFor (blockOf s) lent ≡ some (writeState s)
-unfolding textFor
-text-for s lent v l =
-    choose-true (leb stateTextLimit (length lent)) _ _ (le-leb stateTextLimit (length lent) l) ∙ ap (Option·map writeState) (block-stands s v)
 
 -- a text that is written is not too long
 pub text-short : (b : StateBlock) (lent : Bytes) (n : ℕ) → n ≡ length (Option·getD (textFor b lent) []) → n ≤ stateTextLimit
@@ -124,13 +69,6 @@ module _ (text newText : Bytes) (j : Judgement) where
   texts-fit : length text ≤ stateTextLimit → stateTextLimit ≤ length newText → judged ≡ j
   unfolding roomJudged
   texts-fit l m = text-fits text _ l ∙ choose-true (leb stateTextLimit (length newText)) _ _ (le-leb stateTextLimit (length newText) m)
-
--- the text to write for the state after an accepted call, where there is room, is that of the judgement
-pub text-accepted : (b : StateBlock) (i : Inputs) (c : Call) → judge (stateOf b) i ≡ passed c → (new : StateBlock) → new ≡ blockAfter b (judge (stateOf b) i)
-    → (lent : Bytes) → stateTextLimit ≤ length lent → textFor new lent ≡ textOf (judge (stateOf b) i)
-unfolding textOf blockAfter
-text-accepted b i c q new f lent m =
-    ap (λ (x : StateBlock). textFor x lent) (f ∙ ap (blockAfter b) q) ∙ text-for (nextState c) lent (state-valid (stateOf b) i c q) m ∙ sym (ap textOf q)
 
 module _ (text newText : Bytes) (i : Inputs) (l : length text ≤ stateTextLimit) (m : stateTextLimit ≤ length newText)
     (b : StateBlock) (s : stateOf b ≡ readState text) where

@@ -1,33 +1,23 @@
 -- Laws of monitoring over state texts (rules/specs/Calls.antt, ktMonitor): its answer, without a value.
-use mathlib.Core.Path.{_≡_, refl, sym, ap}
+use mathlib.Core.Path.{_≡_, sym, ap}
 use mathlib.Core.List.{[]}
-use mathlib.Core.Option.{Option, none, some, Option·getD}
+use mathlib.Core.Option.{Option, some, Option·getD}
 use Prim.Native.Nat.{ℕ, _*_, _^_, _≤_, _<_}
 use native.Mathlib.Omega.{arith}
 use lib.ListN.{length}
 use Rattle.lists.specs.Lists.{Bytes}
 use Rattle.rules.specs.Limits.{stateTextLimit}
-use Rattle.rules.specs.State.{State}
 use Rattle.rules.specs.StateText.{readState}
 use Rattle.rules.specs.Response.{monitor}
-use Rattle.rules.specs.Refusals.{Inputs, Judgement, refused, passed}
-use Rattle.rules.specs.Calls.{Arguments, libraryInputs, judgeMonitoring, valueFound, valueOf, writtenFirst, ktMonitor}
-use Rattle.rules.proofs.NextStateLaws.{monitoring-finding}
+use Rattle.rules.specs.Refusals.{Inputs, Judgement}
+use Rattle.rules.specs.Calls.{Arguments, libraryInputs, judgeMonitoring, writtenFirst, ktMonitor}
 use Rattle.inputs.specs.declared.state.State.{State as StateBlock}
 use Rattle.inputs.specs.State.{stateOf}
 use Rattle.inputs.specs.StateWriter.{textFor}
 use Rattle.checks.specs.declared.monitoring.MonitoringAnswer.{MonitoringAnswer}
 use Rattle.checks.specs.Monitoring.{monitoringAnswer}
-use Rattle.verifier.proofs.CallExportLaws.{Answers, refusal-answered, text-refused, room-refused, call-refused, call-answered}
-
--- monitoring yields no value
-pub no-value : (s : Option State) (a : Arguments) (signed : Bytes) → valueOf (judgeMonitoring s a signed) ≡ none
-unfolding valueOf valueFound
-no-value s a signed = go (judgeMonitoring s a signed) refl
-  where
-    go : (j : Judgement) → judgeMonitoring s a signed ≡ j → valueOf j ≡ none
-    go (refused k) q = refl
-    go (passed c) q = ap valueFound (monitoring-finding s a signed c q)
+use Rattle.checks.proofs.AfterCallLaws.{no-value}
+use Rattle.kt.proofs.CallExportLaws.{Answers, refusal-answered, text-refused, room-refused, call-refused, call-answered}
 
 module _ (text : Bytes) (a : Arguments) (signed newText : Bytes) where
   abbrev judged : Judgement

@@ -1,4 +1,4 @@
--- `verifier::exports::kt_ladder` meets its contract: the first i versions of the ladder are written to the front of the bytes lent.
+-- `kt::exports::kt_ladder` meets its contract: the first i versions of the ladder are written to the front of the bytes lent.
 use mathlib.Core.Path.{_≡_, ap, _∙_}
 use mathlib.Core.List.{List}
 use Prim.Native.Nat.{ℕ, _*_, _-_, _≤_, _<_}
@@ -9,10 +9,10 @@ use Rattle.hash.specs.Bytes.{bigEndian}
 use Rattle.tree.specs.Ladder.{ladderWithin, ladderCapacity}
 use Rattle.tree.proofs.FillLaws.{filled-at}
 use Rattle.tree.proofs.LadderFillLaws.{within-fits}
-use Rattle.verifier.specs.Exports.{versionLength}
-use Rattle.verifier.proofs.ExportLaws.{written, written-none, length-written, written-next, ladder-refused, ladder-written}
-use Rattle.verifier.proofs.exports.kt_ladder.Statement.{statement}
-use Rattle.verifier.proofs.exports.kt_ladder.Tie as tie
+use Rattle.kt.specs.Exports.{versionLength}
+use Rattle.kt.proofs.ExportLaws.{written, written-none, length-written, written-next, ladder-refused, ladder-written}
+use Rattle.kt.proofs.exports.kt_ladder.Statement.{statement}
+use Rattle.kt.proofs.exports.kt_ladder.Tie as tie
 
 abbrev Inv-loop : tie.InvT-loop
 Inv-loop version versions₀ count all i₀ versions i = (i ≤ count) × (versions ≡ written (ladderWithin version) versions₀ i)

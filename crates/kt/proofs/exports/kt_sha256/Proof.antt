@@ -1,9 +1,9 @@
--- `verifier::exports::kt_sha256` meets its contract: one law for too little room, one for the digest copied whole.
+-- `kt::exports::kt_sha256` meets its contract: one law for too little room, one for the digest copied whole.
 use native.Mathlib.Omega.{arith}
-use Rattle.verifier.proofs.ExportLaws.{digest-refused, digest-written}
+use Rattle.kt.proofs.ExportLaws.{digest-refused, digest-written}
 use borrow.Author.Needs.{needs}
-use Rattle.verifier.proofs.exports.kt_sha256.Statement.{statement}
-use Rattle.verifier.proofs.exports.kt_sha256.Tie as tie
+use Rattle.kt.proofs.exports.kt_sha256.Statement.{statement}
+use Rattle.kt.proofs.exports.kt_sha256.Tie as tie
 
 returns : tie.Need-returns
 returns c = digest-refused (c .before .before .before .args .message .now) (c .before .before .before .args .digest .now) (omega arith)

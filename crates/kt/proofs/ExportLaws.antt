@@ -11,7 +11,7 @@ use Rattle.hash.specs.Bytes.{bigEndian}
 use Rattle.hash.proofs.BytesLaws.{length-bigEndian}
 use Rattle.hash.specs.Sha256.{digestLength, sha256}
 use Rattle.hash.proofs.MessageLaws.{length-digest}
-use Rattle.verifier.specs.Exports.{sha256Answer, sha256Output, versionLength, ladderBytes, ladderAnswer, ladderOutput}
+use Rattle.kt.specs.Exports.{sha256Answer, sha256Output, versionLength, ladderBytes, ladderAnswer, ladderOutput}
 use Rattle.tree.specs.Ladder.{ladderWithin}
 
 -- ---- a digest

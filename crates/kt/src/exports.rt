@@ -6,12 +6,12 @@ ghost use lib.Seq.{sets};
 ghost use Rattle.hash.specs.Bytes.{bigEndian};
 ghost use Rattle.rules.specs.Calls.{outputAfter, ktSearch, ktMonitor, ktSignedText, textAfter, answerWord};
 ghost use Rattle.checks.specs.Calls.{argumentsOf};
-ghost use Rattle.verifier.specs.Exports.{sha256Answer, sha256Output, versionLength, ladderAnswer, ladderOutput};
-use crate::state_text::state_in;
+ghost use Rattle.kt.specs.Exports.{sha256Answer, sha256Output, versionLength, ladderAnswer, ladderOutput};
 use checks::monitoring::monitor;
 use checks::search::search;
 use checks::signed_text::signed_text;
 use inputs::state::State;
+use inputs::state_reader::state_in;
 use inputs::state_writer::write_state;
 use tree::ladder::Ladder;
 

@@ -1,10 +1,10 @@
--- `verifier::exports::kt_monitor` meets its contract: the state is read, monitoring judged, the new state written.
+-- `kt::exports::kt_monitor` meets its contract: the state is read, monitoring judged, the new state written.
 use native.Mathlib.Omega.{arith}
-use Rattle.verifier.proofs.CallExportLaws.{text-short}
-use Rattle.verifier.proofs.MonitorExportLaws.{monitoring-over, monitoring-unplaced, monitoring-refused, monitoring-answered}
+use Rattle.kt.proofs.CallExportLaws.{text-short}
+use Rattle.kt.proofs.MonitorExportLaws.{monitoring-over, monitoring-unplaced, monitoring-refused, monitoring-answered}
 use borrow.Author.Needs.{needs}
-use Rattle.verifier.proofs.exports.kt_monitor.Statement.{statement}
-use Rattle.verifier.proofs.exports.kt_monitor.Tie as tie
+use Rattle.kt.proofs.exports.kt_monitor.Statement.{statement}
+use Rattle.kt.proofs.exports.kt_monitor.Tie as tie
 
 returns : tie.Need-returns
 returns c = monitoring-over _ _ _ _ (omega arith)

@@ -1,12 +1,12 @@
--- `verifier::exports::kt_search` meets its contract: the state is read, the search judged, the new state written.
+-- `kt::exports::kt_search` meets its contract: the state is read, the search judged, the new state written.
 use Prim.Native.Nat.{_≤_}
 use native.Mathlib.Omega.{arith}
 use Rattle.rules.specs.Limits.{valueLimit, stateTextLimit}
-use Rattle.verifier.proofs.CallExportLaws.{text-short}
-use Rattle.verifier.proofs.SearchExportLaws.{search-over, search-unplaced, search-short, search-refused, search-answered}
+use Rattle.kt.proofs.CallExportLaws.{text-short}
+use Rattle.kt.proofs.SearchExportLaws.{search-over, search-unplaced, search-short, search-refused, search-answered}
 use borrow.Author.Needs.{needs}
-use Rattle.verifier.proofs.exports.kt_search.Statement.{statement}
-use Rattle.verifier.proofs.exports.kt_search.Tie as tie
+use Rattle.kt.proofs.exports.kt_search.Statement.{statement}
+use Rattle.kt.proofs.exports.kt_search.Tie as tie
 
 -- from past the writing of the new state back to past the search
 abbrev searched : tie.After-slice-known4 → tie.After-search
