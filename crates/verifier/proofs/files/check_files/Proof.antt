@@ -42,7 +42,9 @@ returns-2 c =
     (over-refused (a .unread) _ _ _ _ _ _ (F .before .if1 .left) (sym (F .files-fit .ensures) ∙ not-true _ (T .if2 .taken))) _ _ _ _ _ (c .refused2 .ensures)
 
 read-request-requires : tie.Need-read-request-requires
-read-request-requires c κs = request-within _ _ _ _ _ _ (fit c)
+read-request-requires c κs =
+    let a = start c .args in
+    request-within (a .request .now) (a .response .now) (a .configuration .now) (a .state .now) (a .outputs .now) (a .signed .now) (fit c)
 
 state-in-requires : tie.Need-state-in-requires
 state-in-requires c κs = search needs
