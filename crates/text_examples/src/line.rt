@@ -5,6 +5,14 @@ pub(crate) fn word(s: &[u8]) {
     io::write_all(STDOUT_FILENO, s);
 }
 
+pub(crate) fn end() {
+    word(b"\n");
+}
+
+pub(crate) fn broken() {
+    word(b" broken");
+}
+
 // A field, if there is one.
 pub(crate) fn spaced(s: &[u8]) {
     if s.len() != 0 {
@@ -18,9 +26,18 @@ pub(crate) fn number(n: u64) {
     io::print_decimal(STDOUT_FILENO, n);
 }
 
-pub(crate) fn numbers(m: u64, n: u64) {
+pub(crate) fn place(n: usize) {
+    number(n as u64);
+}
+
+pub(crate) fn numbers(m: u64, n: usize) {
     number(m);
-    number(n);
+    place(n);
+}
+
+pub(crate) fn places(m: usize, n: usize) {
+    place(m);
+    place(n);
 }
 
 fn wide(x: u8) -> u64 {
@@ -42,7 +59,7 @@ pub(crate) fn text(s: &[u8]) {
     word(b"\"");
 }
 
-pub(crate) fn answer(holds: bool) {
+pub(crate) fn whether(holds: bool) {
     if holds {
         word(b" yes");
     } else {
