@@ -87,15 +87,16 @@ fn decoded(text: &mut [u8], field: &[u8]) -> usize {
 // Runs a line: a heading, or an example of the kind. Gives the kind of the next lines.
 pub(crate) fn run(kind: u64, line: &[u8]) -> u64 {
     let heading = field(line, KIND);
+    let mut next = kind;
     if heading.len() == 0 {
         show(line);
         answer(kind, line);
-        line::end();
-        return kind;
+    } else {
+        line::word(line);
+        next = said(heading);
     }
-    line::word(line);
-    line::end();
-    said(heading)
+    line::word(b"\n");
+    next
 }
 
 // What is given: the name or, where there is none, the texts, and the numbers.

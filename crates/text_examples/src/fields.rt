@@ -21,7 +21,7 @@ pub(crate) fn number(bound: u64, s: &[u8]) {
 
 pub(crate) fn spelling(s: &[u8]) {
     match spelled_length(s) {
-        Spelling::Length(n) => line::place(n),
+        Spelling::Length(n) => line::number(n as u64),
         Spelling::NotHex => line::broken(),
     }
 }
@@ -36,7 +36,7 @@ pub(crate) fn digest(s: &[u8]) {
 pub(crate) fn word_at(at: usize, s: &[u8], word: &[u8]) {
     let c = Cursor { at };
     match c.word(s, word) {
-        NextWord::Same(next) => line::place(next.at),
+        NextWord::Same(next) => line::number(next.at as u64),
         NextWord::Other => line::word(b" other"),
     }
 }
@@ -44,7 +44,7 @@ pub(crate) fn word_at(at: usize, s: &[u8], word: &[u8]) {
 pub(crate) fn number_at(at: usize, bound: u64, s: &[u8]) {
     let c = Cursor { at };
     match c.number(s, bound) {
-        NextNumber::Read { value, next } => line::numbers(value, next.at),
+        NextNumber::Read { value, next } => line::numbers(value, next.at as u64),
         NextNumber::Unread => line::broken(),
     }
 }
@@ -52,7 +52,7 @@ pub(crate) fn number_at(at: usize, bound: u64, s: &[u8]) {
 pub(crate) fn bytes_at(at: usize, s: &[u8]) {
     let c = Cursor { at };
     match c.bytes(s) {
-        NextBytes::Spelled { length, next } => line::places(length, next.at),
+        NextBytes::Spelled { length, next } => line::numbers(length as u64, next.at as u64),
         NextBytes::Unspelled => line::broken(),
     }
 }
@@ -63,13 +63,13 @@ pub(crate) fn field_at(at: usize, s: &[u8]) {
 }
 
 pub(crate) fn span_at(at: usize, s: &[u8]) {
-    line::place(span(s, at, b'\t'));
+    line::number(span(s, at, b'\t') as u64);
 }
 
 pub(crate) fn line_at(at: usize, s: &[u8]) {
     let c = Cursor { at };
     match c.line(s) {
-        NextLine::Ended { stop, next } => line::places(stop, next.at),
+        NextLine::Ended { stop, next } => line::numbers(stop as u64, next.at as u64),
         NextLine::Open => line::word(b" open"),
     }
 }

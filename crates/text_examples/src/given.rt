@@ -26,13 +26,12 @@ fn lifetime(l: Lifetime) {
 }
 
 fn fields(s: &[u8], c: Configuration) {
-    line::numbers(c.suite as u64, c.mode as usize);
+    line::numbers(c.suite as u64, c.mode as u64);
     let signature = c.signature;
     let vrf = c.vrf;
     line::bytes(signature.of(s));
     line::bytes(vrf.of(s));
-    line::number(c.ahead);
-    line::number(c.behind);
+    line::numbers(c.ahead, c.behind);
     line::number(c.window);
     let limit = c.lifetime;
     lifetime(limit);

@@ -5,10 +5,6 @@ pub(crate) fn word(s: &[u8]) {
     io::write_all(STDOUT_FILENO, s);
 }
 
-pub(crate) fn end() {
-    word(b"\n");
-}
-
 pub(crate) fn broken() {
     word(b" broken");
 }
@@ -26,18 +22,9 @@ pub(crate) fn number(n: u64) {
     io::print_decimal(STDOUT_FILENO, n);
 }
 
-pub(crate) fn place(n: usize) {
-    number(n as u64);
-}
-
-pub(crate) fn numbers(m: u64, n: usize) {
+pub(crate) fn numbers(m: u64, n: u64) {
     number(m);
-    place(n);
-}
-
-pub(crate) fn places(m: usize, n: usize) {
-    place(m);
-    place(n);
+    number(n);
 }
 
 fn wide(x: u8) -> u64 {

@@ -26,8 +26,8 @@ fn target(text: &[u8], t: Target) {
 }
 
 fn section(s: Section) {
-    line::places(s.part.start, s.part.stop);
-    line::place(s.count);
+    line::numbers(s.part.start as u64, s.part.stop as u64);
+    line::number(s.count as u64);
 }
 
 fn fields(text: &[u8], r: Response) {

@@ -13,7 +13,7 @@ const LENT: usize = 8200;
 fn written(s: State, text: &[u8]) {
     let mut lent = [b'.'; LENT];
     let length = write_state(s, &mut lent);
-    line::place(length);
+    line::number(length as u64);
     if length <= LENT {
         line::whether(equal(&lent[0..length], text));
     }
@@ -22,11 +22,10 @@ fn written(s: State, text: &[u8]) {
 
 // The number, what the state holds, and its text.
 pub(crate) fn state(n: NumberedState, text: &[u8]) {
-    line::number(n.number);
     let s = n.state;
-    line::place(s.length);
-    line::number(s.size);
-    line::numbers(s.time, s.pairs);
+    line::numbers(n.number, s.length as u64);
+    line::numbers(s.size, s.time);
+    line::number(s.pairs as u64);
     written(s, text);
 }
 

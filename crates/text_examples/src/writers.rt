@@ -13,7 +13,7 @@ const LENT: usize = 10;
 // The place after what was put, and what was lent.
 fn after(put: Put, lent: &[u8]) {
     match put {
-        Put::Next(at) => line::place(at),
+        Put::Next(at) => line::number(at as u64),
         Put::Unchanged => line::word(b" unchanged"),
     }
     line::text(lent);
