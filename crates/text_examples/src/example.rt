@@ -1,7 +1,10 @@
-// An example: a line of fields with a tab between two.
+// An example: a line of fields with a tab between two. In its texts `\t`, `\n` and `\r` stand for a tab, a newline and a return.
+// A line whose first field is not empty is a heading: that field is the number of the kind of the examples below it.
 use crate::fields;
 use crate::given;
 use crate::line;
+use crate::responses;
+use crate::states;
 use crate::writers;
 use lines::cursor::Cursor;
 use lines::line::span;
@@ -40,29 +43,15 @@ fn field(line: &[u8], column: usize) -> &[u8] {
     c.field(line)
 }
 
-// The number that a text says, 0 where it says none.
-pub(crate) fn said(text: &[u8]) -> u64 {
-    match read_number(text, u64::MAX) {
+// The number that a field says, 0 where it says none.
+pub(crate) fn said(field: &[u8]) -> u64 {
+    match read_number(field, u64::MAX) {
         Number::Value(n) => n,
         Number::Broken => 0,
     }
 }
 
-// The byte that a letter stands for, by whether `\` stands before it.
-fn meaning(escaped: bool, letter: u8) -> u8 {
-    if escaped {
-        match letter {
-            b't' => b'\t',
-            b'n' => b'\n',
-            b'r' => b'\r',
-            _ => letter,
-        }
-    } else {
-        letter
-    }
-}
-
-// Puts what a letter stands for behind a text of so many bytes, if there is room, and gives its new length; `\` itself puts nothing.
+// Puts what a letter of a field stands for behind a text of so many bytes, if there is room, and gives its new length; `\` itself puts nothing.
 fn added(text: &mut [u8], length: usize, escaped: bool, letter: u8) -> usize {
     if letter == b'\\' {
         return length;
@@ -70,7 +59,15 @@ fn added(text: &mut [u8], length: usize, escaped: bool, letter: u8) -> usize {
     if text.len() <= length {
         return length;
     }
-    text[length] = meaning(escaped, letter);
+    let mut byte = letter;
+    if escaped {
+        byte = match letter {
+            b't' => b'\t',
+            b'n' => b'\n',
+            _ => b'\r',
+        };
+    }
+    text[length] = byte;
     length + 1
 }
 
@@ -87,57 +84,72 @@ fn decoded(text: &mut [u8], field: &[u8]) -> usize {
     length
 }
 
-// Runs the example of a line.
-pub(crate) fn run(line: &[u8]) {
-    let kind = field(line, KIND);
-    let place = field(line, PLACE);
-    let number = field(line, NUMBER);
-    let text = field(line, TEXT);
-    let other = field(line, OTHER);
-    show(kind, field(line, NAME), place, number, text, other);
-    decode(kind, said(place), said(number), text, other);
+// Runs a line: a heading, or an example of the kind. Gives the kind of the next lines.
+pub(crate) fn run(kind: u64, line: &[u8]) -> u64 {
+    let heading = field(line, KIND);
+    let mut next = kind;
+    if heading.len() == 0 {
+        show(line);
+        answer(kind, line);
+    } else {
+        line::word(line);
+        next = said(heading);
+    }
     line::word(b"\n");
+    next
 }
 
-// What is given: the kind, and the name with the numbers or, where there is no name, the texts with the numbers.
-fn show(kind: &[u8], name: &[u8], place: &[u8], number: &[u8], text: &[u8], other: &[u8]) {
-    line::word(kind);
+// What is given: the name or, where there is none, the texts, and the numbers.
+fn show(line: &[u8]) {
+    let name = field(line, NAME);
     if name.len() == 0 {
-        line::text(text);
+        line::text(field(line, TEXT));
+        line::spaced(field(line, OTHER));
     } else {
         line::text(name);
     }
-    line::spaced(place);
-    line::spaced(number);
-    if name.len() == 0 && other.len() != 0 {
-        line::text(other);
-    }
+    line::spaced(field(line, PLACE));
+    line::spaced(field(line, NUMBER));
 }
 
-// What comes back, from the texts as they are written.
-fn decode(kind: &[u8], place: u64, number: u64, text: &[u8], other: &[u8]) {
-    let mut first = [0u8; TEXT_ROOM];
-    let first_length = decoded(&mut first, text);
-    let mut second = [0u8; OTHER_ROOM];
-    let second_length = decoded(&mut second, other);
-    if first_length <= TEXT_ROOM {
-        if second_length <= OTHER_ROOM {
-            answer(
+// What comes back.
+fn answer(kind: u64, line: &[u8]) {
+    let mut text = [0u8; TEXT_ROOM];
+    let length = decoded(&mut text, field(line, TEXT));
+    let mut other = [0u8; OTHER_ROOM];
+    let other_length = decoded(&mut other, field(line, OTHER));
+    if length <= TEXT_ROOM {
+        if other_length <= OTHER_ROOM {
+            by_kind(
                 kind,
-                place,
-                number,
-                &first[0..first_length],
-                &second[0..second_length],
+                said(field(line, PLACE)),
+                said(field(line, NUMBER)),
+                &text[0..length],
+                &other[0..other_length],
             );
         }
     }
 }
 
-// What comes back.
-fn answer(kind: &[u8], place: u64, number: u64, text: &[u8], other: &[u8]) {
-    fields::whole(kind, number, text);
-    fields::at_place(kind, place as usize, number, text, other);
-    writers::put(kind, place as usize, text);
-    given::read(kind, place, text);
-    given::read_bytes(kind, place as usize, number, text, other);
+// What comes back, by the kind. Those that are not named here are given bytes.
+fn by_kind(kind: u64, place: u64, number: u64, text: &[u8], other: &[u8]) {
+    let at = place as usize;
+    match kind {
+        1 => fields::number(number, text),
+        2 => fields::spelling(text),
+        3 => fields::digest(text),
+        4 => fields::word_at(at, text, other),
+        5 => fields::number_at(at, number, text),
+        6 => fields::bytes_at(at, text),
+        7 => fields::field_at(at, text),
+        8 => fields::span_at(at, text),
+        9 => fields::line_at(at, text),
+        10 => writers::bytes(at, text),
+        11 => writers::decimal(at, text),
+        13 => writers::spelled(at, text),
+        18 => states::of_text(text),
+        19 => states::unused_room(place, text),
+        20 => responses::response(text),
+        _ => given::spelled(kind, at, number, text, other),
+    }
 }

@@ -1,18 +1,14 @@
-// Configurations and VRF outputs, written in hex; and which reader an example is for.
+// Byte strings: configurations, VRF outputs, labels, and bytes to be put in hex.
 use crate::line;
-use crate::responses::response;
 use crate::states;
-use crate::writers::hex;
+use crate::writers;
 use inputs::configuration::Configuration;
 use inputs::configuration::Lifetime;
 use inputs::configuration::ReadConfiguration;
 use inputs::configuration::read_configuration;
 use inputs::state::State;
-use inputs::state_reader::read_state;
 use inputs::vrf_outputs::find_output;
 use inputs::vrf_outputs::outputs_rise;
-use lines::part::Part;
-use lines::part::equal;
 use lines::writing::next_place;
 use lines::writing::put_spelled;
 
@@ -22,6 +18,13 @@ const ROOM: usize = 256;
 // The greatest version that can be asked for.
 const VERSION: u64 = 4294967295;
 
+fn lifetime(l: Lifetime) {
+    match l {
+        Lifetime::Limited(n) => line::number(n),
+        Lifetime::Unlimited => line::word(b" unlimited"),
+    }
+}
+
 fn fields(s: &[u8], c: Configuration) {
     line::numbers(c.suite as u64, c.mode as u64);
     let signature = c.signature;
@@ -30,66 +33,43 @@ fn fields(s: &[u8], c: Configuration) {
     line::bytes(vrf.of(s));
     line::numbers(c.ahead, c.behind);
     line::number(c.window);
-    let lifetime = c.lifetime;
-    match lifetime {
-        Lifetime::Limited(n) => line::number(n),
-        Lifetime::Unlimited => line::word(b" unlimited"),
-    }
+    let limit = c.lifetime;
+    lifetime(limit);
 }
 
 fn configuration(s: &[u8]) {
     match read_configuration(s) {
         ReadConfiguration::Read(c) => fields(s, c),
-        ReadConfiguration::Broken => line::word(b" broken"),
+        ReadConfiguration::Broken => line::broken(),
     }
 }
 
 fn output(outputs: &[u8], version: u64) {
     if version <= VERSION {
         let f = find_output(outputs, version as u32);
-        line::answer(f.found);
+        line::whether(f.found);
         let output = f.output;
         line::bytes(&output);
     }
 }
 
-// Byte strings.
-fn of_bytes(kind: &[u8], at: usize, number: u64, bytes: &[u8], other: &[u8]) {
-    if equal(kind, b"settings") {
-        configuration(bytes);
-    }
-    if equal(kind, b"outputs") {
-        line::answer(outputs_rise(bytes));
-    }
-    if equal(kind, b"output") {
-        output(bytes, number);
-    }
-    if equal(kind, b"new state") {
-        states::state(State::new(bytes), other);
-    }
-    if equal(kind, b"put hex") {
-        hex(at, bytes);
+// What comes back, by the kind.
+fn by_kind(kind: u64, at: usize, number: u64, bytes: &[u8], other: &[u8]) {
+    match kind {
+        12 => writers::hex(at, bytes),
+        14 => configuration(bytes),
+        15 => line::whether(outputs_rise(bytes)),
+        16 => output(bytes, number),
+        17 => states::state(State::new(bytes), other),
+        _ => {}
     }
 }
 
-// What is given as a byte string, which the text spells.
-pub(crate) fn read_bytes(kind: &[u8], at: usize, number: u64, text: &[u8], other: &[u8]) {
+// What comes back of the bytes that a text spells.
+pub(crate) fn spelled(kind: u64, at: usize, number: u64, text: &[u8], other: &[u8]) {
     let mut bytes = [0u8; ROOM];
     let length = next_place(put_spelled(&mut bytes, 0, text), 0);
     if length <= ROOM {
-        of_bytes(kind, at, number, &bytes[0..length], other);
-    }
-}
-
-// What is given as a text.
-pub(crate) fn read(kind: &[u8], place: u64, text: &[u8]) {
-    if equal(kind, b"response") {
-        response(text);
-    }
-    if equal(kind, b"state text") {
-        states::state(read_state(text), text);
-    }
-    if equal(kind, b"unused room") {
-        states::changed(text, place);
+        by_kind(kind, at, number, &bytes[0..length], other);
     }
 }

@@ -5,6 +5,10 @@ pub(crate) fn word(s: &[u8]) {
     io::write_all(STDOUT_FILENO, s);
 }
 
+pub(crate) fn broken() {
+    word(b" broken");
+}
+
 // A field, if there is one.
 pub(crate) fn spaced(s: &[u8]) {
     if s.len() != 0 {
@@ -42,7 +46,7 @@ pub(crate) fn text(s: &[u8]) {
     word(b"\"");
 }
 
-pub(crate) fn answer(holds: bool) {
+pub(crate) fn whether(holds: bool) {
     if holds {
         word(b" yes");
     } else {

@@ -20,12 +20,14 @@ fn main() {
     each_line(&text[..length]);
 }
 
-// Runs the example of each line.
+// Runs the lines one after the other.
 fn each_line(text: &[u8]) {
+    let mut kind: u64 = 0;
     let mut at: usize = 0;
     while at < text.len() {
         let stop = span(text, at, b'\n');
-        example::run(&text[at..stop]);
+        let next = example::run(kind, &text[at..stop]);
+        kind = next;
         if text.len() <= stop {
             return;
         }

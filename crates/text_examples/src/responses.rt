@@ -12,50 +12,39 @@ fn part(text: &[u8], p: Part) {
     line::text(p.of(text));
 }
 
-fn section(s: Section) {
-    let p = s.part;
-    line::numbers(p.start as u64, p.stop as u64);
-    line::number(s.count as u64);
+fn kind(k: Kind) {
+    match k {
+        Kind::Search => line::word(b" search"),
+        Kind::Monitor => line::word(b" monitor"),
+    }
 }
 
 fn target(text: &[u8], t: Target) {
     line::number(t.version as u64);
-    let opening = t.opening;
-    let value = t.value;
-    part(text, opening);
-    part(text, value);
+    part(text, t.opening);
+    part(text, t.value);
+}
+
+fn section(s: Section) {
+    line::numbers(s.part.start as u64, s.part.stop as u64);
+    line::number(s.count as u64);
 }
 
 fn fields(text: &[u8], r: Response) {
-    let kind = r.kind;
-    match kind {
-        Kind::Search => line::word(b" search"),
-        Kind::Monitor => line::word(b" monitor"),
-    }
-    let identifier = r.identifier;
-    let label = r.label;
-    part(text, identifier);
-    part(text, label);
+    let asked = r.kind;
+    kind(asked);
+    part(text, r.identifier);
+    part(text, r.label);
     line::number(r.size);
-    let found = r.target;
-    target(text, found);
-}
-
-fn sections(r: Response) {
-    let steps = r.steps;
-    let entries = r.entries;
-    let nodes = r.nodes;
-    section(steps);
-    section(entries);
-    section(nodes);
+    target(text, r.target);
+    section(r.steps);
+    section(r.entries);
+    section(r.nodes);
 }
 
 pub(crate) fn response(text: &[u8]) {
     match read_response(text) {
-        ReadResponse::Read(r) => {
-            fields(text, r);
-            sections(r);
-        }
+        ReadResponse::Read(r) => fields(text, r),
         ReadResponse::Broken => line::number(5),
     }
 }

@@ -6,51 +6,51 @@ use inputs::state_reader::read_state;
 use inputs::state_writer::write_state;
 use lines::part::equal;
 
-// The number and what the state holds; whether it is valid; the length of its text, and whether that is the text given.
+// Room for more than the text of any state.
+const LENT: usize = 8200;
+
+// The length of a state's text, whether that is the text given, and whether the last byte lent stays.
+fn written(s: State, text: &[u8]) {
+    let mut lent = [b'.'; LENT];
+    let length = write_state(s, &mut lent);
+    line::number(length as u64);
+    if length <= LENT {
+        line::whether(equal(&lent[0..length], text));
+    }
+    line::whether(lent[LENT - 1] == b'.');
+}
+
+// The number, what the state holds, and its text.
 pub(crate) fn state(n: NumberedState, text: &[u8]) {
     let s = n.state;
     line::numbers(n.number, s.length as u64);
     line::numbers(s.size, s.time);
     line::number(s.pairs as u64);
-    let mut lent = [b'.'; 8200];
-    let length = write_state(s, &mut lent);
-    line::number(length as u64);
-    if length <= 8200 {
-        line::answer(equal(&lent[0..length], text));
-    }
-    line::answer(lent[8199] == b'.');
+    written(s, text);
 }
 
-// The state of a text with something put where it should not be.
-pub(crate) fn changed(text: &[u8], place: u64) {
-    let n = read_state(text);
-    let given = n.state;
+// The state that a text says.
+pub(crate) fn of_text(text: &[u8]) {
+    state(read_state(text), text);
+}
+
+// Whether a state of two values and two pairs is valid, with something put where it should not be.
+fn changed(given: State, place: u64) {
     let mut label = given.label;
     let mut length = given.length;
     let mut values = given.values;
     let mut positions = given.positions;
     let mut versions = given.versions;
     let mut pairs = given.pairs;
-    if place == 1 {
-        label[254] = 1;
-    }
-    if place == 2 {
-        values[64] = 1;
-    }
-    if place == 3 {
-        positions[2] = 1;
-    }
-    if place == 4 {
-        versions[47] = 1;
-    }
-    if place == 5 {
-        pairs = 49;
-    }
-    if place == 6 {
-        length = 256;
-    }
-    if place == 7 {
-        length = 0;
+    match place {
+        1 => label[State::LABEL - 1] = 1,
+        2 => values[64] = 1,
+        3 => positions[2] = 1,
+        4 => versions[State::PAIRS - 1] = 1,
+        5 => pairs = State::PAIRS + 1,
+        6 => length = State::LABEL + 1,
+        7 => length = 0,
+        _ => {}
     }
     let s = State {
         label,
@@ -62,5 +62,11 @@ pub(crate) fn changed(text: &[u8], place: u64) {
         versions,
         pairs,
     };
-    line::answer(s.is_valid());
+    line::whether(s.is_valid());
+}
+
+// The same of the state that a text says.
+pub(crate) fn unused_room(place: u64, text: &[u8]) {
+    let n = read_state(text);
+    changed(n.state, place);
 }

@@ -6,10 +6,10 @@ use Rattle.text_examples.proofs.each_line.Statement.{statement}
 use Rattle.text_examples.proofs.each_line.Tie as tie
 
 abbrev Inv-loop : tie.InvT-loop
-Inv-loop text at₀ at = Unit {0}
+Inv-loop text kind₀ at₀ kind at = Unit {0}
 
 abbrev μ-loop : tie.MeasureT-loop
-μ-loop text at₀ at = length text - at
+μ-loop text kind₀ at₀ kind at = length text - at
 
 loop-holds : tie.Need-loop-holds Inv-loop μ-loop
 loop-holds c = search needs
