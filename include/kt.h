@@ -1,5 +1,5 @@
 /*
- * kt.h: the C interface of the boot checker's verifier.
+ * kt.h: the C interface of the boot checker's library, libkt.a.
  *
  * Every byte string is passed as a pointer and its length in bytes. The library
  * allocates nothing, keeps nothing between calls and writes only to the bytes

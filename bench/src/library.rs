@@ -2,7 +2,7 @@
 
 use second::calls::Arguments;
 
-#[link(name = "verifier", kind = "static")]
+#[link(name = "kt", kind = "static")]
 extern "C" {
     fn kt_sha256(
         message: *const u8,

@@ -1,4 +1,4 @@
-/* Calls the verifier's static library as a C program does, and checks each promise of kt.h that a call can show. */
+/* Calls the static library as a C program does, and checks each promise of kt.h that a call can show. */
 #include "kt_test.h"
 
 #include <stdio.h>

@@ -1,4 +1,4 @@
--- Whole calls that hash: monitoring after the accepted search, refusals from 12 on, and two chains of calls.
+-- Whole calls that hash: monitoring after the accepted search, refusals with 12 and 13, and two chains of calls.
 use mathlib.Core.Path.{_≡_, refl, sym, ap, ap₂, _∙_}
 use mathlib.Core.List.{List, [], _∷_, _++_, map, flatMap}
 use mathlib.Core.Option.{Option, none, some, Option·map, Option·some-injective}
@@ -11,11 +11,11 @@ use Rattle.rules.specs.State.{State}
 use Rattle.rules.specs.Response.{monitor, Parts, logEntry}
 use Rattle.rules.specs.ResponseText.{readResponse}
 use Rattle.rules.specs.Refusals.{Inputs, Call, refused, passed, judge}
-use Rattle.rules.specs.Calls.{numberOf, stateAfter}
+use Rattle.rules.specs.Calls.{numberOf, stateAfter, valueOf}
 use Rattle.rules.specs.Consistency.{acceptedCalls, shownBy}
 use Rattle.rules.proofs.RefusalLaws.{accepted-meaning, readings-were, zero-accepts, chain-accepted, chain-refused}
 use Rattle.rules.proofs.Running.{x, pair, outcome, outcomeOf, opened}
-use Rattle.rules.proofs.Cases.{Refused, Accepted, identifier, configuration, sheet-0, sheet-1, signed, kt-line, head-line, target-line, step-lines, entry-line, in-line, nl-line, end-line, response, searching, honest, answering, new, kept, after-search, accepted-search}
+use Rattle.rules.proofs.Cases.{Refused, Accepted, identifier, configuration, sheet-0, sheet-1, signed, kt-line, head-line, target-line, step-lines, entry-line, in-line, nl-line, end-line, response, searching, honest, answering, new, watching, after-search, accepted-search}
 
 -- ---- monitoring: version 1 was added in a second entry, which stands on the right path of entry 0
 
@@ -40,28 +40,14 @@ monitoring =
       room = 0;
     }
 
-abbrev after-monitoring : State
-after-monitoring = record { label = x "61"; size = 2; time = 1001; values = root-of-two ∷ []; monitoringMap = pair 1 0 ∷ [] }
+abbrev pub after-monitoring : State
+after-monitoring = record { label = x "61"; log = record { size = 2; time = 1001; values = root-of-two ∷ [] }; monitoringMap = pair 1 0 ∷ [] }
 
 pub accepted-monitoring : Accepted (some after-search) monitoring after-monitoring none
 unfolding opened
 accepted-monitoring = refl
 
 -- ---- 12
-
--- the prefix tree with both versions
-abbrev later-entry : Bytes
-later-entry = ascii "entry\t0\t1000\tb19a756adc46aded582c0152f539fc2af21ee6b91b6923e1f65e6546d5fa9acc\n"
-
-abbrev later-in : Bytes
-later-in = ascii "in\t0\t5ec370ac7057c9571e7b94f29e374d6aadfab6e9ad8340962e2a64acd3a7b2dd\n"
-
--- the other leaf is the searched one, and its path leads to the root
-pub other-leaf-is-the-searched-one : Refused new (answering (kt-line ++ head-line ++ target-line ++ step-lines ++ later-entry ++ later-in
-    ++ ascii "nl\t1\t8011111111111111111111111111111111111111111111111111111111111111\t968f18585a843fc80a00eb091832100684a027b1c068b755b0ca8c88223818aa\t0470a5b73e5d7206f13eb1efafa43a2e45df17b7bca61b55cda03fac3c31c624\n"
-    ++ end-line)) 12
-unfolding opened
-other-leaf-is-the-searched-one = refl
 
 -- another value than the one committed to
 pub other-value : Refused new (answering (kt-line ++ head-line ++ ascii "target\t0\t30303030303030303030303030303030\t79\n" ++ step-lines ++ entry-line ++ in-line ++ nl-line ++ end-line)) 12
@@ -81,22 +67,6 @@ pub last-entry-short : Refused new (answering (kt-line ++ head-line ++ target-li
 unfolding opened
 last-entry-short = refl
 
--- ---- 14, 15, 16
-
--- the kept value of the shown entry is another
-pub kept-value-differs : Refused (some (kept 1 (x "6942d1bc293083ea7b011b18167d992105f9bcb8cf66364b49417fd93dbb2c23") [])) honest 14
-unfolding opened
-kept-value-differs = refl
-
-pub other-root-signed : Refused new (searching response configuration identifier 1000 (sheet-0 ++ sheet-1)
-    (configuration ++ x "00000000000000016942d1bc293083ea7b011b18167d992105f9bcb8cf66364b49417fd93dbb2c23") 1) 15
-unfolding opened
-other-root-signed = refl
-
-pub no-room : Refused new (searching response configuration identifier 1000 (sheet-0 ++ sheet-1) signed 0) 16
-unfolding opened
-no-room = refl
-
 -- ---- a chain: a search with the clock too early, the accepted search, monitoring
 
 abbrev early : Inputs
@@ -106,14 +76,19 @@ early-refused : judge new early ≡ refused 11
 unfolding opened
 early-refused = refl
 
--- the number and the state of an outcome
-number-of : (s t : Option State) (i : Inputs) (k : ℕ) (v : Option Bytes) → outcome s i ≡ (k, (t, v)) → numberOf (judge s i) ≡ k
-unfolding outcome outcomeOf
-number-of s t i k v e = ap (λ (o : ℕ × (Option State × Option Bytes)). o .0) e
+-- the number, the state and the value of an outcome
+module _ (s t : Option State) (i : Inputs) (k : ℕ) (v : Option Bytes) (e : outcome s i ≡ (k, (t, v))) where
+  pub number-of : numberOf (judge s i) ≡ k
+  unfolding outcome outcomeOf
+  number-of = ap (λ (o : ℕ × (Option State × Option Bytes)). o .0) e
 
-state-of : (s t : Option State) (i : Inputs) (k : ℕ) (v : Option Bytes) → outcome s i ≡ (k, (t, v)) → stateAfter s (judge s i) ≡ t
-unfolding outcome outcomeOf
-state-of s t i k v e = ap (λ (o : ℕ × (Option State × Option Bytes)). o .1 .0) e
+  pub state-of : stateAfter s (judge s i) ≡ t
+  unfolding outcome outcomeOf
+  state-of = ap (λ (o : ℕ × (Option State × Option Bytes)). o .1 .0) e
+
+  pub value-of : valueOf (judge s i) ≡ v
+  unfolding outcome outcomeOf
+  value-of = ap (λ (o : ℕ × (Option State × Option Bytes)). o .1 .1) e
 
 -- a chain that begins with the accepted search goes on from the state after it
 search-first : (is : List Inputs) → (c : Call) × (judge new honest ≡ passed c) × (acceptedCalls new (honest ∷ is) ≡ c ∷ acceptedCalls (some after-search) is)
@@ -134,11 +109,14 @@ chain-of-three =
           ∙ ap (λ (cs : List Call). c ∷ cs) (chain-accepted (some after-search) monitoring [] d p),
     )
 
--- ---- a chain of two calls that show one entry: the search, and the same search again
+-- ---- a chain of two calls that show one entry: the search, and monitoring of the same log
 
-pub search-again : Accepted (some after-search) honest after-search (some (x "78"))
+abbrev monitoring-again : Inputs
+monitoring-again = watching (head-line ++ entry-line) [] signed
+
+monitored-again : Accepted (some after-search) monitoring-again after-search none
 unfolding opened
-search-again = refl
+monitored-again = refl
 
 abbrev first-entry : LogEntry
 first-entry = record { position = 0; time = 1000; prefixRoot = x "0470a5b73e5d7206f13eb1efafa43a2e45df17b7bca61b55cda03fac3c31c624" }
@@ -147,21 +125,27 @@ first-entry = record { position = 0; time = 1000; prefixRoot = x "0470a5b73e5d72
 abbrev shownIn : Parts → List LogEntry
 shownIn p = map logEntry (p .entries)
 
-response-shows : Option·map shownIn (readResponse response) ≡ some (first-entry ∷ [])
-unfolding opened
-response-shows = refl
+pub record ResponsesShow : Type 0 where
+  pub searched : Option·map shownIn (readResponse (honest .response)) ≡ some (first-entry ∷ [])
+  pub monitored : Option·map shownIn (readResponse (monitoring-again .response)) ≡ some (first-entry ∷ [])
 
--- a call that accepts the response shows them
-call-shows : (s : Option State) (c : Call) → judge s honest ≡ passed c → shownIn (c .parts) ≡ first-entry ∷ []
-call-shows s c e =
-    let r = readings-were s honest c (accepted-meaning s honest c e .0) .parts in
-    Option·some-injective (shownIn (c .parts)) (first-entry ∷ []) (sym (ap (Option·map shownIn) r) ∙ response-shows)
+responses-show : ResponsesShow
+unfolding opened
+responses-show = record { searched = refl; monitored = refl }
+
+-- a call that accepts a response shows them
+call-shows : (s : Option State) (i : Inputs) (c : Call) (es : List LogEntry) → judge s i ≡ passed c → Option·map shownIn (readResponse (i .response)) ≡ some es
+    → shownIn (c .parts) ≡ es
+call-shows s i c es e r =
+    let p = readings-were s i c (accepted-meaning s i c e .0) .parts in
+    Option·some-injective (shownIn (c .parts)) es (sym (ap (Option·map shownIn) p) ∙ r)
 
 -- both calls are accepted, and both show entry 0
-pub shown-twice : shownBy (acceptedCalls new (honest ∷ honest ∷ [])) ≡ first-entry ∷ first-entry ∷ []
+pub shown-twice : shownBy (acceptedCalls new (honest ∷ monitoring-again ∷ [])) ≡ first-entry ∷ first-entry ∷ []
 unfolding acceptedCalls shownBy flatMap
 shown-twice =
-    let (c, p, q) = search-first (honest ∷ []) in
-    let (d, r) = zero-accepts (some after-search) honest (number-of (some after-search) (some after-search) honest 0 (some (x "78")) search-again) in
-    ap shownBy (q ∙ ap (λ (cs : List Call). c ∷ cs) (chain-accepted (some after-search) honest [] d r))
-    ∙ ap₂ (λ (l m : List LogEntry). l ++ (m ++ [])) (call-shows new c p) (call-shows (some after-search) d r)
+    let (c, p, q) = search-first (monitoring-again ∷ []) in
+    let (d, r) = zero-accepts (some after-search) monitoring-again (number-of (some after-search) (some after-search) monitoring-again 0 none monitored-again) in
+    ap shownBy (q ∙ ap (λ (cs : List Call). c ∷ cs) (chain-accepted (some after-search) monitoring-again [] d r))
+    ∙ ap₂ (λ (l m : List LogEntry). l ++ (m ++ [])) (call-shows new honest c (first-entry ∷ []) p (responses-show .searched))
+    (call-shows (some after-search) monitoring-again d (first-entry ∷ []) r (responses-show .monitored))

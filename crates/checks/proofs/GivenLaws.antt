@@ -1,4 +1,5 @@
--- Laws of what is tried of a response before its steps, entries and nodes are looked at (specs/Calls.antt): 6 to 8, test by test.
+-- Laws of what is tried of a response before its steps, entries and nodes are looked at (specs/Calls.antt): 6 to 8,
+-- test by test.
 use mathlib.Core.Path.{_≡_, refl, sym, _∙_, ap, subst}
 use mathlib.Core.Bool.{Bool, true, false, not, _||_, false≢true, Bool·not-not}
 use mathlib.Core.List.{List, [], _∷_}
@@ -21,9 +22,12 @@ use Rattle.lines.proofs.PlaceLaws.{at-cons, at-end}
 use Rattle.lines.proofs.WritingLaws.{put-some, put-none}
 use Rattle.rules.specs.Limits.{treeSizeLimit, greatestVersion}
 use Rattle.rules.specs.State.{versions}
-use Rattle.rules.specs.Response.{Parts, kindOf}
-use Rattle.rules.specs.Refusals.{Call, rule, kindAsked, sameKind, foreign, sizeWrong, targetWrong, targetWrongIn}
-use Rattle.rules.proofs.AcceptedLaws.{own-was}
+use Rattle.rules.specs.Response.{Target as TargetRead, searched, monitored, Parts, kindOf}
+use Rattle.rules.specs.Kinds.{KindRules}
+use Rattle.rules.specs.Search.{searchTargetWrong, searchRules}
+use Rattle.rules.specs.Monitoring.{monitoringRules}
+use Rattle.rules.specs.Refusals.{Call, rule, kindAsked, sameKind, foreign, sizeWrong, targetWrong}
+use Rattle.rules.proofs.KindLaws.{search-rules, monitoring-rules}
 use Rattle.inputs.specs.declared.response_lines.Kind.{Kind}
 use Rattle.inputs.specs.declared.response_lines.Kind.the-variants.{Search, Monitor}
 use Rattle.inputs.specs.declared.response.Response.{Response}
@@ -31,9 +35,12 @@ use Rattle.inputs.specs.declared.response_lines.Target.{Target}
 use Rattle.inputs.specs.ResponseLines.{spelled}
 use Rattle.inputs.specs.Response.{findingIn, partsIn, Fields}
 use Rattle.inputs.proofs.FrontLaws.{put-first, place-fits, place-over}
-use Rattle.checks.specs.Calls.{numberTried, rules6, kindIn, IsOwn, FoundKind, FitsTarget, IsFirstNumber}
+use Rattle.checks.specs.declared.call.AskedKind.{AskedKind}
+use Rattle.checks.specs.declared.call.AskedKind.the-variants.{Search as AskedSearch, Monitor as AskedMonitor, Nothing}
+use Rattle.checks.specs.declared.readings.Call.{Call as CallBlock}
+use Rattle.checks.specs.Calls.{numberTried, rules6to8, askedKind, kindIn, isKindAsked, IsOwn, FoundKind, FitsTarget, IsNumber6to8}
 use Rattle.checks.proofs.TrialLaws.{number-first, number-next, number-none}
-use Rattle.checks.proofs.TargetLaws.{call-found}
+use Rattle.checks.proofs.TargetLaws.{targetIn, call-found}
 
 -- ---- 6: a field spells certain bytes
 
@@ -76,13 +83,15 @@ spelled-same field f bytes w g = let (b, e) = given-some (readHex f) g in rw (w,
 
 -- ---- 6: the response is that of the call
 
--- two kinds are the same where the test says so
-same-kinds : (k asked : Kind) → sameKind (kindIn k) (kindIn asked) ≡ true → k ≡ asked
-unfolding sameKind kindIn
-same-kinds Search Search e = refl
-same-kinds Search Monitor e = absurd (false≢true e)
-same-kinds Monitor Search e = absurd (false≢true e)
-same-kinds Monitor Monitor e = refl
+-- a kind is asked for where the test says so
+pub asked-kinds : (k : Kind) (asked : AskedKind) → Option·elim (askedKind asked) false (sameKind (kindIn k)) ≡ isKindAsked k asked
+unfolding askedKind isKindAsked sameKind kindIn Option·elim
+asked-kinds Search AskedSearch = refl
+asked-kinds Search AskedMonitor = refl
+asked-kinds Search Nothing = refl
+asked-kinds Monitor AskedSearch = refl
+asked-kinds Monitor AskedMonitor = refl
+asked-kinds Monitor Nothing = refl
 
 -- what was found is of the kind of the response
 found-kind : (text : Bytes) (k : Kind) (t : Target) → kindOf (findingIn text k t) ≡ kindIn k
@@ -90,45 +99,45 @@ unfolding kindOf kindIn findingIn
 found-kind text Search t = refl
 found-kind text Monitor t = refl
 
-module _ (text : Bytes) (r : Response) (asked : Kind) (c : Call) (p : c .parts ≡ partsIn text r) (q : c .inputs .kind ≡ some (kindIn asked)) where
-  -- it is the kind asked for where the two are the same
-  kind-test : kindAsked c ≡ sameKind (kindIn (r .kind)) (kindIn asked)
-  unfolding kindAsked partsIn Option·elim
-  kind-test = rw (q, p, found-kind text (r .kind) (r .target)) refl
+-- a response is of the kind asked for
+kind-test : (text : Bytes) (r : Response) (asked : AskedKind) (c : Call) → c .parts ≡ partsIn text r
+    → c .inputs .kind ≡ askedKind asked → kindAsked c ≡ isKindAsked (r .kind) asked
+unfolding kindAsked partsIn
+kind-test text r asked c p q = rw (q, p, found-kind text (r .kind) (r .target)) (asked-kinds (r .kind) asked)
 
-  -- a response that is that of the call is of the kind asked for
-  pub own-kind : foreign c ≡ false → r .kind ≡ asked
-  own-kind e = same-kinds (r .kind) asked (sym kind-test ∙ own-was c e .0)
-
-module _ (text : Bytes) (r : Response) (asked : Kind) (identifier label : Bytes) where
-  -- one of another kind is not
-  pub kind-foreign : sameKind (kindIn (r .kind)) (kindIn asked) ≡ false → IsOwn text r asked identifier label false
+module _ (text : Bytes) (r : Response) (asked : AskedKind) (identifier label : Bytes) where
+  -- one of another kind is not that of the call
+  pub kind-foreign : isKindAsked (r .kind) asked ≡ false → IsOwn asked text r identifier label false
   unfolding foreign
   kind-foreign e c p q i l = rw (kind-test text r asked c p q ∙ e) refl
 
-  module _ (f : Fields text r) (k : sameKind (kindIn (r .kind)) (kindIn asked) ≡ true) (field : Bytes) (w : field ≡ partOf text (r .identifier)) where
+  module _ (f : Fields text r) (k : isKindAsked (r .kind) asked ≡ true) (field : Bytes) (w : field ≡ partOf text (r .identifier)) where
     -- nor is one with another identifier
-    pub identifier-foreign : Option·elim (readHex field) false (λ (b : Bytes). same b identifier) ≡ false → IsOwn text r asked identifier label false
+    pub identifier-foreign : Option·elim (readHex field) false (λ (b : Bytes). same b identifier) ≡ false
+        → IsOwn asked text r identifier label false
     unfolding foreign partsIn
     identifier-foreign e c p q i l =
-        let z : same (spelled (partOf text (r .identifier))) identifier ≡ false = sym (spelled-same field _ identifier w (f .identifier)) ∙ e in
+        let z : same (spelled (partOf text (r .identifier))) identifier ≡ false =
+        sym (spelled-same field _ identifier w (f .identifier)) ∙ e in
         rw (kind-test text r asked c p q ∙ k, p, i, z) refl
 
     -- with the same identifier, the label decides
     pub label-decides : Option·elim (readHex field) false (λ (b : Bytes). same b identifier) ≡ true
-        → (t : Bool) (g : Bytes) → g ≡ partOf text (r .label) → t ≡ Option·elim (readHex g) false (λ (b : Bytes). same b label)
-        → IsOwn text r asked identifier label t
+        → (t : Bool) (g : Bytes) → g ≡ partOf text (r .label)
+        → t ≡ Option·elim (readHex g) false (λ (b : Bytes). same b label)
+        → IsOwn asked text r identifier label t
     unfolding foreign partsIn
     label-decides e t g v d c p q i l =
-        let z : same (spelled (partOf text (r .identifier))) identifier ≡ true = sym (spelled-same field _ identifier w (f .identifier)) ∙ e in
+        let z : same (spelled (partOf text (r .identifier))) identifier ≡ true =
+        sym (spelled-same field _ identifier w (f .identifier)) ∙ e in
         let y : same (spelled (partOf text (r .label))) label ≡ t = sym (spelled-same g _ label v (f .label)) ∙ sym d in
         rw (kind-test text r asked c p q ∙ k, p, i, l, z, y) (sym (Bool·not-not t))
 
 -- ---- 7: the size
 
 -- the size of a response decides, and the kept one
-size-test : (text : Bytes) (r : Response) (size : ℕ) (c : Call) → c .parts ≡ partsIn text r → c .state .size ≡ size
-    → sizeWrong c ≡ (eqb (r .size) 0 || ltb treeSizeLimit (r .size) || ltb (r .size) size)
+size-test : (text : Bytes) (r : Response) (size : ℕ) (c : Call) → c .parts ≡ partsIn text r → c .state .log .size ≡ size
+    → sizeWrong c ≡ (eqb (r .«tree_size») 0 || ltb treeSizeLimit (r .«tree_size») || ltb (r .«tree_size») size)
 unfolding sizeWrong partsIn
 size-test text r size c p s = rw (p, s) refl
 
@@ -158,35 +167,43 @@ found-target text Search t = (_, refl, refl)
 found-target text Monitor t = refl
 
 -- so what fits it fits the call
-target-test : (text : Bytes) (r : Response) (map : List ℕ) (b : Bool) (c : Call) → FitsTarget (r .kind) (r .target .version) map b → c .parts ≡ partsIn text r
-    → versions (c .state .monitoringMap) ≡ map → b ≡ not (targetWrong c)
-unfolding targetWrong partsIn
+target-test : (text : Bytes) (r : Response) (map : List ℕ) (b : Bool) (c : Call) → FitsTarget (r .kind) (r .target .version) map b
+    → c .parts ≡ partsIn text r → versions (c .state .monitoringMap) ≡ map → b ≡ not (targetWrong c)
+unfolding partsIn
 target-test text r map b c h p m =
-    h (c .parts .finding) (c .state .monitoringMap)
-    (subst (λ (x : Parts). FoundKind (r .kind) (r .target .version) (x .finding)) (sym p) (found-target text (r .kind) (r .target))) m
+    h c (subst (λ (x : Parts). FoundKind (r .kind) (r .target .version) (x .finding)) (sym p) (found-target text (r .kind) (r .target))) m
+
+-- in a search the version decides, and those of the map
+search-wrong : (c : Call) (t : TargetRead) → c .parts .finding ≡ searched t
+    → targetWrong c ≡ (ltb greatestVersion (t .version) || any (λ (v : ℕ). ltb (t .version) v) (versions (c .state .monitoringMap)))
+unfolding targetWrong searchRules searchTargetWrong
+search-wrong c t f = ap (λ (k : KindRules). k .targetWrong) (search-rules c t f)
+
+-- monitoring has none
+monitoring-right : (c : Call) → c .parts .finding ≡ monitored → targetWrong c ≡ false
+unfolding targetWrong monitoringRules
+monitoring-right c f = ap (λ (k : KindRules). k .targetWrong) (monitoring-rules c f)
 
 module _ (kind : Kind) (version : ℕ) (map : List ℕ) where
-  -- in a search the version decides, and those of the map
-  pub search-fits : kind ≡ Search → (b : Bool) → b ≡ not (ltb greatestVersion version || any (λ (v : ℕ). ltb version v) map) → FitsTarget kind version map b
-  unfolding targetWrongIn
-  search-fits k b e f entries g m =
-      let (t, q, v) : FoundKind Search version f = subst (λ (x : Kind). FoundKind x version f) k g in
-      e ∙ rw (q, v, m) refl
+  pub search-fits : kind ≡ Search → (b : Bool) → b ≡ not (ltb greatestVersion version || any (λ (v : ℕ). ltb version v) map)
+      → FitsTarget kind version map b
+  search-fits k b e c g m =
+      let (t, q, v) : FoundKind Search version (c .parts .finding) = subst (λ (x : Kind). FoundKind x version (c .parts .finding)) k g in
+      let w : targetWrong c ≡ (ltb greatestVersion version || any (λ (v : ℕ). ltb version v) map) =
+      rw (← v, ← m) (search-wrong c t q) in
+      e ∙ ap not (sym w)
 
-  -- monitoring has none
   pub monitor-fits : kind ≡ Monitor → FitsTarget kind version map true
-  unfolding targetWrongIn
-  monitor-fits k f entries g m =
-      let q : FoundKind Monitor version f = subst (λ (x : Kind). FoundKind x version f) k g in
-      rw q refl
+  monitor-fits k c g m =
+      let q : FoundKind Monitor version (c .parts .finding) = subst (λ (x : Kind). FoundKind x version (c .parts .finding)) k g in
+      ap not (sym (monitoring-right c q))
 
 -- the version of a search to which 8 does not apply is one that can be searched for
 pub version-possible : (text : Bytes) (r : Response) (c : Call) → c .parts ≡ partsIn text r → targetWrong c ≡ false → r .kind ≡ Search
     → r .target .version ≤ greatestVersion
-unfolding targetWrong targetWrongIn
 version-possible text r c p e k =
-    let (t, _) = or-fails _ _ (sym (ap (targetWrongIn (c .state .monitoringMap)) (call-found text r k c p)) ∙ e) in
-    ltb-false greatestVersion (r .target .version) t
+    let w = search-wrong c (targetIn text r) (call-found text r k c p) in
+    ltb-false greatestVersion (r .target .version) (or-fails _ _ (sym w ∙ e) .0)
 
 module _ (f : ℕ → Bool) (xs : List ℕ) (i : ℕ) where
   -- an element of which a test does not hold is passed over
@@ -216,35 +233,46 @@ module _ (version : ℕ) (vs : List ℕ) where
 
 -- ---- the first number
 
-module _ (text : Bytes) (r : Response) (asked : Kind) (identifier label : Bytes) (size : ℕ) (map : List ℕ) where
+module _ (asked : AskedKind) (text : Bytes) (k : CallBlock) (identifier label : Bytes) (map : List ℕ) where
+  -- the response
+  abbrev r : Response
+  r = k .response
+
   -- a number is that of the call
   abbrev First : ℕ → Type 0
-  First n = IsFirstNumber text r asked identifier label size map n
+  First n = IsNumber6to8 asked text k identifier label map n
+
+  -- the test of the size
+  abbrev sizeFits : Bool
+  sizeFits = not (eqb (r .«tree_size») 0 || ltb treeSizeLimit (r .«tree_size») || ltb (r .«tree_size») (k .«kept_size»))
 
   -- a response that is not that of the call
-  pub first-foreign : IsOwn text r asked identifier label false → First 6
-  first-foreign o c p q i l s m = number-first 6 foreign _ c (not-false _ (sym (o c p q i l)))
+  pub first-foreign : IsOwn asked text r identifier label false → First 6
+  first-foreign o c p s q i l m = number-first 6 foreign _ c (not-false _ (sym (o c p q i l)))
 
-  module _ (o : IsOwn text r asked identifier label true) where
+  module _ (o : IsOwn asked text r identifier label true) where
     -- one with a wrong size
-    pub first-size : false ≡ not (eqb (r .size) 0 || ltb treeSizeLimit (r .size) || ltb (r .size) size) → First 7
-    first-size w c p q i l s m =
-        number-first 7 sizeWrong _ c (size-test text r size c p s ∙ not-false _ (sym w)) ∙ number-next 6 foreign _ c (not-true _ (sym (o c p q i l)))
+    pub first-size : false ≡ sizeFits → First 7
+    first-size w c p s q i l m =
+        number-first 7 sizeWrong _ c (size-test text r (k .«kept_size») c p s ∙ not-false _ (sym w))
+        ∙ number-next 6 foreign _ c (not-true _ (sym (o c p q i l)))
 
-    module _ (w : true ≡ not (eqb (r .size) 0 || ltb treeSizeLimit (r .size) || ltb (r .size) size)) where
+    module _ (w : true ≡ sizeFits) where
       -- of others the target decides
-      target-first : (c : Call) → c .parts ≡ partsIn text r
-          → c .inputs .kind ≡ some (kindIn asked) → c .inputs .identifier ≡ identifier → c .state .label ≡ label → c .state .size ≡ size
-          → numberTried (rule 8 targetWrong ∷ []) c ≡ numberTried rules6 c
-      target-first c p q i l s =
-          number-next 7 sizeWrong _ c (size-test text r size c p s ∙ not-true _ (sym w)) ∙ number-next 6 foreign _ c (not-true _ (sym (o c p q i l)))
+      target-first : (c : Call) → c .parts ≡ partsIn text r → c .state .log .size ≡ k .«kept_size»
+          → c .inputs .kind ≡ askedKind asked → c .inputs .identifier ≡ identifier → c .state .label ≡ label
+          → numberTried (rule 8 targetWrong ∷ []) c ≡ numberTried rules6to8 c
+      target-first c p s q i l =
+          number-next 7 sizeWrong _ c (size-test text r (k .«kept_size») c p s ∙ not-true _ (sym w))
+          ∙ number-next 6 foreign _ c (not-true _ (sym (o c p q i l)))
 
       -- one with a wrong version
       pub first-version : FitsTarget (r .kind) (r .target .version) map false → First 8
-      first-version v c p q i l s m =
-          number-first 8 targetWrong _ c (not-false _ (sym (target-test text r map false c v p m))) ∙ target-first c p q i l s
+      first-version v c p s q i l m =
+          number-first 8 targetWrong _ c (not-false _ (sym (target-test text r map false c v p m))) ∙ target-first c p s q i l
 
       -- one to which none of the three applies
       pub first-none : FitsTarget (r .kind) (r .target .version) map true → First 0
-      first-none v c p q i l s m =
-          number-none c ∙ number-next 8 targetWrong _ c (not-true _ (sym (target-test text r map true c v p m))) ∙ target-first c p q i l s
+      first-none v c p s q i l m =
+          number-none c ∙ number-next 8 targetWrong _ c (not-true _ (sym (target-test text r map true c v p m)))
+          ∙ target-first c p s q i l

@@ -13,8 +13,7 @@ use Rattle.lists.proofs.ChoiceLaws.{choose-true, choose-false}
 use Rattle.lists.proofs.ListLaws.{set-only, repeated-only}
 use Rattle.lists.proofs.RisingLaws.{insertAll-has, insertAll-keeps, insertAll-only, insertAll-rising}
 use Rattle.rules.specs.Limits.{greatestVersion, versionBound}
-use Rattle.checks.specs.MonitoredVersions.{notAbove, countedOf, counted}
-use Rattle.checks.specs.Monitoring.{AreMarks}
+use Rattle.checks.specs.MonitoredVersions.{notAbove, countedOf, counted, AreMarks}
 
 -- ---- the versions of one pair
 

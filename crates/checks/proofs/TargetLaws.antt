@@ -9,12 +9,12 @@ use Rattle.lists.proofs.ChoiceLaws.{given-some}
 use Rattle.lines.specs.Hex.{readHex}
 use Rattle.lines.specs.Readings.{partOf}
 use Rattle.rules.specs.Limits.{openingLength, valueLimit}
-use Rattle.rules.specs.Response.{Target, searched, Parts}
+use Rattle.rules.specs.Response.{Target, searched, monitored, Parts}
 use Rattle.rules.specs.ResponseText.{readResponse}
 use Rattle.rules.specs.Refusals.{Call}
 use Rattle.rules.proofs.PartsLaws.{TargetFits, FindingFits, response-fits}
 use Rattle.inputs.specs.declared.response_lines.Kind.{Kind}
-use Rattle.inputs.specs.declared.response_lines.Kind.the-variants.{Search}
+use Rattle.inputs.specs.declared.response_lines.Kind.the-variants.{Search, Monitor}
 use Rattle.inputs.specs.declared.response.Response.{Response}
 use Rattle.inputs.specs.ResponseLines.{spelled, Spells}
 use Rattle.inputs.specs.Response.{findingIn, partsIn, TargetSpells, Fields}
@@ -48,3 +48,9 @@ module _ (text : Bytes) (r : Response) (kind : r .kind ≡ Search) where
   target-lengths e =
       let h : TargetFits (targetIn text r) = subst FindingFits search-found (response-fits text (partsIn text r) e .finding) in
       (h .opening, h .value)
+
+module _ (text : Bytes) (r : Response) (kind : r .kind ≡ Monitor) where
+  -- in monitoring nothing is found
+  pub nothing-found : (c : Call) → c .parts ≡ partsIn text r → c .parts .finding ≡ monitored
+  unfolding partsIn findingIn
+  nothing-found c e = ap (λ (p : Parts). p .finding) e ∙ rw kind refl

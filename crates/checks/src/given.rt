@@ -1,4 +1,5 @@
-// What is tried before the sections of a response are looked at (paper 01, Sixteen numbers): lengths, kind, identifier and label, size, version.
+// What is tried before the sections of a response are looked at (paper 01, Sixteen numbers): lengths, kind, identifier and label,
+// size, version.
 ghost use mathlib.Core.Path.{_≡_};
 ghost use mathlib.Core.Bool.{false, not, _||_};
 ghost use mathlib.Core.Option.{Option·elim};
@@ -9,9 +10,11 @@ ghost use Rattle.lists.specs.Lists.{Bytes, any, same};
 ghost use Rattle.lines.specs.Hex.{readHex};
 ghost use Rattle.rules.specs.Limits.{labelLimit, treeSizeLimit, greatestVersion};
 ghost use Rattle.inputs.specs.Response.{Fields};
-ghost use Rattle.rules.specs.Refusals.{sameKind};
-ghost use Rattle.checks.specs.Calls.{areLengthsFit, kindIn, IsOwn, FitsTarget, IsFirstNumber};
+ghost use Rattle.checks.specs.Calls.{areLengthsFit, isKindAsked, IsOwn, FitsTarget, IsNumber6to8};
+use crate::call::AskedKind;
 use crate::limits::InputLimit;
+use crate::readings::Call;
+use inputs::refusal::Refusal;
 use inputs::response::Response;
 use inputs::response_lines::Kind;
 use inputs::response_lines::KtLine;
@@ -21,17 +24,19 @@ use lines::writing::Put;
 use lines::writing::put_spelled;
 use tree::log_head::LogHead;
 
-// Whether no input is too long, and the identifier has its length.
+// Whether no input is too long, a response being limited to so many bytes, and the identifier has its length.
 pub(crate) fn lengths_fit(
+    limit: usize,
     response: &[u8],
     configuration: &[u8],
     signed: &[u8],
     outputs: &[u8],
     identifier: &[u8],
 ) -> bool
-    ensures { λ r. ⌜ r ≡ areLengthsFit (now (response .entry)) (now (configuration .entry)) (now (signed .entry)) (now (outputs .entry)) (now (identifier .entry)) ⌝ }
+    ensures { λ r. ⌜ r ≡ areLengthsFit limit (now (response .entry)) (now (configuration .entry)) (now (signed .entry))
+        (now (outputs .entry)) (now (identifier .entry)) ⌝ }
 {
-    if InputLimit::RESPONSE < response.len() {
+    if limit < response.len() {
         return false;
     }
     if InputLimit::CONFIGURATION < configuration.len() {
@@ -46,44 +51,44 @@ pub(crate) fn lengths_fit(
     identifier.len() == KtLine::IDENTIFIER
 }
 
-// The number of the first refusal from 6 to 8 that applies, or 0: given the kind asked for, the identifier sent, the label, the size and the versions of the
-// state.
-pub(crate) fn first_number(
+// The number of the first refusal from 6 to 8 that applies, or 0: given the kind asked for, the identifier sent, and the label and the
+// versions of the state.
+pub(crate) fn try_6_to_8(
+    asked: AskedKind,
     text: &[u8],
-    r: Response,
-    asked: Kind,
+    call: Call,
     identifier: &[u8],
     label: &[u8],
-    size: u64,
     versions: &[u32],
 ) -> u64
-    requires fields { ⌜ Fields (now text) r ⌝ }
+    requires fields { ⌜ Fields (now text) (call .response) ⌝ }
     requires identifier { ⌜ length (now identifier) ≤ labelLimit ⌝ }
     requires label { ⌜ length (now label) ≤ labelLimit ⌝ }
-    ensures { λ n. ⌜ IsFirstNumber (now (text .entry)) r asked (now (identifier .entry)) (now (label .entry)) size (now (versions .entry)) n ⌝ }
+    ensures { λ n. ⌜ IsNumber6to8 asked (now (text .entry)) call (now (identifier .entry)) (now (label .entry)) (now (versions .entry)) n ⌝ }
 {
-    if !is_own(text, r, asked, identifier, label) {
-        return 6;
+    let r = call.response;
+    if !is_own(asked, text, r, identifier, label) {
+        return Refusal::REQUEST;
     }
-    if !size_fits(r.size, size) {
-        return 7;
+    if !size_fits(r.tree_size, call.kept_size) {
+        return Refusal::TREE_SIZE;
     }
     let kind = r.kind;
     if !target_fits(kind, r.target.version, versions) {
-        return 8;
+        return Refusal::TARGET;
     }
     0
 }
 
 // Whether a response is of the kind asked for, with the identifier sent and the label.
-fn is_own(text: &[u8], r: Response, asked: Kind, identifier: &[u8], label: &[u8]) -> bool
+fn is_own(asked: AskedKind, text: &[u8], r: Response, identifier: &[u8], label: &[u8]) -> bool
     requires fields { ⌜ Fields (now text) r ⌝ }
     requires identifier { ⌜ length (now identifier) ≤ labelLimit ⌝ }
     requires label { ⌜ length (now label) ≤ labelLimit ⌝ }
-    ensures { λ b. ⌜ IsOwn (now (text .entry)) r asked (now (identifier .entry)) (now (label .entry)) b ⌝ }
+    ensures { λ b. ⌜ IsOwn asked (now (text .entry)) r (now (identifier .entry)) (now (label .entry)) b ⌝ }
 {
     let kind = r.kind;
-    if !same_kind(kind, asked) {
+    if !is_kind_asked(kind, asked) {
         return false;
     }
     if !spells(r.identifier.of(text), identifier) {
@@ -92,33 +97,35 @@ fn is_own(text: &[u8], r: Response, asked: Kind, identifier: &[u8], label: &[u8]
     spells(r.label.of(text), label)
 }
 
-// Whether two kinds are the same.
-fn same_kind(kind: Kind, asked: Kind) -> bool
-    ensures { λ r. ⌜ r ≡ sameKind (kindIn kind) (kindIn asked) ⌝ }
+// Whether a kind is the one asked for.
+fn is_kind_asked(kind: Kind, asked: AskedKind) -> bool
+    ensures { λ r. ⌜ r ≡ isKindAsked kind asked ⌝ }
 {
     match kind {
         Kind::Search => match asked {
-            Kind::Search => true,
-            Kind::Monitor => false,
+            AskedKind::Search => true,
+            AskedKind::Monitor => false,
+            AskedKind::Nothing => false,
         },
         Kind::Monitor => match asked {
-            Kind::Search => false,
-            Kind::Monitor => true,
+            AskedKind::Search => false,
+            AskedKind::Monitor => true,
+            AskedKind::Nothing => false,
         },
     }
 }
 
 // Whether the size of the log is neither 0 nor too large, nor below the kept one.
-pub(crate) fn size_fits(size: u64, kept_size: u64) -> bool
-    ensures { λ r. ⌜ r ≡ not (eqb size 0 || ltb treeSizeLimit size || ltb size «kept_size») ⌝ }
+fn size_fits(tree_size: u64, kept_size: u64) -> bool
+    ensures { λ r. ⌜ r ≡ not (eqb «tree_size» 0 || ltb treeSizeLimit «tree_size» || ltb «tree_size» «kept_size») ⌝ }
 {
-    if size == 0 {
+    if tree_size == 0 {
         return false;
     }
-    if LogHead::LARGEST_SIZE < size {
+    if LogHead::LARGEST_SIZE < tree_size {
         return false;
     }
-    kept_size <= size
+    kept_size <= tree_size
 }
 
 // Whether a search's version is one that can be searched for, and not below one in the map.
@@ -149,7 +156,7 @@ fn version_fits(version: u32, versions: &[u32]) -> bool
 }
 
 // Whether a field spells certain bytes.
-pub(crate) fn spells(field: &[u8], bytes: &[u8]) -> bool
+fn spells(field: &[u8], bytes: &[u8]) -> bool
     requires { ⌜ length (now bytes) ≤ labelLimit ⌝ }
     ensures { λ r. ⌜ r ≡ Option·elim (readHex (now (field .entry))) false (λ (b : Bytes). same b (now (bytes .entry))) ⌝ }
 {

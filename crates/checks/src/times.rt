@@ -1,50 +1,46 @@
 // The times of the entries of a response (paper 01, Sixteen numbers: 11).
 ghost use mathlib.Core.Path.{_≡_};
-ghost use Rattle.checks.specs.Entries.{AreTimesFit, IsLastTime, nearClock, fitsKept};
-use tree::log_text::position_at;
-use tree::log_text::time_at;
+ghost use Rattle.checks.specs.Entries.{noTimes, timesAfter, nearClock, fitsKept};
 
-// Whether the times of the entries at some places do not fall, and, of positions below the kept size, are not later than the kept time, of all others not
-// earlier.
-pub(crate) fn times_fit(entries: &[u8], places: &[u32], size: u64, time: u64) -> bool
-    ensures { λ r. ⌜ AreTimesFit (now (entries .entry)) (now (places .entry)) size time r ⌝ }
-{
-    let mut latest: u64 = 0;
-    let mut i: usize = 0;
-    while i < places.len() {
-        let place = places[i];
-        let there = time_at(entries, place);
-        if there < latest {
-            return false;
+// The time of the latest entry, 0 where there is none, and whether all times fit so far.
+pub(crate) struct Times {
+    pub latest: u64,
+    pub fit: bool,
+}
+
+impl Times {
+    // No entry so far.
+    pub(crate) fn start() -> Times
+        ensures { λ r. ⌜ r ≡ noTimes ⌝ }
+    {
+        Times {
+            latest: 0,
+            fit: true,
         }
-        if !time_fits(position_at(entries, place), there, size, time) {
-            return false;
-        }
-        latest = there;
-        i += 1;
     }
-    true
+
+    // An entry more, by its position and time: the time must not be earlier than the latest, and,
+    // of a position below the kept size, not later than the kept time, of all others not earlier.
+    pub(crate) fn next(self, position: u64, time: u64, kept_size: u64, kept_time: u64) -> Times
+        ensures { λ r. ⌜ r ≡ timesAfter «kept_size» «kept_time» self position time ⌝ }
+    {
+        let fits = time_fits(position, time, kept_size, kept_time);
+        Times {
+            latest: time,
+            fit: self.fit & (self.latest <= time) & fits,
+        }
+    }
 }
 
 // Whether the time of an entry, by its position, fits the kept size and time.
-fn time_fits(position: u64, there: u64, size: u64, time: u64) -> bool
-    ensures { λ r. ⌜ r ≡ fitsKept position there size time ⌝ }
+fn time_fits(position: u64, time: u64, kept_size: u64, kept_time: u64) -> bool
+    ensures { λ r. ⌜ r ≡ fitsKept position time «kept_size» «kept_time» ⌝ }
 {
-    if position < size {
-        there <= time
+    if position < kept_size {
+        time <= kept_time
     } else {
-        time <= there
+        kept_time <= time
     }
-}
-
-// The time of the last entry, 0 where there is none.
-pub(crate) fn last_time(entries: &[u8], places: &[u32]) -> u64
-    ensures { λ r. ⌜ IsLastTime (now (entries .entry)) (now (places .entry)) r ⌝ }
-{
-    if places.len() == 0 {
-        return 0;
-    }
-    time_at(entries, places[places.len() - 1])
 }
 
 // Whether a time is not too far ahead of the clock, nor too far behind it.

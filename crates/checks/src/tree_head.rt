@@ -6,11 +6,12 @@ ghost use Rattle.lists.specs.Lists.{same, written};
 ghost use Rattle.rules.specs.Configuration.{treeHead};
 ghost use Rattle.rules.specs.Calls.{placed};
 use hash::bytes::bytes8;
+use inputs::refusal::Refusal;
 use lines::part::equal;
 use lines::writing::put_bytes;
 
 // The refusal of too little room.
-const NO_ROOM: u64 = 16;
+const NO_ROOM: u64 = Refusal::ROOM;
 
 // The bytes of a size, and those of a size and a root, which stand behind the configuration.
 const SIZE: usize = 8;
@@ -38,7 +39,8 @@ pub(crate) fn is_tree_head(signed: &[u8], configuration: &[u8], size: u64, root:
     equal(&rest[SIZE..], &root)
 }
 
-// Writes the signed text of a log into bytes from an offset on and answers its length; with too little room there it answers 16 and writes nothing.
+// Writes the signed text of a log into bytes from an offset on and answers its length; with too
+// little room there it answers 16 and writes nothing.
 pub(crate) fn place_tree_head(
     buffer: &mut [u8],
     offset: u64,
@@ -46,8 +48,10 @@ pub(crate) fn place_tree_head(
     size: u64,
     root: [u8; 32],
 ) -> u64
-    ensures answer { λ r. ⌜ r ≡ placed (now (buffer .entry)) offset (treeHead (now (configuration .entry)) size root) .0 ⌝ }
-    ensures bytes { λ r. ⌜ now (buffer .exit) ≡ placed (now (buffer .entry)) offset (treeHead (now (configuration .entry)) size root) .1 ⌝ }
+    ensures answer { λ r. ⌜ r
+        ≡ placed (now (buffer .entry)) offset (treeHead (now (configuration .entry)) size root) .0 ⌝ }
+    ensures bytes { λ r. ⌜ now (buffer .exit)
+        ≡ placed (now (buffer .entry)) offset (treeHead (now (configuration .entry)) size root) .1 ⌝ }
 {
     if (buffer.len() as u64) < offset {
         return NO_ROOM;
@@ -67,7 +71,8 @@ pub(crate) fn place_tree_head(
 // Writes it to the first bytes of those lent, in which there is room for it.
 fn put_tree_head(bytes: &mut [u8], configuration: &[u8], size: u64, root: [u8; 32])
     requires { ⌜ length (treeHead (now configuration) size root) ≤ length (now bytes) ⌝ }
-    ensures { λ _. ⌜ now (bytes .exit) ≡ written (now (bytes .entry)) 0 (treeHead (now (configuration .entry)) size root) ⌝ }
+    ensures { λ _. ⌜ now (bytes .exit)
+        ≡ written (now (bytes .entry)) 0 (treeHead (now (configuration .entry)) size root) ⌝ }
 {
     let number = bytes8(size);
     put_bytes(bytes, 0, configuration);

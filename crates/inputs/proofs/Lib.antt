@@ -10,6 +10,7 @@ pub mod FrontLaws
 pub mod StateLineLaws
 pub mod StateRunLaws
 pub mod StateReaderLaws
+pub mod StateInLaws
 pub mod ResponseLaws
 pub mod ResponseFieldLaws
 pub mod ResponseSectionLaws

@@ -3,20 +3,43 @@ use mathlib.Core.Path.{_≡_, refl, sym, _∙_, ap, ap₂}
 use mathlib.Core.Bool.{Bool, true, false, and-false}
 use mathlib.Core.List.{List, [], _∷_}
 use Prim.Native.Nat.{ℕ, zero, suc, _+_, _≤_, _<_}
+use native.Mathlib.Numerals.{add-one}
 use native.Mathlib.Omega.{arith}
-use lib.Dec.{leb}
-use lib.ListN.{length, getD, take, drop, length-take, length-map}
-use lib.Seq.{getD-take}
-use borrow.Author.Tests.{le-leb, lt-leb, leb-true}
+use lib.Dec.{leb, ltb}
+use lib.ListN.{length, getD, take, drop, length-take, length-map, drop-of-length-le}
+use lib.Seq.{getD-take, drop-cons}
+use borrow.Author.Tests.{le-leb, lt-leb, lt-ltb, le-ltb, leb-true}
 use Rattle.lists.specs.Lists.{all}
 use Rattle.lists.proofs.ListLaws.{all-at, at-member}
 use Rattle.lines.proofs.PlaceLaws.{at-cons}
 use Rattle.tree.specs.LogWalk.{risingBelow}
-use Rattle.tree.proofs.RisingBelowLaws.{between, between-low, between-high, between-next, between-end}
+use Rattle.tree.proofs.RisingBelowLaws.{between, between-all}
 use Rattle.rules.specs.Limits.{greatestVersion}
 use Rattle.rules.specs.State.{MapEntry, positions, versions}
 use Rattle.inputs.specs.State.{mapOf, pairsFit}
 use Rattle.inputs.proofs.RoomLaws.{all-next, all-stops, all-ends}
+
+-- ---- positions, tested one after the other
+
+module _ (n : ℕ) (ps : List ℕ) (least i d : ℕ) (h : between least n (drop i ps) ≡ between 0 n ps) where
+  -- one that is below the bound decides
+  pub between-low : i < length ps → getD ps i d < least → false ≡ risingBelow n ps
+  between-low l u = sym (sym (between-all n ps) ∙ sym h ∙ ap (between least n) (drop-cons ps i d l) ∙ rw (lt-leb least (getD ps i d) u) refl)
+
+  -- so does one that is not below n
+  pub between-high : i < length ps → least ≤ getD ps i d → n ≤ getD ps i d → false ≡ risingBelow n ps
+  between-high l u v =
+      sym (sym (between-all n ps) ∙ sym h ∙ ap (between least n) (drop-cons ps i d l) ∙ rw (le-leb least (getD ps i d) u, le-ltb (getD ps i d) n v) refl)
+
+  -- past another what is left decides
+  pub between-next : i < length ps → least ≤ getD ps i d → getD ps i d < n → between (getD ps i d + 1) n (drop (i + 1) ps) ≡ between 0 n ps
+  between-next l u v =
+      rw (add-one i, add-one (getD ps i d))
+      (sym (ap (between least n) (drop-cons ps i d l) ∙ rw (le-leb least (getD ps i d) u, lt-ltb (getD ps i d) n v) refl) ∙ h)
+
+  -- at the end nothing is left
+  pub between-end : length ps ≤ i → true ≡ risingBelow n ps
+  between-end l = sym (sym (between-all n ps) ∙ sym h ∙ ap (between least n) (drop-of-length-le ps l))
 
 -- ---- pairs, tested one after the other
 

@@ -50,7 +50,7 @@ module _
           kind = h .kind;
           identifier = h .identifier;
           label = h .label;
-          size = h .size;
+          «tree_size» = h .«tree_size»;
           target = h .target;
           steps = steps;
           entries = entries;

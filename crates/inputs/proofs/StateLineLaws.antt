@@ -23,6 +23,7 @@ use Rattle.lines.proofs.CursorLaws.{read-beyond, read-some}
 use Rattle.lines.proofs.FormLaws.{withRest, here-read, read-not, read-ended, read-number-on, bytes-fit, bytes-unfit, bytes-none, line-on, line-off, field-on, field-off}
 use Rattle.rules.specs.Limits.{labelLimit, hashLength, numberBound, versionBound}
 use Rattle.rules.specs.StateText.{sizeForm, keepForm, pairForm, readKeep, readPair}
+use Rattle.inputs.specs.State.{labelBlock}
 use Rattle.inputs.specs.StateReader.{labelled, asSize}
 use Rattle.inputs.proofs.FrontLaws.{put-first}
 
@@ -127,8 +128,8 @@ module _ (l : Bytes) (at m t : ℕ) where
 
     -- else the label is what the field spells, with zeros after it
     pub label-read : (s d : Bytes) → n ≤ labelLimit → length l < next → s ≡ fieldAt l at → d ≡ putAny (replicate labelLimit 0) 0 (readHex s)
-        → record { found = true; size = m; time = t; label = d; length = n } ≡ labelled m t (readFields labelFields (fieldsFrom l at))
-    unfolding labelled
+        → record { found = true; size = m; time = t; label = record { bytes = d; length = n } } ≡ labelled m t (readFields labelFields (fieldsFrom l at))
+    unfolding labelled labelBlock
     label-read s d h w es ed =
         let (b, r, k, f) = bytes-fit l (λ (k : ℕ). leb k labelLimit) at n next e (le-leb n labelLimit h) in
         let p : d ≡ padded labelLimit b = ed ∙ put-first labelLimit (readHex s) b (ap readHex es ∙ r) (omega arith) in

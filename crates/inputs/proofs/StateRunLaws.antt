@@ -202,7 +202,8 @@ module _ (s : Bytes) (from : ℕ) where
         }
 
     -- where none leads, they are all
-    pub pairs-stop : at ≤ length s → NoneLeads readPair s at → PairsFrom s from (record { count = count; next = at; positions = ps; versions = vs })
+    pub pairs-stop : at ≤ length s → NoneLeads readPair s at
+        → PairsFrom s from (record { map = record { positions = ps; versions = vs; count = count }; next = at })
     pairs-stop w n =
         record {
           taken = k .taken;

@@ -32,7 +32,7 @@ use Rattle.rules.proofs.StateTextLaws.{state-short}
 use Rattle.rules.proofs.RefusalLaws.{valid-some}
 use Rattle.tree.proofs.RunLaws.{length-runs, runs-at}
 use Rattle.inputs.specs.declared.state.State.{State as StateBlock}
-use Rattle.inputs.specs.State.{mapOf, contents, roomIsZero, stateOf}
+use Rattle.inputs.specs.State.{mapOf, labelIn, logIn, mapIn, contents, roomIsZero, stateOf}
 use Rattle.inputs.specs.StateWriter.{textFor, Wrote}
 
 -- ---- one text after the other
@@ -154,21 +154,19 @@ value-at count block i h =
     let e : hashLength * i + hashLength - hashLength * i ≡ hashLength = omega arith in
     rw e (runs-at count hashLength block i [] h)
 
--- ---- pairs
-
 -- ---- a valid state
 
 -- what is known of the struct of a valid state
 pub record Fitting (b : StateBlock) : Type 0 where
   pub stands : validState (stateOf b) ≡ some (contents b)
-  pub label : b .length ≤ labelLimit
-  pub values : hashLength * ones (b .size) ≤ valuesBlockLength
-  pub pairs : b .pairs ≤ mapLimit
+  pub label : b .label .length ≤ labelLimit
+  pub values : hashLength * ones (b .log .size) ≤ valuesBlockLength
+  pub pairs : b .map .count ≤ mapLimit
   pub text : length (writeState (contents b)) ≤ stateTextLimit
 
 -- it stands for what fills it, and all of that has room
 pub valid-fits : (b : StateBlock) → given (validState (stateOf b)) ≡ true → Fitting b
-unfolding stateOf roomIsZero contents
+unfolding stateOf roomIsZero contents logIn
 valid-fits b e =
     let (s, q) = given-some (validState (stateOf b)) e in
     let (o, v) = valid-some (stateOf b) s q in
@@ -179,24 +177,24 @@ valid-fits b e =
     record {
       stands = q ∙ ap some (sym i);
       label = leb-true _ _ l;
-      values = rw (length-runs (ones (b .size)) hashLength (b .values)) at (values-fit (contents b) (valid-was (contents b) w));
+      values = rw (length-runs (ones (b .log .size)) hashLength (b .log .values)) at (values-fit (contents b) (valid-was (contents b) w));
       pairs = leb-true _ _ p;
       text = state-short (contents b) w;
     }
 
 -- the parts of its text: the `size` line, the `keep` lines, the `pair` lines
 abbrev pub sizePart : StateBlock → Bytes
-sizePart b = writeLine sizeForm (b .size, (b .time, (take (b .length) (b .label), tt)))
+sizePart b = writeLine sizeForm (b .log .size, (b .log .time, (take (b .label .length) (b .label .bytes), tt)))
 
 abbrev pub keepPart : StateBlock → Bytes
-keepPart b = flatMap writeKeep (runs (ones (b .size)) hashLength (b .values))
+keepPart b = flatMap writeKeep (runs (ones (b .log .size)) hashLength (b .log .values))
 
 abbrev pub pairPart : StateBlock → Bytes
-pairPart b = flatMap writePair (mapOf (take (b .pairs) (b .positions)) (take (b .pairs) (b .versions)))
+pairPart b = flatMap writePair (mapOf (take (b .map .count) (b .map .positions)) (take (b .map .count) (b .map .versions)))
 
 -- its text is these parts
 pub state-parts : (b : StateBlock) → writeState (contents b) ≡ sizePart b ++ keepPart b ++ pairPart b
-unfolding writeState contents
+unfolding writeState contents labelIn logIn mapIn
 state-parts b = refl
 
 -- ---- the text to write

@@ -46,7 +46,7 @@ partsIn s r =
     record {
       identifier = spelled (partOf s (r .identifier));
       label = spelled (partOf s (r .label));
-      size = r .size;
+      treeSize = r .«tree_size»;
       finding = findingIn s (r .kind) (r .target);
       steps = stepsIn (partOf s (r .steps .part));
       entries = entriesIn (partOf s (r .entries .part));

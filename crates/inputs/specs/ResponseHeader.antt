@@ -60,7 +60,7 @@ findingOf s kind Unfound = none
 unfoldable pub partsAfter : Bytes → Header → Option Parts
 partsAfter s h = do
   same (openRest (drop (h .next) s)) []
-  readBody (spelled (partOf s (h .identifier))) (spelled (partOf s (h .label))) (h .size) (findingIn s (h .kind) (h .target)) (endedLines (drop (h .next) s))
+  readBody (spelled (partOf s (h .identifier))) (spelled (partOf s (h .label))) (h .«tree_size») (findingIn s (h .kind) (h .target)) (endedLines (drop (h .next) s))
 
 -- the response that begins with what was read, if it could be
 abbrev pub headedOf : Bytes → ReadHeader → Option Parts

@@ -5,7 +5,7 @@ use mathlib.Core.List.{List, [], _∷_, flatten, List·Memᴰ}
 use mathlib.Core.Option.{Option, none, some, Option·elim, bind as _>>=_}
 use Prim.Native.Nat.{ℕ, _≤_}
 use lib.Dec.{eqb}
-use lib.ListN.{length, take, drop, replicate}
+use lib.ListN.{length, take, drop}
 use Rattle.lists.specs.Choice.{_>>_}
 use Rattle.lists.specs.Lists.{Bytes}
 use Rattle.hash.specs.Bytes.{padded}
@@ -19,13 +19,14 @@ use Rattle.inputs.specs.declared.state_reader.PairLine.{PairLine}
 use Rattle.inputs.specs.declared.state_reader.PairLine.the-variants.{Pair, NoPair}
 use Rattle.inputs.specs.declared.state_reader.Keeps.{Keeps}
 use Rattle.inputs.specs.declared.state_reader.Pairs.{Pairs}
+use Rattle.inputs.specs.State.{labelBlock}
 
 -- ---- single lines
 
 -- what a `size` line says, from its size, its time and what is read of its label
 unfoldable pub labelled : ℕ → ℕ → Option (Values (upTo labelLimit ∷ [])) → SizeLine
-labelled m t none = record { found = false; size = 0; time = 0; label = replicate labelLimit 0; length = 0 }
-labelled m t (some (b, _)) = record { found = true; size = m; time = t; label = padded labelLimit b; length = length b }
+labelled m t none = record { found = false; size = 0; time = 0; label = labelBlock [] }
+labelled m t (some (b, _)) = record { found = true; size = m; time = t; label = labelBlock b }
 
 -- what it says, or zeros where there is no such line
 unfoldable pub asSize : Option (Read sizeForm) → SizeLine
@@ -58,28 +59,28 @@ pub record PairsFrom (s : Bytes) (from : ℕ) (r : Pairs) : Type 0 where
   pub lines : leading readPair (endedLines (drop from s)) ≡ (taken, endedLines (drop (r .next) s))
   pub rest : openRest (drop from s) ≡ openRest (drop (r .next) s)
   pub within : r .next ≤ length s
-  pub counted : r .count ≡ length taken
-  pub firsts : r .positions ≡ front mapLimit (positions taken)
-  pub seconds : r .versions ≡ front mapLimit (versions taken)
+  pub counted : r .map .count ≡ length taken
+  pub firsts : r .map .positions ≡ front mapLimit (positions taken)
+  pub seconds : r .map .versions ≡ front mapLimit (versions taken)
 
 -- ---- the state
 
 -- what was read stands for a state, the values and pairs for which there is no room apart
 pub record ReadAs (first : SizeLine) (keeps : Keeps) (pairs : Pairs) (st : State) : Type 0 where
-  pub label : first .label ≡ padded labelLimit (st .label)
-  pub labelLength : first .length ≡ length (st .label)
-  pub size : first .size ≡ st .size
-  pub time : first .time ≡ st .time
-  pub valueCount : keeps .count ≡ length (st .values)
-  pub values : keeps .values ≡ front valuesBlockLength (flatten (st .values))
-  pub valueLength : (v : Bytes) → List·Memᴰ v (st .values) → length v ≡ hashLength
-  pub pairCount : pairs .count ≡ length (st .monitoringMap)
-  pub firsts : pairs .positions ≡ front mapLimit (positions (st .monitoringMap))
-  pub seconds : pairs .versions ≡ front mapLimit (versions (st .monitoringMap))
+  pub label : first .label ≡ labelBlock (st .label)
+  pub size : first .size ≡ st .log .size
+  pub time : first .time ≡ st .log .time
+  pub valueCount : keeps .count ≡ length (st .log .values)
+  pub values : keeps .values ≡ front valuesBlockLength (flatten (st .log .values))
+  pub valueLength : (v : Bytes) → List·Memᴰ v (st .log .values) → length v ≡ hashLength
+  pub pairCount : pairs .map .count ≡ length (st .monitoringMap)
+  pub firsts : pairs .map .positions ≡ front mapLimit (positions (st .monitoringMap))
+  pub seconds : pairs .map .versions ≡ front mapLimit (versions (st .monitoringMap))
 
 -- what was read, as a state
 abbrev pub gathered : Read sizeForm → List Bytes → List MapEntry → State
-gathered (m, (t, (label, _))) values entries = record { label = label; size = m; time = t; values = values; monitoringMap = entries }
+gathered (m, (t, (label, _))) values entries =
+    record { label = label; log = record { size = m; time = t; values = values }; monitoringMap = entries }
 
 -- a state, if it is valid
 unfoldable pub ifValid : State → Option State

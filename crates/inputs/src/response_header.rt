@@ -22,7 +22,7 @@ pub(crate) struct Header {
     pub(crate) kind: Kind,
     pub(crate) identifier: Part,
     pub(crate) label: Part,
-    pub(crate) size: u64,
+    pub(crate) tree_size: u64,
     pub(crate) target: Target,
     pub(crate) next: usize,
 }
@@ -76,7 +76,7 @@ pub(crate) fn read_header(text: &[u8]) -> ReadHeader
                     kind,
                     identifier,
                     label,
-                    size,
+                    tree_size: size,
                     target,
                     next,
                 }),

@@ -10,9 +10,13 @@ ghost use Rattle.lines.specs.Cursor.{fieldsFrom};
 ghost use Rattle.lines.specs.Readings.{asDigest};
 ghost use Rattle.rules.specs.Limits.{labelLimit, stateTextLimit};
 ghost use Rattle.rules.specs.State.{State as StateRead};
-ghost use Rattle.rules.specs.StateText.{sizeForm, readKeep, readPair, readStateText};
-ghost use Rattle.inputs.specs.State.{numberedBlock};
+ghost use Rattle.rules.specs.StateText.{sizeForm, readKeep, readPair, readState, readStateText};
+ghost use Rattle.inputs.specs.State.{numberedBlock, stateOf};
 ghost use Rattle.inputs.specs.StateReader.{labelled, asSize, pairOf, KeepsFrom, PairsFrom, ReadAs, ifValid, readAfterSize, refusedBy, orRefused};
+use crate::refusal::Refusal;
+use crate::state::KeptLog;
+use crate::state::Label;
+use crate::state::MonitoringMap;
 use crate::state::NumberedState;
 use crate::state::State;
 use lines::cursor::Cursor;
@@ -26,22 +30,15 @@ use lines::writing::put_bytes;
 use lines::writing::put_spelled;
 use tree::log_head::LogHead;
 
-// The refusal of a text that is too long.
-const TOO_LONG: u64 = 1;
-
-// The refusal of one that says no valid state.
-const NO_VALID_STATE: u64 = 3;
-
 // The bytes of a value.
 const VALUE: usize = 32;
 
-// What a `size` line says: the size, the time, the label and its length; zeros where none was found.
+// What a `size` line says: the size, the time and the label; zeros where none was found.
 struct SizeLine {
     found: bool,
     size: u64,
     time: u64,
-    label: [u8; State::LABEL],
-    length: usize,
+    label: Label,
 }
 
 // A `pair` line, or another.
@@ -57,12 +54,11 @@ struct Keeps {
     values: [u8; LogHead::BLOCK],
 }
 
-// The `pair` lines that follow each other: their number, the place after them, and the first of their pairs, as many as a state takes.
+// The `pair` lines that follow each other: their number with the first of their pairs, as many as a
+// state takes, and the place after them.
 struct Pairs {
-    count: usize,
+    map: MonitoringMap,
     next: usize,
-    positions: [u64; State::PAIRS],
-    versions: [u32; State::PAIRS],
 }
 
 // The state that a text says; refusal 1 for a text that is too long and 3 for one that says no valid state, both with the state of the empty label.
@@ -70,17 +66,31 @@ pub fn read_state(text: &[u8]) -> NumberedState
     ensures { λ r. ⌜ r ≡ numberedBlock (readStateText (now (text .entry))) ⌝ }
 {
     if State::TEXT < text.len() {
-        return refused(TOO_LONG);
+        return refused(Refusal::LENGTH);
     }
     let start = Cursor { at: 0 };
     let NextLine::Ended { stop, next } = start.line(text) else {
-        return refused(NO_VALID_STATE);
+        return refused(Refusal::STATE);
     };
     let first = size_line(&text[0..stop]);
     if !first.found {
-        return refused(NO_VALID_STATE);
+        return refused(Refusal::STATE);
     }
     read_after_size(text, next.at, first)
+}
+
+// The struct of the state that a text says; where it says none, as a text that is too long does, one
+// that stands for none.
+pub fn state_in(text: &[u8]) -> State
+    ensures { λ r. ⌜ stateOf r ≡ readState (now (text .entry)) ⌝ }
+{
+    let read = read_state(text);
+    let mut state = read.state;
+    if read.number != 0 {
+        let over = State::LABEL + 1;
+        state.label.length = over;
+    }
+    state
 }
 
 // The state that a `size` line and the text from a place on say, or refusal 3.
@@ -92,7 +102,7 @@ fn read_after_size(text: &[u8], from: usize, first: SizeLine) -> NumberedState
     let at = keeps.next;
     let pairs = read_pairs(text, at);
     if pairs.next < text.len() {
-        return refused(NO_VALID_STATE);
+        return refused(Refusal::STATE);
     }
     checked(first, keeps, pairs)
 }
@@ -102,32 +112,27 @@ fn checked(first: SizeLine, keeps: Keeps, pairs: Pairs) -> NumberedState
     ensures { λ r. ⌜ ((st : StateRead) → ReadAs first keeps pairs st → r ≡ numberedBlock (orRefused (ifValid st))) ⌝ }
 {
     if keeps.count != u64::count_ones(first.size) as usize {
-        return refused(NO_VALID_STATE);
+        return refused(Refusal::STATE);
     }
     if (LogHead::LEVELS as usize) < keeps.count {
-        return refused(NO_VALID_STATE);
+        return refused(Refusal::STATE);
     }
-    if State::PAIRS < pairs.count {
-        return refused(NO_VALID_STATE);
+    let map = pairs.map;
+    if State::PAIRS < map.count {
+        return refused(Refusal::STATE);
     }
     let label = first.label;
     let values = keeps.values;
-    let positions = pairs.positions;
-    let versions = pairs.versions;
-    let state = State {
-        label,
-        length: first.length,
+    let log = KeptLog {
         size: first.size,
         time: first.time,
         values,
-        positions,
-        versions,
-        pairs: pairs.count,
     };
+    let state = State { label, log, map };
     if state.is_valid() {
         return NumberedState { number: 0, state };
     }
-    refused(NO_VALID_STATE)
+    refused(Refusal::STATE)
 }
 
 // A refusal, with the state of the empty label.
@@ -179,14 +184,13 @@ fn with_label(l: &[u8], at: usize, size: u64, time: u64) -> SizeLine
         return no_size();
     }
     let field = cursor.field(l);
-    let mut label = [0u8; State::LABEL];
-    put_spelled(&mut label, 0, field);
+    let mut bytes = [0u8; State::LABEL];
+    put_spelled(&mut bytes, 0, field);
     SizeLine {
         found: true,
         size,
         time,
-        label,
-        length,
+        label: Label { bytes, length },
     }
 }
 
@@ -198,8 +202,10 @@ fn no_size() -> SizeLine
         found: false,
         size: 0,
         time: 0,
-        label: [0u8; State::LABEL],
-        length: 0,
+        label: Label {
+            bytes: [0u8; State::LABEL],
+            length: 0,
+        },
     }
 }
 
@@ -313,18 +319,22 @@ fn read_pairs(text: &[u8], from: usize) -> Pairs
         let start = Cursor { at };
         let NextLine::Ended { stop, next } = start.line(text) else {
             return Pairs {
-                count,
+                map: MonitoringMap {
+                    positions,
+                    versions,
+                    count,
+                },
                 next: at,
-                positions,
-                versions,
             };
         };
         let PairLine::Pair { position, version } = pair_line(&text[at..stop]) else {
             return Pairs {
-                count,
+                map: MonitoringMap {
+                    positions,
+                    versions,
+                    count,
+                },
                 next: at,
-                positions,
-                versions,
             };
         };
         put_pair(&mut positions, &mut versions, count, position, version);
@@ -332,10 +342,12 @@ fn read_pairs(text: &[u8], from: usize) -> Pairs
         at = next.at;
     }
     Pairs {
-        count,
+        map: MonitoringMap {
+            positions,
+            versions,
+            count,
+        },
         next: at,
-        positions,
-        versions,
     }
 }
 

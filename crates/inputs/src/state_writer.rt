@@ -48,13 +48,16 @@ fn put_state(out: &mut [u8], state: State) -> usize
     ensures { λ r. ⌜ Wrote (now (out .entry)) 0 (writeState (contents state)) r (now (out .exit)) ⌝ }
 {
     let label = state.label;
-    let length = state.length;
-    let values = state.values;
-    let count = u64::count_ones(state.size) as usize;
-    let positions = state.positions;
-    let versions = state.versions;
-    let pairs = state.pairs;
-    let keeps_at = put_size(out, 0, state.size, state.time, &label[..length]);
+    let bytes = label.bytes;
+    let length = label.length;
+    let log = state.log;
+    let values = log.values;
+    let count = u64::count_ones(log.size) as usize;
+    let map = state.map;
+    let positions = map.positions;
+    let versions = map.versions;
+    let pairs = map.count;
+    let keeps_at = put_size(out, 0, log.size, log.time, &bytes[..length]);
     let pairs_at = put_keeps(out, keeps_at, &values, count);
     put_pairs(out, pairs_at, &positions[..pairs], &versions[..pairs])
 }

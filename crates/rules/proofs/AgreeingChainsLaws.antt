@@ -28,7 +28,7 @@ use Rattle.tree.proofs.HistoryLaws.{Binds, Meets, walk-binds, walk-carries, bin
 use Rattle.rules.specs.State.{State}
 use Rattle.rules.specs.Response.{Entry, entryPositions, logEntry}
 use Rattle.rules.specs.Refusals.{Inputs, Call, Judgement, refused, passed, known, logWalk, historyDiffers, judge}
-use Rattle.rules.specs.Calls.{nextState, stateAfter}
+use Rattle.rules.specs.Calls.{nextLog, nextState, stateAfter}
 use Rattle.rules.specs.Hashed.{hashed}
 use Rattle.rules.specs.Consistency.{AreByteInputs, IsByteState, accepted, acceptedCalls, shownBy, ChainsAgree}
 use Rattle.rules.proofs.RefusalLaws.{valid-some, accepted-meaning, readings-were}
@@ -37,10 +37,10 @@ use Rattle.rules.proofs.HashedLaws.{ByteCall, walk-listed, call-bytes, 
 
 -- ---- what a state holds fast
 
--- an entry, by strings of S
+-- an entry, by strings of S: only what it keeps of the log counts
 abbrev pub HoldsFast : List Bytes → Option State → LogEntry → Type 0
 HoldsFast S none e = ⊥
-HoldsFast S (some s) e = Binds (s .size) (s .values) (e .position) (logLeafString e) S × (e .time < 2 ^ 64)
+HoldsFast S (some s) e = Binds (s .log .size) (s .log .values) (e .position) (logLeafString e) S × (e .time < 2 ^ 64)
 
 -- an accepted call got the state that it was judged with
 state-was : (s : Option State) (i : Inputs) (c : Call) → judge s i ≡ passed c → s ≡ some (c .state)
@@ -56,18 +56,18 @@ module _ (S : List Bytes) (c : Call) (h : Accepted c) (f : Within (hashed c) S) 
 
   -- 1: its state holds fast each entry that it shows
   pub call-learns : (e : Entry) → List·Memᴰ e (c .parts .entries) → HoldsFast S (some (nextState c)) (logEntry e)
-  unfolding nextState logWalk logEntry known
+  unfolding nextState nextLog logWalk logEntry known
   call-learns e m =
       let i = mapped-at (λ (x : Entry). x .position) (c .parts .entries) e m in
-      let b = walk-binds (c .parts .size) (known c) (entryPositions (c .parts)) (c .parts .nodes) S (call-follows c h) call-meets (e .position)
+      let b = walk-binds (c .parts .treeSize) (known c) (entryPositions (c .parts)) (c .parts .nodes) S (call-follows c h) call-meets (e .position)
       (shown-entries c h .within (e .position) i) i in
       (rw (shown-string c h e m) at b, shown-time c h e m)
 
   -- 2: and what the state before held fast
   pub call-carries : (e : LogEntry) → HoldsFast S (some (c .state)) e → HoldsFast S (some (nextState c)) e
-  unfolding nextState logWalk known
+  unfolding nextState nextLog logWalk known
   call-carries e (b, t) =
-      (walk-carries (c .parts .size) (known c) (entryPositions (c .parts)) (c .parts .nodes) S (call-follows c h) call-meets (e .position) (logLeafString e) b, t)
+      (walk-carries (c .parts .treeSize) (known c) (entryPositions (c .parts)) (c .parts .nodes) S (call-follows c h) call-meets (e .position) (logLeafString e) b, t)
 
 -- ---- a chain of calls
 
@@ -168,7 +168,7 @@ fast-one : (S : List Bytes) → ByteStrings S → (s : Option State) (x y : LogE
     → Same x y ⊎ Broken S
 fast-one S b none x y h k e = absurd h
 fast-one S b (some s) x y (h, t) (k, u) e = do
-  q ← binds-one b h (subst (λ (p : ℕ). Binds (s .size) (s .values) p (logLeafString y) S) (sym e) k)
+  q ← binds-one b h (subst (λ (p : ℕ). Binds (s .log .size) (s .log .values) p (logLeafString y) S) (sym e) k)
   inl (entry-string-one x y t u q)
 
 -- the second claim

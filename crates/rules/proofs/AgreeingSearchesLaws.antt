@@ -76,7 +76,7 @@ module _ (S : List Bytes) (bytes : ByteStrings S) (root : Bytes) where
 target-equal : (t t′ : Target) → t .version ≡ t′ .version → t .opening ≡ t′ .opening → t .value ≡ t′ .value → t ≡ t′
 target-equal t t′ p q r = rw (p, q, r) refl
 
-module _ (c c′ : Call) (h : Accepted c) (h′ : Accepted c′) (b : ByteCall c) (b′ : ByteCall c′) (size : c .parts .size ≡ c′ .parts .size) (root : logRoot c ≡ logRoot c′) where
+module _ (c c′ : Call) (h : Accepted c) (h′ : Accepted c′) (b : ByteCall c) (b′ : ByteCall c′) (size : c .parts .treeSize ≡ c′ .parts .treeSize) (root : logRoot c ≡ logRoot c′) where
   -- all strings that the two hashed
   abbrev both : List Bytes
   both = hashed c ++ hashed c′
@@ -89,10 +89,10 @@ module _ (c c′ : Call) (h : Accepted c) (h′ : Accepted c′) (b : ByteCall c
       → (e .prefixRoot ≡ e′ .prefixRoot) ⊎ Broken both
   unfolding logRoot logWalk known logEntry
   roots-one e e′ i i′ q =
-      let n = c .parts .size in
+      let n = c .parts .treeSize in
       let m = mapped-at (λ (x : Entry). x .position) (c .parts .entries) e i in
       let m′ = mapped-at (λ (x : Entry). x .position) (c′ .parts .entries) e′ i′ in
-      let walked : ℕ → Walk = λ (k : ℕ). walkOf k (c′ .state .size) (entryPositions (c′ .parts)) in
+      let walked : ℕ → Walk = λ (k : ℕ). walkOf k (c′ .state .log .size) (entryPositions (c′ .parts)) in
       do
         w ← walks-agree n (known c) (known c′) (entryPositions (c .parts)) (entryPositions (c′ .parts)) (c .parts .nodes) (c′ .parts .nodes) both
             (call-follows c h .values-sized) (call-follows c′ h′ .values-sized) (call-follows c h .nodes-sized) (call-follows c′ h′ .nodes-sized)

@@ -9,8 +9,10 @@ use Rattle.lists.specs.Lists.{Bytes}
 use Rattle.tree.specs.Ladder.{ladder}
 use Rattle.rules.specs.Limits.{stateTextLimit}
 use Rattle.rules.specs.State.{MapEntry, State}
-use Rattle.rules.specs.Response.{Finding, searched, monitored, Step, Result, included, absent, Lookup, Entry, Parts}
-use Rattle.rules.specs.Refusals.{Inputs, Call, refused, lengthsFit, sizeWrong, targetWrong, commitmentAsked, lookupsAsked, entriesAsked, timesWrong, stepCommitment, commitmentBy, untried, roomMissing}
+use Rattle.rules.specs.Response.{Finding, searched, monitored, Step, Result, included, absent, Lookup, Entry, Parts, targetOf}
+use Rattle.rules.specs.Kinds.{KindRules}
+use Rattle.rules.specs.Refusals.{Inputs, Call, refused, lengthsFit, rulesFor, sizeWrong, targetWrong, commitmentAsked}
+use Rattle.rules.specs.Refusals.{entriesAsked, timesWrong, stepCommitment, commitmentBy, roomMissing}
 use Rattle.rules.specs.Calls.{placed, textJudged, roomJudged}
 use Rattle.rules.proofs.Running.{opened, pair, blank-inputs, blank-configuration}
 use Rattle.rules.proofs.FormExamples.{pairs-below}
@@ -18,13 +20,13 @@ use Rattle.rules.proofs.FormExamples.{pairs-below}
 -- ---- calls as read, with what the rule in question looks at
 
 abbrev state : ℕ → ℕ → List MapEntry → State
-state m t es = record { label = []; size = m; time = t; values = []; monitoringMap = es }
+state m t es = record { label = []; log = record { size = m; time = t; values = [] }; monitoringMap = es }
 
 abbrev target : ℕ → Bytes → Finding
 target t v = searched (record { version = t; opening = []; value = v })
 
 abbrev parts : ℕ → Finding → List Entry → Parts
-parts n f es = record { identifier = []; label = []; size = n; finding = f; steps = []; entries = es; nodes = [] }
+parts n f es = record { identifier = []; label = []; treeSize = n; finding = f; steps = []; entries = es; nodes = [] }
 
 abbrev entry : ℕ → ℕ → List Lookup → Entry
 entry p t ls = record { position = p; time = t; prefixRoot = []; lookups = ls }
@@ -33,6 +35,10 @@ entry p t ls = record { position = p; time = t; prefixRoot = []; lookups = ls }
 abbrev call : State → Parts → ℕ → ℕ → Call
 call s p clock room =
     record { inputs = blank-inputs clock room; configuration = blank-configuration 10 20; state = s; outputs = []; parts = p }
+
+-- what a kind asks
+abbrev rules-of : Finding → KindRules
+rules-of f = rulesFor f (blank-configuration 10 20) (state 0 0 []) (parts 1 f [])
 
 -- ---- 1
 
@@ -103,25 +109,35 @@ size-and-target-borders =
 abbrev step : ℕ → Option Bytes → Step
 step v k = record { version = v; commitment = k }
 
+abbrev committed : Finding → Step → Bool
+committed f s = commitmentAsked (rules-of f .isCommitted) s
+
+abbrev versions-asked : Finding → List ℕ → List ℕ → Bool
+versions-asked f wanted shown = rules-of f .versionsFit wanted shown
+
 pub record Commitments : Type 0 where
-  pub below-given : commitmentAsked (target 2 []) (step 1 (some [])) ≡ true
-  pub below-left-out : commitmentAsked (target 2 []) (step 1 none) ≡ false
-  pub target-given : commitmentAsked (target 2 []) (step 2 (some [])) ≡ false
-  pub target-left-out : commitmentAsked (target 2 []) (step 2 none) ≡ true
-  pub above-given : commitmentAsked (target 2 []) (step 3 (some [])) ≡ false
-  pub above-left-out : commitmentAsked (target 2 []) (step 3 none) ≡ true
-  pub one-lookup : lookupsAsked (target 2 []) (ladder 2) (0 ∷ []) ≡ true
-  pub no-lookup : lookupsAsked (target 2 []) (ladder 2) [] ≡ false
-  pub whole-ladder : lookupsAsked (target 2 []) (ladder 2) (0 ∷ 1 ∷ 3 ∷ 2 ∷ []) ≡ true
-  pub beyond-ladder : lookupsAsked (target 2 []) (ladder 2) (0 ∷ 1 ∷ 3 ∷ 2 ∷ 4 ∷ []) ≡ false
-  pub off-ladder : lookupsAsked (target 2 []) (ladder 2) (0 ∷ 2 ∷ []) ≡ false
-  pub monitoring-all : lookupsAsked monitored (0 ∷ 1 ∷ []) (0 ∷ 1 ∷ []) ≡ true
-  pub monitoring-some : lookupsAsked monitored (0 ∷ 1 ∷ []) (0 ∷ []) ≡ false
+  pub monitoring-given : committed monitored (step 1 (some [])) ≡ true
+  pub monitoring-left-out : committed monitored (step 1 none) ≡ false
+  pub below-given : committed (target 2 []) (step 1 (some [])) ≡ true
+  pub below-left-out : committed (target 2 []) (step 1 none) ≡ false
+  pub target-given : committed (target 2 []) (step 2 (some [])) ≡ false
+  pub target-left-out : committed (target 2 []) (step 2 none) ≡ true
+  pub above-given : committed (target 2 []) (step 3 (some [])) ≡ false
+  pub above-left-out : committed (target 2 []) (step 3 none) ≡ true
+  pub one-lookup : versions-asked (target 2 []) (ladder 2) (0 ∷ []) ≡ true
+  pub no-lookup : versions-asked (target 2 []) (ladder 2) [] ≡ false
+  pub whole-ladder : versions-asked (target 2 []) (ladder 2) (0 ∷ 1 ∷ 3 ∷ 2 ∷ []) ≡ true
+  pub beyond-ladder : versions-asked (target 2 []) (ladder 2) (0 ∷ 1 ∷ 3 ∷ 2 ∷ 4 ∷ []) ≡ false
+  pub off-ladder : versions-asked (target 2 []) (ladder 2) (0 ∷ 2 ∷ []) ≡ false
+  pub monitoring-all : versions-asked monitored (0 ∷ 1 ∷ []) (0 ∷ 1 ∷ []) ≡ true
+  pub monitoring-some : versions-asked monitored (0 ∷ 1 ∷ []) (0 ∷ []) ≡ false
 
 pub commitments-borders : Commitments
 unfolding opened
 commitments-borders =
     record {
+      monitoring-given = refl;
+      monitoring-left-out = refl;
       below-given = refl;
       below-left-out = refl;
       target-given = refl;
@@ -139,7 +155,7 @@ commitments-borders =
 
 -- two entries are asked, at 3 and 5, without lookups
 abbrev asked-two : List Entry → Bool
-asked-two es = entriesAsked monitored (record { position = 3; versions = [] } ∷ record { position = 5; versions = [] } ∷ []) es
+asked-two es = entriesAsked (versions-asked monitored) (record { position = 3; versions = [] } ∷ record { position = 5; versions = [] } ∷ []) es
 
 pub record Entries : Type 0 where
   pub as-asked : asked-two (entry 3 0 [] ∷ entry 5 0 [] ∷ []) ≡ true
@@ -197,11 +213,11 @@ pub record Paths : Type 0 where
   pub own-step : stepCommitment (step 0 (some (1 ∷ [])) ∷ step 1 (some (2 ∷ [])) ∷ step 3 (some (3 ∷ [])) ∷ []) 1 ≡ 2 ∷ []
   pub no-step : stepCommitment (step 0 (some (1 ∷ [])) ∷ []) 1 ≡ []
   -- below t the step's commitment counts
-  pub below-target : commitmentBy (target 1 []) [] (step 0 (some (1 ∷ [])) ∷ []) 0 ≡ 1 ∷ []
-  pub tried-at-target : untried (target 1 []) (looked 1 included) ≡ false
-  pub untried-above : untried (target 1 []) (looked 2 included) ≡ true
-  pub absence-tried : untried (target 1 []) (looked 2 absent) ≡ false
-  pub monitoring-tried : untried monitored (looked 2 included) ≡ false
+  pub below-target : commitmentBy (targetOf (target 1 [])) [] (step 0 (some (1 ∷ [])) ∷ []) 0 ≡ 1 ∷ []
+  pub tried-at-target : rules-of (target 1 []) .untried (looked 1 included) ≡ false
+  pub untried-above : rules-of (target 1 []) .untried (looked 2 included) ≡ true
+  pub absence-tried : rules-of (target 1 []) .untried (looked 2 absent) ≡ false
+  pub monitoring-tried : rules-of monitored .untried (looked 2 included) ≡ false
 
 pub paths-borders : Paths
 unfolding opened

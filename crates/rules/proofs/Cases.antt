@@ -102,7 +102,7 @@ new = some (emptyState (x "61"))
 
 -- a state of so many entries, whose one value is given, at time 1000, with pairs
 abbrev pub kept : ℕ → Bytes → List MapEntry → State
-kept m value entries = record { label = x "61"; size = m; time = 1000; values = value ∷ []; monitoringMap = entries }
+kept m value entries = record { label = x "61"; log = record { size = m; time = 1000; values = value ∷ [] }; monitoringMap = entries }
 
 abbrev pub after-search : State
 after-search = kept 1 log-root (pair 0 0 ∷ [])
@@ -120,7 +120,7 @@ pub record RefusedUnhashed : Type 0 where
   pub byte-left-over : Refused new (searching response (configuration ++ 0 ∷ []) identifier 1000 (sheet-0 ++ sheet-1) signed 1) 2
   pub no-state : Refused none honest 3
   pub pair-not-below-size : Refused (some (kept 1 log-root (pair 1 0 ∷ []))) honest 3
-  pub value-too-many : Refused (some (record { label = x "61"; size = 1; time = 1000; values = log-root ∷ log-root ∷ []; monitoringMap = [] })) honest 3
+  pub value-too-many : Refused (some (record { label = x "61"; log = record { size = 1; time = 1000; values = log-root ∷ log-root ∷ [] }; monitoringMap = [] })) honest 3
   pub sheet-falls : Refused new (searching response configuration identifier 1000 (sheet-1 ++ sheet-0) signed 1) 4
   pub sheet-cut : Refused new (searching response configuration identifier 1000 (sheet-0 ++ 0 ∷ []) signed 1) 4
   pub leading-zero : Refused new (answering (kt-line ++ ascii "head\t01\n" ++ target-line ++ step-lines ++ entry-line ++ in-line ++ nl-line ++ end-line)) 5
@@ -145,7 +145,7 @@ pub record RefusedUnhashed : Type 0 where
   pub output-missing : Refused new (searching response configuration identifier 1000 sheet-0 signed 1) 10
   pub too-far-ahead : Refused new (searching response configuration identifier 989 (sheet-0 ++ sheet-1) signed 1) 11
   pub too-far-behind : Refused new (searching response configuration identifier 2001 (sheet-0 ++ sheet-1) signed 1) 11
-  pub later-than-kept : Refused (some (record { label = x "61"; size = 1; time = 999; values = log-root ∷ []; monitoringMap = [] })) honest 11
+  pub later-than-kept : Refused (some (record { label = x "61"; log = record { size = 1; time = 999; values = log-root ∷ [] }; monitoringMap = [] })) honest 11
 
 pub refused-unhashed : RefusedUnhashed
 unfolding opened

@@ -165,7 +165,7 @@ texts-borders =
 -- a label of so many bytes, size, time, values of so many bytes each, pairs
 abbrev valid : ℕ → ℕ → ℕ → List ℕ → List MapEntry → Bool
 valid l m t vs es =
-    isValid (record { label = replicate l 0; size = m; time = t; values = map (λ (n : ℕ). replicate n 0) vs; monitoringMap = es })
+    isValid (record { label = replicate l 0; log = record { size = m; time = t; values = map (λ (n : ℕ). replicate n 0) vs }; monitoringMap = es })
 
 -- so many pairs, at 0, 1 and so on
 unfoldable pub pairs-below : ℕ → List MapEntry

@@ -24,13 +24,13 @@ module _ (o s r label opening value c : Bytes) (t : ℕ) where
       record {
         inputs = blank-inputs 0 0;
         configuration = blank-configuration 0 0;
-        state = record { label = label; size = 0; time = 0; values = []; monitoringMap = [] };
+        state = record { label = label; log = record { size = 0; time = 0; values = [] }; monitoringMap = [] };
         outputs = record { version = 0; output = 0 ∷ o } ∷ [];
         parts =
             record {
               identifier = [];
               label = label;
-              size = 1;
+              treeSize = 1;
               finding = f;
               steps = record { version = 0; commitment = some c } ∷ [];
               entries =

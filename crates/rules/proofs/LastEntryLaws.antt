@@ -22,7 +22,7 @@ use Rattle.tree.proofs.LadderLaws.{ladder-own}
 use Rattle.tree.proofs.LookupLaws.{LeadsTo, Absent, fits-absent}
 use Rattle.rules.specs.Limits.{openingLength}
 use Rattle.rules.specs.VrfOutputs.{hasOutput, outputOf}
-use Rattle.rules.specs.Response.{Target, Finding, searched, Result, included, absent, otherLeaf, Lookup, Entry, isIncluded, stepVersions, lookupVersions, entryPositions}
+use Rattle.rules.specs.Response.{Target, Finding, searched, Result, included, absent, otherLeaf, Lookup, Entry, isIncluded, stepVersions, lookupVersions, entryPositions, targetOf}
 use Rattle.rules.specs.Commitment.{commitmentTo}
 use Rattle.rules.specs.Search.{resultFits, isComplete, endsEarly, earlyThenComplete}
 use Rattle.rules.specs.Refusals.{Call, outputMissing, commitmentBy, commitmentOf, terminal}
@@ -65,7 +65,7 @@ last-complete vs t e (x ∷ es) h = go (isComplete vs t e) refl (last-complete v
 pub record LastEntry (c : Call) (t : ℕ) : Type 0 where
   pub entry : Entry
   pub listed : List·Memᴰ entry (c .parts .entries)
-  pub last : entry .position ≡ c .parts .size - 1
+  pub last : entry .position ≡ c .parts .treeSize - 1
   pub complete : isComplete (ladder t) t entry ≡ true
 
 -- a lookup of a version in it
@@ -113,7 +113,7 @@ module _ (c : Call) (h : Accepted c) (b : ByteCall c) (t : Target) (f : c .parts
       go [] q r = absurd (false≢true r)
       go (e ∷ es) q r =
           let s = shown-entries c h in
-          let n = c .parts .size in
+          let n = c .parts .treeSize in
           record {
             entry = lastOr e es;
             listed = rw q (last-listed e es);
@@ -162,9 +162,9 @@ module _ (c : Call) (h : Accepted c) (b : ByteCall c) (t : Target) (f : c .parts
 
   -- the commitment of the target is worked out
   target-commitment : commitmentOf c (t .version) ≡ commitmentTo (t .opening) (c .parts .label) (t .value)
-  unfolding commitmentOf commitmentBy
+  unfolding commitmentOf commitmentBy targetOf
   target-commitment =
-      ap (λ (g : Finding). commitmentBy g (c .parts .label) (c .parts .steps) (t .version)) f
+      ap (λ (g : Finding). commitmentBy (targetOf g) (c .parts .label) (c .parts .steps) (t .version)) f
       ∙ choose-true (eqb (t .version) (t .version)) _ _ (eq-eqb (t .version) (t .version) refl)
 
   -- what it shows of its prefix tree

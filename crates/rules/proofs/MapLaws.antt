@@ -10,7 +10,7 @@ use Rattle.lists.specs.Lists.{lastOr}
 use Rattle.tree.specs.SearchTree.{frontier, rightAncestors}
 use Rattle.tree.proofs.AncestorLaws.{right-ancestors-end}
 use Rattle.rules.specs.State.{MapEntry}
-use Rattle.rules.specs.Search.{putEntry}
+use Rattle.rules.specs.Kinds.{putEntry}
 use Rattle.rules.specs.Monitoring.{mapAfterMonitoring}
 
 -- a property of positions

@@ -13,10 +13,10 @@ use Rattle.tree.specs.LogTree.{Walk, value, walkStrings}
 use Rattle.tree.specs.PrefixTree.{lookupRoot}
 use Rattle.tree.proofs.OriginLaws.{Origin, digest, PartOf, whole, part-origin, walk-string, PartAgrees, parts-met, met-parts, OfLookup, root-of-lookup, lookup-origin, lookup-string}
 use Rattle.rules.specs.VrfOutputs.{outputOf}
-use Rattle.rules.specs.Response.{Target, Finding, searched, monitored, Lookup, Entry}
+use Rattle.rules.specs.Response.{Target, Finding, searched, monitored, Lookup, Entry, targetOf}
 use Rattle.rules.specs.Commitment.{commitmentKey, commitmentValue, commitmentTo, commitmentStrings}
 use Rattle.rules.specs.Refusals.{Call, known, logWalk, logRoot, terminal, historyDiffers}
-use Rattle.rules.specs.Hashed.{hashedByLookup, hashedByEntry, hashedByFinding, hashed}
+use Rattle.rules.specs.Hashed.{hashedByLookup, hashedByEntry, hashedForTarget, hashed}
 use Rattle.rules.proofs.HashedLaws.{walk-listed, lookup-listed, strings-listed}
 
 -- the values that a call works out: of the parts of its walk, on the ways of its lookups, and HMAC's inner digest and code for the target
@@ -53,12 +53,12 @@ root-compared c = in-walk whole
 -- ---- where it comes from
 
 -- from the strings that the call hashed, the kept values and the nodes
-pub origin : (c : Call) (v : Bytes) → WorkedOut c v → Origin (hashed c) (c .state .values ++ c .parts .nodes) v
+pub origin : (c : Call) (v : Bytes) → WorkedOut c v → Origin (hashed c) (c .state .log .values ++ c .parts .nodes) v
 unfolding known hashedByLookup commitmentStrings commitmentTo hmac
 origin c v (in-walk p) =
-    part-origin (known c) (hashed c) (c .state .values ++ c .parts .nodes) (λ x m. Memᴰ·append-left (c .parts .nodes) m) p (walk-listed c)
-    (λ x m. Memᴰ·append-right (c .state .values) m)
-origin c v (in-lookup e l i j w) = lookup-origin (hashed c) (c .state .values ++ c .parts .nodes) _ _ _ v (lookup-listed c e l i j) w
+    part-origin (known c) (hashed c) (c .state .log .values ++ c .parts .nodes) (λ x m. Memᴰ·append-left (c .parts .nodes) m) p (walk-listed c)
+    (λ x m. Memᴰ·append-right (c .state .log .values) m)
+origin c v (in-lookup e l i j w) = lookup-origin (hashed c) (c .state .log .values ++ c .parts .nodes) _ _ _ v (lookup-listed c e l i j) w
 origin c v (inner t f) = digest _ (strings-listed c t f _ (List·Memᴰ·head refl)) refl
 origin c v (code t f) = digest _ (strings-listed c t f _ (List·Memᴰ·tail (List·Memᴰ·head refl))) refl
 
@@ -77,8 +77,8 @@ lookup-used c x m =
     in-lookup e l i j (lookup-string (outputOf (c .outputs) (l .version)) (terminal c (l .version) (l .result)) (l .siblings) x n)
 
 -- one of HMAC
-finding-used : (c : Call) (f : Finding) → c .parts .finding ≡ f → (x : Bytes) → List·Memᴰ x (hashedByFinding f (c .parts .label)) → WorkedOut c (sha256 x)
-unfolding hashedByFinding commitmentStrings commitmentTo hmac
+finding-used : (c : Call) (f : Finding) → c .parts .finding ≡ f → (x : Bytes) → List·Memᴰ x (hashedForTarget (targetOf f) (c .parts .label)) → WorkedOut c (sha256 x)
+unfolding hashedForTarget targetOf commitmentStrings commitmentTo hmac
 finding-used c monitored q x m = absurd (List·Memᴰ·not-nil m)
 finding-used c (searched t) q x m =
     ⊎-elim (λ e. subst (λ (y : Bytes). WorkedOut c (sha256 y)) (sym e) (inner t q))

@@ -5,7 +5,8 @@ use mathlib.Core.List.{List, [], _∷_}
 use Prim.Native.Nat.{ℕ}
 use Rattle.tree.specs.Ladder.{ladder}
 use Rattle.rules.specs.Response.{Lookup, Entry, included, absent}
-use Rattle.rules.specs.Search.{Asked, askedBySearch, earlyThenComplete, mapAfterSearch}
+use Rattle.rules.specs.Kinds.{Asked}
+use Rattle.rules.specs.Search.{askedBySearch, earlyThenComplete, mapAfterSearch}
 use Rattle.rules.specs.Monitoring.{askedByMonitoring, versionsOf, mapAfterMonitoring}
 use Rattle.rules.proofs.Running.{opened, pair}
 

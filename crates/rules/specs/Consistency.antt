@@ -40,7 +40,7 @@ SearchesAgree =
     → IsByteState s → IsByteState s′ → AreByteInputs i → AreByteInputs i′
     → judge s i ≡ passed c → judge s′ i′ ≡ passed c′
     → c .parts .finding ≡ searched t → c′ .parts .finding ≡ searched t′
-    → c .parts .label ≡ c′ .parts .label → c .parts .size ≡ c′ .parts .size → logRoot c ≡ logRoot c′ → OutputsAgree c c′
+    → c .parts .label ≡ c′ .parts .label → c .parts .treeSize ≡ c′ .parts .treeSize → logRoot c ≡ logRoot c′ → OutputsAgree c c′
     → (t ≡ t′) ⊎ Broken (hashed c ++ hashed c′)
 
 -- ---- the second claim: on a chain of calls each entry is shown with one time and one prefix root

@@ -1,7 +1,7 @@
 -- The parts of a response, as reading yields them (paper 01, Response lines). Every rule after refusal 5 is about these parts.
 use mathlib.Core.Bool.{Bool, true, false}
 use mathlib.Core.List.{List, map}
-use mathlib.Core.Option.{Option}
+use mathlib.Core.Option.{Option, none, some}
 use Prim.Native.Nat.{ℕ}
 use Rattle.lists.specs.Lists.{Bytes}
 use Rattle.tree.specs.LogTree.{LogEntry}
@@ -47,7 +47,7 @@ pub record Entry : Type 0 where
 pub record Parts : Type 0 where
   pub identifier : Bytes
   pub label : Bytes
-  pub size : ℕ  -- n
+  pub treeSize : ℕ  -- n
   pub finding : Finding
   pub steps : List Step
   pub entries : List Entry
@@ -56,6 +56,10 @@ pub record Parts : Type 0 where
 unfoldable pub kindOf : Finding → Kind
 kindOf (searched t) = search
 kindOf monitored = monitor
+
+unfoldable pub targetOf : Finding → Option Target
+targetOf (searched t) = some t
+targetOf monitored = none
 
 unfoldable pub isIncluded : Result → Bool
 isIncluded included = true

@@ -125,7 +125,7 @@ readBody identifier label n finding ls = do
   let (ends, ls4) = leading (readLine endForm) ls3
   let (loose, entries) = grouped items
   eqb (length ends) 1 && eqb (length ls4) 0 && eqb (length loose) 0
-  some (record { identifier = identifier; label = label; size = n; finding = finding; steps = steps; entries = entries; nodes = nodes })
+  some (record { identifier = identifier; label = label; treeSize = n; finding = finding; steps = steps; entries = entries; nodes = nodes })
 
 -- a search has its target line first
 unfoldable pub readRest : Kind → Bytes → Bytes → ℕ → List Bytes → Option Parts
@@ -176,5 +176,5 @@ writeNode v = writeLine nodeForm (v, tt)
 
 unfoldable pub writeResponse : Parts → Bytes
 writeResponse p =
-    writeLine (ktForm (kindOf (p .finding))) (p .identifier, (p .label, tt)) ++ writeLine headForm (p .size, tt) ++ writeTarget (p .finding)
+    writeLine (ktForm (kindOf (p .finding))) (p .identifier, (p .label, tt)) ++ writeLine headForm (p .treeSize, tt) ++ writeTarget (p .finding)
     ++ flatMap writeStep (p .steps) ++ flatMap writeEntry (p .entries) ++ flatMap writeNode (p .nodes) ++ writeLine endForm tt

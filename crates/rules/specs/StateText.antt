@@ -41,7 +41,7 @@ readStateLines (l ∷ ls) = do
   let (values, ls1) = leading readKeep ls
   let (entries, ls2) = leading readPair ls1
   eqb (length ls2) 0
-  some (record { label = label; size = m; time = t; values = values; monitoringMap = entries })
+  some (record { label = label; log = record { size = m; time = t; values = values }; monitoringMap = entries })
 
 -- a text of this form that gives a valid state
 unfoldable pub readState : Bytes → Option State
@@ -67,4 +67,6 @@ unfoldable pub writePair : MapEntry → Bytes
 writePair e = writeLine pairForm (e .position, (e .version, tt))
 
 unfoldable pub writeState : State → Bytes
-writeState s = writeLine sizeForm (s .size, (s .time, (s .label, tt))) ++ flatMap writeKeep (s .values) ++ flatMap writePair (s .monitoringMap)
+writeState s =
+    writeLine sizeForm (s .log .size, (s .log .time, (s .label, tt))) ++ flatMap writeKeep (s .log .values)
+    ++ flatMap writePair (s .monitoringMap)

@@ -5,9 +5,26 @@ pub(crate) fn word(s: &[u8]) {
     io::write_all(STDOUT_FILENO, s);
 }
 
+pub(crate) fn broken() {
+    word(b" broken");
+}
+
+// A field, if there is one.
+pub(crate) fn spaced(s: &[u8]) {
+    if s.len() != 0 {
+        word(b" ");
+        word(s);
+    }
+}
+
 pub(crate) fn number(n: u64) {
-    io::write_all(STDOUT_FILENO, b" ");
+    word(b" ");
     io::print_decimal(STDOUT_FILENO, n);
+}
+
+pub(crate) fn numbers(m: u64, n: u64) {
+    number(m);
+    number(n);
 }
 
 fn wide(x: u8) -> u64 {
@@ -16,35 +33,23 @@ fn wide(x: u8) -> u64 {
 
 // Bytes in hex.
 pub(crate) fn bytes(s: &[u8]) {
-    io::write_all(STDOUT_FILENO, b" ");
+    word(b" ");
     for i in 0..s.len() {
         io::print_hex(STDOUT_FILENO, wide(s[i]), 2);
     }
 }
 
-// A text between quotes, with tabs and newlines as they are escaped.
+// A text between quotes.
 pub(crate) fn text(s: &[u8]) {
-    io::write_all(STDOUT_FILENO, b" \"");
-    for i in 0..s.len() {
-        if s[i] == b'\t' {
-            io::write_all(STDOUT_FILENO, b"\\t");
-        } else if s[i] == b'\n' {
-            io::write_all(STDOUT_FILENO, b"\\n");
-        } else {
-            io::write_all(STDOUT_FILENO, &s[i..i + 1]);
-        }
-    }
-    io::write_all(STDOUT_FILENO, b"\"");
+    word(b" \"");
+    word(s);
+    word(b"\"");
 }
 
-pub(crate) fn answer(holds: bool) {
+pub(crate) fn whether(holds: bool) {
     if holds {
-        io::write_all(STDOUT_FILENO, b" yes");
+        word(b" yes");
     } else {
-        io::write_all(STDOUT_FILENO, b" no");
+        word(b" no");
     }
-}
-
-pub(crate) fn end() {
-    io::write_all(STDOUT_FILENO, b"\n");
 }

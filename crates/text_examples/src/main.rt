@@ -1,31 +1,36 @@
 // Runs the readers and writers of texts on good and broken examples, and writes a line for each: what it is given, and what comes back.
-// What must be written is the file stdout beside src/.
-mod build;
+// The examples are the lines of the file stdin beside src/, of which the first names the columns. What must be written is the file stdout.
+mod example;
 mod fields;
+mod given;
 mod line;
 mod responses;
-mod settings;
-mod sheets;
 mod states;
 mod writers;
 
+use libc::STDIN_FILENO;
+use lines::line::span;
+
+// Room for all examples.
+const ROOM: usize = 131072;
+
 fn main() {
-    fields::numbers();
-    fields::spellings();
-    fields::at_places();
-    fields::lines_of_a_text();
-    writers::whole_and_not();
-    settings::good();
-    settings::broken();
-    sheets::rising();
-    sheets::found();
-    states::fresh();
-    states::texts();
-    states::broken_texts();
-    states::unused_room();
-    responses::whole();
-    responses::first_lines();
-    responses::heads_and_targets();
-    responses::sections();
-    responses::ends();
+    let mut text = [0u8; ROOM];
+    let length = io::read_full(STDIN_FILENO, &mut text);
+    each_line(&text[..length]);
+}
+
+// Runs the lines one after the other.
+fn each_line(text: &[u8]) {
+    let mut kind: u64 = 0;
+    let mut at: usize = 0;
+    while at < text.len() {
+        let stop = span(text, at, b'\n');
+        let next = example::run(kind, &text[at..stop]);
+        kind = next;
+        if text.len() <= stop {
+            return;
+        }
+        at = stop + 1;
+    }
 }

@@ -2,12 +2,12 @@
 use Rattle.tree.specs.Ladder.{halve, climb, ladder, ladderWithin}
 use Rattle.tree.specs.SearchTree.{powerFrom, power, levelFrom, level, leftStep, rightStep, moveWithin, root, left, right, rightward, frontier, downTo, directPath, rightAncestors, frontierAndPaths, nextFrom}
 use Rattle.tree.specs.LogTree.{logLeafString, hashContent, logParentString, sameRange, holds, splitAt, leftHalf, rightHalf, fullFrom, fullSubtrees, isFull, holdsFull, isShown, walk, walkOf, nodeCount, widthOf, zeros, valueAmong, keptValue, stringAt, value, agrees, keptValuesMet, fullValues, walkStrings}
-use Rattle.tree.specs.LogText.{numberIn, valueIn, valuesIn, entryIn, entriesAt, nodesIn}
+use Rattle.tree.specs.LogText.{numberIn, valueIn, valuesIn, entryIn, isEntryLine, placesFrom, entryPlaces, entriesAt, shownIn, nodesIn}
 use Rattle.tree.specs.LogHead.{knownIn, isWalkable, logHead, nodesAsked}
 use Rattle.tree.specs.LogWalk.{below, walkedBy, nodeNext, parentBy, comparedBy, valuesFrom}
 use Rattle.tree.specs.PrefixTree.{prefixLeafString, prefixParentString, lowBits, bits, terminalStrings, terminalValue, parentOver, valueAbove, stringsAbove, lookupRoot, lookupStrings, terminalFits}
 use Rattle.tree.specs.Lookups.{terminalAt, terminalOf}
 
 unfoldable pub tree-definitions : Unit {0}
-unfolding halve climb ladder ladderWithin powerFrom power levelFrom level leftStep rightStep moveWithin root left right rightward frontier downTo directPath rightAncestors frontierAndPaths nextFrom logLeafString hashContent logParentString sameRange holds splitAt leftHalf rightHalf fullFrom fullSubtrees isFull holdsFull isShown walk walkOf nodeCount widthOf zeros valueAmong keptValue stringAt value agrees keptValuesMet fullValues walkStrings numberIn valueIn valuesIn entryIn entriesAt nodesIn knownIn isWalkable logHead nodesAsked below walkedBy nodeNext parentBy comparedBy valuesFrom prefixLeafString prefixParentString lowBits bits terminalStrings terminalValue parentOver valueAbove stringsAbove lookupRoot lookupStrings terminalFits terminalAt terminalOf
+unfolding halve climb ladder ladderWithin powerFrom power levelFrom level leftStep rightStep moveWithin root left right rightward frontier downTo directPath rightAncestors frontierAndPaths nextFrom logLeafString hashContent logParentString sameRange holds splitAt leftHalf rightHalf fullFrom fullSubtrees isFull holdsFull isShown walk walkOf nodeCount widthOf zeros valueAmong keptValue stringAt value agrees keptValuesMet fullValues walkStrings numberIn valueIn valuesIn entryIn isEntryLine placesFrom entryPlaces entriesAt shownIn nodesIn knownIn isWalkable logHead nodesAsked below walkedBy nodeNext parentBy comparedBy valuesFrom prefixLeafString prefixParentString lowBits bits terminalStrings terminalValue parentOver valueAbove stringsAbove lookupRoot lookupStrings terminalFits terminalAt terminalOf
 tree-definitions = tt

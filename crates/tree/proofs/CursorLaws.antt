@@ -1,21 +1,26 @@
 -- Laws of where the walk over the log tree stands (specs/LogWalk.antt): which shown entry comes next, and whether it is in a subtree.
-use mathlib.Core.Path.{_≡_, refl, sym, ap, _∙_}
+use mathlib.Core.Path.{_≡_, refl, sym, ap, ap₂, _∙_}
 use mathlib.Core.Bool.{Bool, true, false, _&&_, _||_}
 use mathlib.Core.List.{List, [], _∷_}
 use Prim.Native.Nat.{ℕ, zero, suc, _+_, _≤_, _<_}
+use native.Mathlib.Nat.{add-zero}
 use native.Mathlib.Decide.{decLt}
 use native.Mathlib.Omega.{arith}
 use lib.Dec.{leb, ltb}
 use lib.ListN.{length, drop, getD, length-map, List·getD-eq-default}
+use lib.Seq.{getD-drop}
 use borrow.Author.Tests.{lt-ltb, le-ltb, le-leb, lt-leb, ltb-true, eq-eqb, ne-eqb}
 use Rattle.lists.specs.Choice.{choose}
 use Rattle.lists.specs.Lists.{Bytes, any, rising}
 use Rattle.lists.proofs.ChoiceLaws.{and-holds}
 use Rattle.lists.proofs.RisingLaws.{rising-tail}
+use Rattle.tree.specs.declared.log_tree.Cursor.{Cursor}
 use Rattle.tree.specs.LogTree.{LogEntry, logLeafString, Range, isShown, stringAt}
-use Rattle.tree.specs.LogText.{entryIn, entriesAt}
+use Rattle.tree.specs.LogText.{entryIn, entryWord, lineBehind, entryPlaces, entriesAt, shownIn}
 use Rattle.tree.specs.LogHead.{positions}
-use Rattle.tree.specs.LogWalk.{range, below, noPosition, cursorAt}
+use Rattle.tree.specs.LogWalk.{range, below, noPosition, cursorAt, cursorFrom}
+use Rattle.tree.proofs.RunLaws.{getD-any}
+use Rattle.tree.proofs.EntryLineLaws.{firstPlace, place-within, places-behind, shown-from}
 
 -- ---- one step
 
@@ -131,31 +136,78 @@ string-at (e ∷ es) z s d b h = go (decLt (e .position) s) (string-at es z s d 
 -- ---- the entries at places of a text
 
 -- the entry of a number is that at the place of this number
-pub entry-at : (t : Bytes) (pl : List ℕ) (i : ℕ) (z : LogEntry) → i < length pl → getD (entriesAt t pl) i z ≡ entryIn (drop (getD pl i 0) t)
+pub entry-at : (t : Bytes) (pl : List ℕ) (i : ℕ) (z : LogEntry) → i < length pl → getD (entriesAt t pl) i z ≡ entryIn (drop (getD pl i 0 + entryWord) t)
 unfolding entriesAt
 entry-at t [] i z h = absurd (omega arith)
 entry-at t (p ∷ pl) zero z h = refl
 entry-at t (p ∷ pl) (suc i) z h = entry-at t pl i z (omega arith)
 
--- and so is its position
-pub position-at : (t : Bytes) (pl : List ℕ) (i d : ℕ) → i < length pl → getD (positions (entriesAt t pl)) i d ≡ entryIn (drop (getD pl i 0) t) .position
-unfolding entriesAt
-position-at t [] i d h = absurd (omega arith)
-position-at t (p ∷ pl) zero d h = refl
-position-at t (p ∷ pl) (suc i) d h = position-at t pl i d (omega arith)
-
 -- there are as many entries as places
 pub length-positions : (t : Bytes) (pl : List ℕ) → length (positions (entriesAt t pl)) ≡ length pl
 unfolding entriesAt
-length-positions t pl = length-map (entriesAt t pl) (λ (e : LogEntry). e .position) ∙ length-map pl (λ (p : ℕ). entryIn (drop p t))
+length-positions t pl = length-map (entriesAt t pl) (λ (e : LogEntry). e .position) ∙ length-map pl (λ (p : ℕ). entryIn (drop (p + entryWord) t))
 
-module _ (t : Bytes) (pl : List ℕ) (i node : ℕ) where
-  -- the cursor of an entry that is there
-  pub cursor-made : (v : ℕ) → i < length pl → v ≡ entryIn (drop (getD pl i 0) t) .position → record { shown = i; position = v; node = node } ≡ cursorAt (positions (entriesAt t pl)) i node
-  cursor-made v h e = ap (λ (p : ℕ). record { shown = i; position = p; node = node }) (e ∙ sym (position-at t pl i noPosition h))
+-- without the first places those without the first entries are left
+entries-drop : (t : Bytes) (i : ℕ) (pl : List ℕ) → entriesAt t (drop i pl) ≡ drop i (entriesAt t pl)
+unfolding entriesAt
+entries-drop t zero pl = refl
+entries-drop t (suc i) [] = refl
+entries-drop t (suc i) (p ∷ pl) = entries-drop t i pl
 
-  -- the cursor past the last entry
-  pub cursor-none : length pl ≤ i → record { shown = i; position = noPosition; node = node } ≡ cursorAt (positions (entriesAt t pl)) i node
+positions-drop : (i : ℕ) (es : List LogEntry) → positions (drop i es) ≡ drop i (positions es)
+positions-drop zero es = refl
+positions-drop (suc i) [] = refl
+positions-drop (suc i) (e ∷ es) = positions-drop i es
+
+-- where the element of a number is asked for, it is the first of those that are left
+pub first-left : {A : Type 0} (xs : List A) (i : ℕ) (d : A) → getD (drop i xs) 0 d ≡ getD xs i d
+first-left xs i d = getD-drop i xs 0 d ∙ ap (λ (j : ℕ). getD xs j d) (add-zero i)
+
+-- ---- the cursor
+
+abbrev cursor : ℕ → ℕ → ℕ → Cursor
+cursor node at position = record { at = at; position = position; node = node }
+
+-- the position of the first of some entries
+first-position : (t : Bytes) (pl : List ℕ) (at d : ℕ) → at ≡ getD pl 0 (length t) → at < length t → getD (positions (entriesAt t pl)) 0 d ≡ entryIn (drop (at + entryWord) t) .position
+unfolding entriesAt
+first-position t [] at d e h = absurd (omega arith)
+first-position t (p ∷ pl) at d e h = ap (λ (i : ℕ). entryIn (drop (i + entryWord) t) .position) (sym e)
+
+module _ (t : Bytes) (start node at : ℕ) (e : at ≡ firstPlace t start) where
+  -- the cursor where an entry line comes
+  pub cursor-made : (v : ℕ) → at < length t → v ≡ entryIn (drop (at + entryWord) t) .position → cursor node at v ≡ cursorFrom t start node
+  cursor-made v h ev =
+      ap₂ (cursor node) e
+      (ev ∙ sym (first-position t (entryPlaces t start) at noPosition e h) ∙ ap (λ (es : List LogEntry). getD (positions es) 0 noPosition) (shown-from t start))
+
+  -- the cursor where none is left
+  pub cursor-none : length t ≤ at → cursor node at noPosition ≡ cursorFrom t start node
   cursor-none h =
-      ap (λ (p : ℕ). record { shown = i; position = p; node = node })
-      (sym (List·getD-eq-default (positions (entriesAt t pl)) noPosition (omega (arith, length-positions t pl))))
+      ap₂ (cursor node) e
+      (sym (List·getD-eq-default (positions (entriesAt t (entryPlaces t start))) noPosition (omega (arith, length-positions t (entryPlaces t start), none (entryPlaces t start) refl)))
+      ∙ ap (λ (es : List LogEntry). getD (positions es) 0 noPosition) (shown-from t start))
+    where
+      none : (pl : List ℕ) → entryPlaces t start ≡ pl → length pl ≡ 0
+      none [] n = refl
+      none (p ∷ pl) n =
+          let z = e ∙ ap (λ (ps : List ℕ). getD ps 0 (length t)) n in
+          let l = ap length n in
+          let w = ap (λ (ps : List ℕ). getD ps 0 0) n in
+          absurd (omega (arith, place-within t start 0 (omega arith)))
+
+-- behind so many entry lines the entries after them are left
+pub cursor-from : (t : Bytes) (start i node : ℕ) → drop i (entryPlaces t 0) ≡ entryPlaces t start → cursorFrom t start node ≡ cursorAt t i node
+unfolding shownIn
+cursor-from t start i node e =
+    ap₂ (cursor node)
+    (ap (λ (ps : List ℕ). getD ps 0 (length t)) (sym e) ∙ first-left (entryPlaces t 0) i (length t))
+    (ap (λ (ps : List ℕ). getD ps 0 noPosition)
+    (ap positions (sym (shown-from t start) ∙ ap (entriesAt t) (sym e) ∙ entries-drop t i (entryPlaces t 0)) ∙ positions-drop i (entriesAt t (entryPlaces t 0)))
+    ∙ first-left (positions (entriesAt t (entryPlaces t 0))) i noPosition)
+
+-- behind the line of one of them one more is passed
+pub cursor-next : (t : Bytes) (i node at : ℕ) → i < length (entryPlaces t 0) → at ≡ getD (entryPlaces t 0) i (length t) → cursorFrom t (lineBehind t at) node ≡ cursorAt t (i + 1) node
+cursor-next t i node at h e =
+    cursor-from t (lineBehind t at) (i + 1) node
+    (places-behind t 0 i h ∙ ap (λ (p : ℕ). entryPlaces t (lineBehind t p)) (getD-any (entryPlaces t 0) i 0 (length t) h ∙ sym e))

@@ -94,7 +94,7 @@ module _ (m s w : ℕ) (h : Whole s w) where
     kept-room = omega (arith, kept-number f, ones-limit l m p u, v)
 
     -- it is the value found among the kept ones
-    pub kept-is : take digestLength (drop (digestLength * ones (m / (2 * w))) b) ≡ keptValue (knownIn [] [] m b) (range s w)
+    pub kept-is : take digestLength (drop (digestLength * ones (m / (2 * w))) b) ≡ keptValue (knownIn [] m b) (range s w)
     unfolding keptValue knownIn
     kept-is =
         let e : ℕ = h .level in

@@ -12,7 +12,7 @@ use Rattle.hash.specs.Bytes.{AreBytes}
 use Rattle.hash.proofs.BytesLaws.{bytes-take, bytes-drop}
 
 -- within a list it does not matter what stands beyond its end
-getD-any : {A : Type 0} (l : List A) (i : ℕ) (d e : A) → i < length l → getD l i d ≡ getD l i e
+pub getD-any : {A : Type 0} (l : List A) (i : ℕ) (d e : A) → i < length l → getD l i d ≡ getD l i e
 getD-any [] i d e h = absurd (omega arith)
 getD-any (x ∷ l) zero d e h = refl
 getD-any (x ∷ l) (suc i) d e h = getD-any l i d e (omega arith)

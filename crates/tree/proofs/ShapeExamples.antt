@@ -7,11 +7,13 @@ use Rattle.lists.specs.Lists.{Bytes}
 use Rattle.lists.proofs.Computing.{list-definitions}
 use Rattle.hash.specs.Bytes.{bigEndian}
 use Rattle.hash.specs.Sha256.{sha256}
+use Rattle.lines.specs.Number.{ascii}
+use Rattle.lines.specs.Line.{tab, newline}
 use Rattle.lines.proofs.Computing.{line-definitions}
 use Rattle.tree.specs.Ladder.{ladderWithin}
 use Rattle.tree.specs.SearchTree.{frontier, frontierAndPaths, nextFrom}
 use Rattle.tree.specs.LogTree.{LogEntry, Range, retained, given, shown, parent, walkOf, Known, zeros, value, fullValues, walkStrings}
-use Rattle.tree.specs.LogText.{entryIn, entriesAt}
+use Rattle.tree.specs.LogText.{entryIn, entryPlaces, shownIn}
 use Rattle.tree.specs.LogHead.{knownIn, nodesAsked}
 use Rattle.tree.specs.PrefixTree.{bits, valueAbove, stringsAbove}
 use Rattle.tree.proofs.Computing.{tree-definitions}
@@ -90,24 +92,40 @@ pub ladder-beyond : ladderWithin (2 ^ 32 - 1) ≡ []
 unfolding list-definitions tree-definitions
 ladder-beyond = refl
 
--- the positions 7, 11 and 13, each before a tab
-abbrev frontier-text : Bytes
-frontier-text = 0x37 ∷ 0x09 ∷ 0x31 ∷ 0x31 ∷ 0x09 ∷ 0x31 ∷ 0x33 ∷ 0x09 ∷ []
+-- the fields of an entry, its prefix root left out: 7 and 11, parted by a tab
+abbrev fields-text : Bytes
+fields-text = ascii "7" ++ tab ∷ ascii "11" ++ tab ∷ []
 
--- fields that are there are read; a time that does not read is 0, and a value that does not is zeros
-pub entry-in-text : map (λ (e : LogEntry). e .position) (entriesAt frontier-text (0 ∷ 2 ∷ 5 ∷ 8 ∷ [])) ≡ 7 ∷ 11 ∷ 13 ∷ 0 ∷ []
-unfolding list-definitions line-definitions tree-definitions
-entry-in-text = refl
-
-pub time-in-text : entryIn frontier-text ≡ record { position = 7; time = 11; prefixRoot = zeros }
+-- a time that reads is read; a value that does not is zeros
+pub fields-in-text : entryIn fields-text ≡ record { position = 7; time = 11; prefixRoot = zeros }
 unfolding list-definitions line-definitions tree-definitions bind
-time-in-text = refl
+fields-in-text = refl
+
+-- the line of an entry at a position, and one of a lookup
+abbrev entry-text : Bytes → Bytes
+entry-text position = ascii "entry" ++ tab ∷ position ++ tab ∷ newline ∷ []
+
+abbrev lookup-text : Bytes
+lookup-text = ascii "in" ++ tab ∷ ascii "7" ++ newline ∷ []
+
+-- the positions 7, 11 and 13, with lookups between them
+abbrev frontier-text : Bytes
+frontier-text = entry-text (ascii "7") ++ lookup-text ++ lookup-text ++ entry-text (ascii "11") ++ lookup-text ++ entry-text (ascii "13") ++ lookup-text
+
+-- they are shown, each where its line begins
+pub places-in-text : entryPlaces frontier-text 0 ≡ 0 ∷ 19 ∷ 34 ∷ []
+unfolding list-definitions line-definitions tree-definitions
+places-in-text = refl
+
+pub shown-in-text : map (λ (e : LogEntry). e .position) (shownIn frontier-text) ≡ 7 ∷ 11 ∷ 13 ∷ []
+unfolding list-definitions line-definitions tree-definitions
+shown-in-text = refl
 
 -- nodes for the frontier of 14 at m = 0 and at m = 10; none where there is no walk: more kept than there is, no entries, positions that do not rise
-pub nodes-of-14 : map (λ (m : ℕ). nodesAsked 14 (knownIn frontier-text (0 ∷ 2 ∷ 5 ∷ []) m [])) (0 ∷ 10 ∷ 15 ∷ []) ≡ 6 ∷ 5 ∷ 0 ∷ []
+pub nodes-of-14 : map (λ (m : ℕ). nodesAsked 14 (knownIn frontier-text m [])) (0 ∷ 10 ∷ 15 ∷ []) ≡ 6 ∷ 5 ∷ 0 ∷ []
 unfolding list-definitions line-definitions tree-definitions
 nodes-of-14 = refl
 
-pub no-walk : nodesAsked 0 (knownIn frontier-text [] 0 []) ∷ nodesAsked 14 (knownIn frontier-text (2 ∷ 0 ∷ []) 0 []) ∷ [] ≡ 0 ∷ 0 ∷ []
+pub no-walk : nodesAsked 0 (knownIn frontier-text 0 []) ∷ nodesAsked 14 (knownIn (entry-text (ascii "11") ++ entry-text (ascii "7")) 0 []) ∷ [] ≡ 0 ∷ 0 ∷ []
 unfolding list-definitions line-definitions tree-definitions
 no-walk = refl

@@ -1,14 +1,18 @@
--- Log entries and values where they stand in a text (paper 01, Response lines). Of lines that keep the rules these are the entries, nodes and siblings that the
--- lines say; of other bytes they are some entry and some values, so that whoever reads them there has nothing to check first.
-use mathlib.Core.List.{List, map}
+-- Log entries and values where they stand in a text (paper 01, Response lines). Of lines that keep
+-- the rules these are the entries, nodes and siblings that the lines say; of other bytes they are
+-- some entry and some values, so that whoever reads them there has nothing to check first.
+use mathlib.Core.Bool.{Bool}
+use mathlib.Core.List.{List, [], _∷_, map}
 use mathlib.Core.Option.{Option·getD}
 use Prim.Native.Nat.{ℕ, _+_, _-_, _*_, _/_, _^_}
-use lib.ListN.{length, take, drop}
+use lib.Dec.{eqb}
+use lib.ListN.{length, getD, take, drop}
+use Rattle.lists.specs.Choice.{choose}
 use Rattle.lists.specs.Lists.{Bytes, runs}
 use Rattle.hash.specs.Sha256.{digestLength}
 use Rattle.lines.specs.Number.{readNumber}
 use Rattle.lines.specs.Field.{exactly, readField}
-use Rattle.lines.specs.Line.{tab, before, after}
+use Rattle.lines.specs.Line.{tab, newline, partsAt, before, after}
 use Rattle.tree.specs.LogTree.{LogEntry, zeros}
 
 -- the number of 64 bits that a field spells, or 0
@@ -36,9 +40,42 @@ entryIn s =
       prefixRoot = valueIn (take valueDigits (after tab (after tab s)));
     }
 
--- the entries at some places of a text
+-- ---- the entries that a text shows
+
+-- the letter e, which an entry line begins with, and no other line among the entries
+abbrev pub entryLetter : ℕ
+entryLetter = 0x65
+
+unfoldable pub isEntryLine : Bytes → Bool
+isEntryLine l = eqb (getD l 0 0) entryLetter
+
+-- the word of an entry line and its tab
+abbrev pub entryWord : ℕ
+entryWord = 6
+
+-- where the line behind that at a place of a text begins
+abbrev pub lineBehind : Bytes → ℕ → ℕ
+lineBehind text at = at + length (before newline (drop at text)) + 1
+
+-- where the entry lines begin among lines that follow each other from a place on
+unfoldable pub placesFrom : ℕ → List Bytes → List ℕ
+placesFrom at [] = []
+placesFrom at (l ∷ ls) =
+    choose (isEntryLine l) (λ _. at ∷ placesFrom (at + length l + 1) ls) (λ _. placesFrom (at + length l + 1) ls)
+
+-- where they begin in a text, from the start of a line on; what no newline ends is a line too
+unfoldable pub entryPlaces : Bytes → ℕ → List ℕ
+entryPlaces text start = placesFrom start (partsAt newline (drop start text))
+
+-- the entries whose lines begin at some places of a text
 unfoldable pub entriesAt : Bytes → List ℕ → List LogEntry
-entriesAt text places = map (λ (p : ℕ). entryIn (drop p text)) places
+entriesAt text places = map (λ (p : ℕ). entryIn (drop (p + entryWord) text)) places
+
+-- the entries of all entry lines of a text
+unfoldable pub shownIn : Bytes → List LogEntry
+shownIn text = entriesAt text (entryPlaces text 0)
+
+-- ---- nodes
 
 -- a node line: its word and a tab, the digits, the newline
 abbrev pub nodeWord : ℕ

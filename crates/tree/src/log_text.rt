@@ -1,19 +1,22 @@
 // Log entries and values where they stand in a text (paper 01, Response lines).
 ghost use mathlib.Core.Path.{_≡_};
-ghost use Prim.Native.Nat.{_+_, _*_, _≤_};
+ghost use Prim.Native.Nat.{_+_, _*_, _≤_, _<_};
 ghost use lib.ListN.{length, take, drop, getD};
 ghost use Rattle.hash.specs.Sha256.{sha256};
 ghost use Rattle.lines.specs.Line.{before, after, tab};
 ghost use Rattle.tree.specs.LogTree.{logLeafString, zeros};
-ghost use Rattle.tree.specs.LogText.{numberIn, valueDigits, valueIn, valuesIn, entryIn, nodesIn};
+ghost use Rattle.tree.specs.LogText.{numberIn, valueDigits, valueIn, valuesIn, entryIn, lineBehind, entryPlaces, nodesIn};
 use hash::strings::digest_40;
 use lines::hex::read_digest;
 use lines::line::span;
 use lines::number::Number;
 use lines::number::read_number;
 
-// The digits of a value; the word of a node line and its tab; a node line with its newline.
+// The digits of a value; the word of an entry line and its tab, and of a node line; a node line
+// with its newline.
 pub(crate) const VALUE_DIGITS: usize = 64;
+
+pub(crate) const ENTRY_WORD: usize = 6;
 
 const NODE_WORD: usize = 5;
 
@@ -32,33 +35,55 @@ pub fn value_at(s: &[u8], at: usize) -> [u8; 32]
     read_digest(&s[at..at + VALUE_DIGITS]).value
 }
 
-// The position of the entry that stands at a place.
-pub fn position_at(text: &[u8], place: u32) -> u64
+// The position of the entry whose fields stand at a place.
+pub fn position_at(text: &[u8], place: usize) -> u64
     ensures { λ r. ⌜ r ≡ entryIn (drop place (now (text .entry))) .position ⌝ }
 {
-    number_at(text, place as usize)
+    number_at(text, place)
 }
 
 // Its time.
-pub fn time_at(text: &[u8], place: u32) -> u64
+pub fn time_at(text: &[u8], place: usize) -> u64
     ensures { λ r. ⌜ r ≡ entryIn (drop place (now (text .entry))) .time ⌝ }
 {
-    number_at(text, after_tab(text, place as usize))
+    number_at(text, after_tab(text, place))
 }
 
 // Its prefix root.
-pub fn prefix_root_at(text: &[u8], place: u32) -> [u8; 32]
+pub fn prefix_root_at(text: &[u8], place: usize) -> [u8; 32]
     ensures { λ r. ⌜ r ≡ entryIn (drop place (now (text .entry))) .prefixRoot ⌝ }
 {
-    let time = after_tab(text, place as usize);
+    let time = after_tab(text, place);
     value_at(text, after_tab(text, time))
 }
 
 // The value of its leaf (001, 10.8).
-pub(crate) fn leaf_at(text: &[u8], place: u32) -> [u8; 32]
+pub(crate) fn leaf_at(text: &[u8], place: usize) -> [u8; 32]
     ensures { λ r. ⌜ r ≡ sha256 (logLeafString (entryIn (drop place (now (text .entry))))) ⌝ }
 {
     digest_40(time_at(text, place), prefix_root_at(text, place))
+}
+
+// Where the line behind that at a place begins.
+pub(crate) fn line_behind(text: &[u8], at: usize) -> usize
+    requires { ⌜ at < length (now text) ⌝ }
+    ensures { λ r. ⌜ r ≡ lineBehind (now (text .entry)) at ⌝ }
+{
+    span(text, at, b'\n') + 1
+}
+
+// Where the first entry line from a line's start on begins, or the text's end where there is none.
+pub(crate) fn entry_from(text: &[u8], start: usize) -> usize
+    ensures { λ r. ⌜ r ≡ getD (entryPlaces (now (text .entry)) start) 0 (length (now (text .entry))) ⌝ }
+{
+    let mut at: usize = start;
+    while at < text.len() {
+        if text[at] == b'e' {
+            return at;
+        }
+        at = line_behind(text, at);
+    }
+    text.len()
 }
 
 // The value of a node line, or zeros where there are not so many.

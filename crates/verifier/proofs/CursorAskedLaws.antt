@@ -1,4 +1,5 @@
--- Functions that take a reader apart and ask a cursor at its place of its text (src/reading.rt): each says of the reader what the cursor's function says of text and place.
+-- Functions that take a reader apart and ask a cursor at its place of its text (src/reading.rt):
+-- each says of the reader what the cursor's function says of text and place.
 use mathlib.Core.Path.{refl}
 use mathlib.Core.List.{List, [], _∷_}
 use Prim.Native.Nat.{ℕ, _<_, _^_}
@@ -86,7 +87,8 @@ module _ (R : RattleType) (Says : Bytes → ℕ → R .Denot → Type 0) where
       abbrev asked : CursorCall .Ghost
       asked = at 1 taken kept (λ κs. R) (λ κs a r. Says (now (a .1 .0)) (a .0 .at) r) 𝓤 H A (κ, tt) (q, tt) (cursor, (d .text, tt)) handed
 
-      -- one copy of the reader is opened: its text goes to the function called, with a cursor at its place
+      -- one copy of the reader is opened: its text goes to the function called, with a cursor at
+      -- its place
       hands : d .at < 2 ^ 64 → ent 𝓤 (Entry R Same 𝓤 H A W κ q d) (sep 𝓤 (CursorCall .pre asked) (sem 𝓤 H A (Held κ d (T′.lowered d))))
       hands fits =
           qed W (raw (Entry R Same 𝓤 H A W κ q d) ∷ []) ∵ use1 W (‵ (Held κ d (T′.lowered d)) ⊛ Token 𝓤 A κ q) (begins R Same 𝓤 H A W κ q d) $ split ! $

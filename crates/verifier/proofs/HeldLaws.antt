@@ -1,4 +1,5 @@
--- What a text and a reader that holds it own (src/reading.rt): each can be copied, and one is had of the other.
+-- What a text and a reader that holds it own (src/reading.rt): each can be copied, and one is had
+-- of the other.
 use mathlib.Core.Path.{_≡_, refl, sym, subst}
 use mathlib.Core.List.{List, [], _∷_}
 use Prim.Native.Nat.{ℕ}

@@ -1,4 +1,5 @@
--- Reading on (specs/Reading.antt), computed: a line that a newline ends, an empty one, what is open, and a place beyond the end.
+-- Reading on (specs/Reading.antt), computed: a line that a newline ends, an empty one, what is
+-- open, and a place beyond the end.
 use mathlib.Core.Path.{_≡_, refl}
 use mathlib.Core.List.{[], _∷_}
 use mathlib.Core.Option.{none, some}

@@ -1,4 +1,5 @@
--- Functions that take a text and a place and make a reader (src/reading.rt): what they have at entry and owe at exit, and what their callers have.
+-- Functions that take a text and a place and make a reader (src/reading.rt): what they have at
+-- entry and owe at exit, and what their callers have.
 use mathlib.Core.Path.{refl}
 use mathlib.Core.List.{List, [], _∷_}
 use Prim.Native.Nat.{ℕ, _<_, _^_}

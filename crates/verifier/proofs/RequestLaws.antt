@@ -1,4 +1,5 @@
--- Laws of a request's text (specs/Request.antt): one for each way in which the reading of its fields, and of its line, ends.
+-- Laws of a request's text (specs/Request.antt): one for each way in which the reading of its
+-- fields, and of its line, ends.
 use mathlib.Core.Path.{_≡_, refl, sym, _∙_, ap}
 use mathlib.Core.Bool.{Bool, true, false}
 use mathlib.Core.List.{List, [], _∷_}
@@ -25,10 +26,11 @@ use Rattle.rules.specs.Limits.{numberBound, requestLimit}
 use Rattle.rules.specs.Response.{search, monitor}
 use Rattle.rules.specs.Program.{Request, requestOf, readRequestLine, brokenRequest, readRequest}
 use Rattle.inputs.proofs.FrontLaws.{put-first}
-use Rattle.verifier.specs.declared.request.Asked.{Asked}
-use Rattle.verifier.specs.declared.request.Asked.the-variants.{Search, Monitor}
+use Rattle.checks.specs.declared.call.AskedKind.{AskedKind}
+use Rattle.checks.specs.declared.call.AskedKind.the-variants.{Search, Monitor}
 use Rattle.verifier.specs.declared.request.Request.{Request as RequestBlock}
-use Rattle.verifier.specs.Request.{identifierRoom, askedKind, requestIn, IsFields}
+use Rattle.checks.specs.Calls.{askedKind}
+use Rattle.verifier.specs.Request.{identifierRoom, requestIn, IsFields}
 
 -- ---- the fields after the kind
 
@@ -45,7 +47,7 @@ abbrev requestFields : List Field
 requestFields = bytes anyLength ∷ clockFields
 
 -- where they do not read, the request is broken
-unread : (asked : Asked) (l : Bytes) (at : ℕ) (r : RequestBlock) → readFields requestFields (fieldsFrom l at) ≡ none → requestIn r ≡ brokenRequest
+unread : (asked : AskedKind) (l : Bytes) (at : ℕ) (r : RequestBlock) → readFields requestFields (fieldsFrom l at) ≡ none → requestIn r ≡ brokenRequest
     → IsFields asked l at r
 unfolding Option·elim
 unread asked l at r e b = rw e b
@@ -65,7 +67,7 @@ module _ (l : Bytes) (at n next : ℕ) (e : readAt spelledLength l at ≡ some (
       let (b, r, k, f) = bytes-fit l anyLength at n next e refl in
       (b, r, k, field-on l (bytes anyLength) clockFields at b next f)
 
-module _ (asked : Asked) (l : Bytes) (at : ℕ) where
+module _ (asked : AskedKind) (l : Bytes) (at : ℕ) where
   -- without an identifier they do not
   pub fields-no-identifier : (r : RequestBlock) → readAt spelledLength l at ≡ none → requestIn r ≡ brokenRequest → IsFields asked l at r
   fields-no-identifier r e b = unread asked l at r (field-off l (bytes anyLength) clockFields at (bytes-none l anyLength at e)) b

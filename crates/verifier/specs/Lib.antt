@@ -1,4 +1,3 @@
-pub mod Exports
 pub mod Reading
 pub mod Request
 pub mod Files

@@ -6,7 +6,8 @@ use Rattle.lines.specs.Cursor.{leftAt, lineAt, behind}
 use Rattle.lines.specs.Readings.{lineOf}
 use Rattle.verifier.specs.declared.reading.ReadOn.{ReadOn as ReadOnBlock}
 
--- a line, if a newline ends it: where it stops and where the next one begins; the place behind it; how many bytes are left from there on
+-- a line, if a newline ends it: where it stops and where the next one begins; the place behind it;
+-- how many bytes are left from there on
 pub record ReadOn : Type 0 where
   pub line : Option (ℕ × ℕ)
   pub place : ℕ

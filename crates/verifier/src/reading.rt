@@ -1,4 +1,5 @@
-// A text kept together with a place in it (paper 01, Response lines): the reader through which the program reads a response on, line by line.
+// A text kept together with a place in it (paper 01, Response lines): the reader through which the
+// program reads a response on, line by line.
 ghost use mathlib.Core.Path.{_≡_};
 ghost use Rattle.lines.specs.Cursor.{leftAt, lineAt, behind};
 ghost use Rattle.lines.specs.Readings.{lineOf};

@@ -1,10 +1,12 @@
-// A request to the program (paper 01, Sixteen numbers): one line with the kind of the call, the identifier that was sent and the clock.
+// A request to the program (paper 01, Sixteen numbers): one line with the kind of the call, the
+// identifier that was sent and the clock.
 ghost use mathlib.Core.Path.{_≡_};
 ghost use Prim.Native.Nat.{_≤_};
 ghost use lib.ListN.{length};
 ghost use Rattle.rules.specs.Limits.{requestLimit};
 ghost use Rattle.rules.specs.Program.{readRequest, brokenRequest};
 ghost use Rattle.verifier.specs.Request.{identifierRoom, requestIn, IsFields};
+use checks::call::AskedKind;
 use inputs::response_lines::KtLine;
 use lines::cursor::Cursor;
 use lines::cursor::NextBytes;
@@ -13,16 +15,9 @@ use lines::cursor::NextNumber;
 use lines::cursor::NextWord;
 use lines::writing::put_spelled;
 
-// The kind of call that is asked for.
-pub(crate) enum Asked {
-    Search,
-    Monitor,
-    Nothing,
-}
-
 // A request; its identifier is the first bytes of its room.
 pub(crate) struct Request {
-    pub(crate) asked: Asked,
+    pub(crate) asked: AskedKind,
     pub(crate) identifier: [u8; Request::IDENTIFIER],
     pub(crate) length: usize,
     pub(crate) clock: u64,
@@ -51,16 +46,16 @@ pub(crate) fn read_request(text: &[u8]) -> Request
     }
     let line = &text[0..stop];
     if let NextWord::Same(next) = start.word(line, b"search") {
-        return with_fields(Asked::Search, line, next.at);
+        return with_fields(AskedKind::Search, line, next.at);
     }
     if let NextWord::Same(next) = start.word(line, b"monitor") {
-        return with_fields(Asked::Monitor, line, next.at);
+        return with_fields(AskedKind::Monitor, line, next.at);
     }
     broken()
 }
 
 // The request of a kind whose other fields stand in a line from a place on.
-fn with_fields(asked: Asked, line: &[u8], at: usize) -> Request
+fn with_fields(asked: AskedKind, line: &[u8], at: usize) -> Request
     requires { ⌜ length (now line) ≤ requestLimit ⌝ }
     ensures request { λ r. ⌜ IsFields asked (now (line .entry)) at r ⌝ }
     ensures within { λ r. ⌜ r .length ≤ identifierRoom ⌝ }
@@ -96,7 +91,7 @@ fn broken() -> Request
     ensures within { λ r. ⌜ r .length ≤ identifierRoom ⌝ }
 {
     Request {
-        asked: Asked::Nothing,
+        asked: AskedKind::Nothing,
         identifier: [0u8; Request::IDENTIFIER],
         length: KtLine::IDENTIFIER,
         clock: 0,

@@ -1,8 +1,7 @@
 //! Prints the small cases as theorems about the definitions of the calls, for `crates/cases/proofs/MadeCases.antt`.
 
 use compare::case::{Answer, Case};
-use compare::selection::{by_number, spread};
-use compare::small::blocks;
+use compare::selection::by_number;
 use honest_log::model::hex;
 use std::collections::{BTreeMap, BTreeSet};
 use std::env;
@@ -30,13 +29,6 @@ unfoldable pub answer : Bytes → Inputs → ℕ × (Option Bytes × Option Byte
 answer text i = answered (judge (readState text) i)
 "#;
 
-/// How many refusals of each number, and how many acceptances, become theorems.
-const REFUSALS: usize = 3;
-const ACCEPTANCES: usize = 10;
-
-/// The most SHA-256 blocks that a theorem may ask for, so that the checker need not compute for long.
-const BLOCKS: usize = 14;
-
 /// Written out longer than this, what stands in several theorems gets a name.
 const LONG: usize = 30;
 
@@ -54,13 +46,16 @@ fn main() {
     }
 }
 
-/// Cheap cases of every number.
-fn chosen(mut cases: Vec<Case>) -> Vec<Case> {
-    cases.retain(|case| blocks(case) <= BLOCKS);
-    let groups = by_number(cases).into_iter().enumerate();
-    groups
-        .flat_map(|(number, cases)| spread(cases, if number == 0 { ACCEPTANCES } else { REFUSALS }))
-        .collect()
+/// Of every number the first search and the first monitoring.
+fn chosen(cases: Vec<Case>) -> Vec<Case> {
+    by_number(cases).into_iter().flat_map(firsts).collect()
+}
+
+/// The first of each kind.
+fn firsts(mut cases: Vec<Case>) -> Vec<Case> {
+    let mut seen = BTreeSet::new();
+    cases.retain(|case| seen.insert(case.inputs.kind.word()));
+    cases
 }
 
 /// A byte string as it is written, and what it is.

@@ -6,11 +6,11 @@ use borrow.Author.Needs.{needs}
 use Rattle.checks.proofs.given.is_own.Statement.{statement}
 use Rattle.checks.proofs.given.is_own.Tie as tie
 
-same-kind-requires : tie.Need-same-kind-requires
-same-kind-requires c κs = search needs
+is-kind-asked-requires : tie.Need-is-kind-asked-requires
+is-kind-asked-requires c κs = search needs
 
 returns : tie.Need-returns
-returns c = kind-foreign _ _ _ _ _ (sym (c .before .same-kind .ensures) ∙ not-true _ (c .if1 .taken))
+returns c = kind-foreign _ _ _ _ _ (sym (c .before .is-kind-asked .ensures) ∙ not-true _ (c .if1 .taken))
 
 of-requires : tie.Need-of-requires
 of-requires c κs = search needs
@@ -22,7 +22,7 @@ returns-2 : tie.Need-returns-2
 returns-2 c =
     let E = c .before .before .before in
     let s = E .before .before .before .before .before in
-    identifier-foreign _ _ _ _ _ (s .pre .0) (sym (E .before .same-kind .ensures) ∙ not-false _ (E .if1 .left)) _ (c .before .before .of .ensures)
+    identifier-foreign _ _ _ _ _ (s .pre .0) (sym (E .before .is-kind-asked .ensures) ∙ not-false _ (E .if1 .left)) _ (c .before .before .of .ensures)
     (sym (c .before .spells .ensures) ∙ not-true _ (c .if2 .taken))
 
 of-requires-2 : tie.Need-of-requires-2
@@ -36,14 +36,14 @@ returns-3 c =
     let F = c .before .before in
     let E = F .before .before .before in
     let s = E .before .before .before .before .before in
-    label-decides _ _ _ _ _ (s .pre .0) (sym (E .before .same-kind .ensures) ∙ not-false _ (E .if1 .left)) _ (F .before .before .of .ensures)
+    label-decides _ _ _ _ _ (s .pre .0) (sym (E .before .is-kind-asked .ensures) ∙ not-false _ (E .if1 .left)) _ (F .before .before .of .ensures)
     (sym (F .before .spells .ensures) ∙ not-false _ (F .if2 .left)) _ _ (c .before .of2 .ensures) (c .spells2 .ensures)
 
 pub is-own-spec : {M : Type 1} → statement M
 is-own-spec =
     tie.close
     (tie.spec
-    same-kind-requires
+    is-kind-asked-requires
     returns
     of-requires
     spells-requires

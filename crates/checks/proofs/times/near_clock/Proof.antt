@@ -8,10 +8,14 @@ sub-result : tie.Need-sub-result
 sub-result c = search needs
 
 returns : tie.Need-returns
-returns c = let a = c .before .args in near-ahead (a .time) (a .clock) (a .ahead) (a .behind) (c .if1 .taken)
+returns c =
+    let a = c .before .args in
+    near-ahead (a .time) (a .clock) (a .ahead) (a .behind) (c .if1 .taken)
 
 returns-2 : tie.Need-returns-2
-returns-2 c = let a = c .before .args in near-behind (a .time) (a .clock) (a .ahead) (a .behind) (c .if1 .left)
+returns-2 c =
+    let a = c .before .args in
+    near-behind (a .time) (a .clock) (a .ahead) (a .behind) (c .if1 .left)
 
 pub near-clock-spec : {M : Type 1} → statement M
 near-clock-spec = tie.close (tie.spec sub-result returns returns-2)

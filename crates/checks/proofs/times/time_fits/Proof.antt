@@ -5,10 +5,10 @@ use Rattle.checks.proofs.times.time_fits.Statement.{statement}
 use Rattle.checks.proofs.times.time_fits.Tie as tie
 
 returns : tie.Need-returns
-returns c = rw (lt-ltb (c .before .args .position) (c .before .args .size) (c .if1 .taken)) refl
+returns c = rw (lt-ltb (c .before .args .position) (c .before .args .kept-size) (c .if1 .taken)) refl
 
 returns-2 : tie.Need-returns-2
-returns-2 c = rw (le-ltb (c .before .args .position) (c .before .args .size) (c .if1 .left)) refl
+returns-2 c = rw (le-ltb (c .before .args .position) (c .before .args .kept-size) (c .if1 .left)) refl
 
 pub time-fits-spec : {M : Type 1} → statement M
 time-fits-spec = tie.close (tie.spec returns returns-2)

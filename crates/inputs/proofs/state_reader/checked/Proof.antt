@@ -41,19 +41,19 @@ is-valid-requires c κs = search needs
 
 returns-4 : tie.Need-returns-4
 returns-4 c st g =
-    let t = c .before .before .before .before .before .before in
+    let t = c .before .before .before .before in
     let e = sym (c .before .is-valid .ensures) ∙ c .if4 .taken in
-    accepted _ _ _ st g (t .before .before .before .before .if1 .left) (t .before .before .if2 .left) (t .if3 .left) e
+    accepted _ _ _ st g (t .before .before .before .before .before .if1 .left) (t .before .before .before .if2 .left) (t .if3 .left) e
 
 refused-requires-4 : tie.Need-refused-requires-4
 refused-requires-4 c κs = search needs
 
 returns-5 : tie.Need-returns-5
 returns-5 c st g =
-    let t = c .before .before .before .before .before .before .before in
+    let t = c .before .before .before .before .before in
     let e = sym (c .before .before .is-valid .ensures) ∙ c .before .if4 .left in
     c .refused4 .ensures
-    ∙ ap numberedBlock (refused-invalid _ _ _ st g (t .before .before .before .before .if1 .left) (t .before .before .if2 .left) (t .if3 .left) e)
+    ∙ ap numberedBlock (refused-invalid _ _ _ st g (t .before .before .before .before .before .if1 .left) (t .before .before .before .if2 .left) (t .if3 .left) e)
 
 pub checked-spec : {M : Type 1} → statement M
 checked-spec =

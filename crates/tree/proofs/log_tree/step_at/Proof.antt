@@ -9,7 +9,7 @@ add-end : tie.Need-add-end
 add-end c = search needs
 
 returns : tie.Need-returns
-returns c = step-shown (c .before .before .args .size) _ _ (c .before .before .pre) _ (c .before .if1 .taken) (c .if2 .taken)
+returns c = step-shown (c .before .before .args .kept-size) _ _ (c .before .before .pre) _ (c .before .if1 .taken) (c .if2 .taken)
 
 returns-2 : tie.Need-returns-2
 returns-2 c = step-parent _ _ _ (c .before .before .pre) _ (c .before .if1 .taken) (c .if2 .left)

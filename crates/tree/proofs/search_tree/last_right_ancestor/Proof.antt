@@ -7,7 +7,7 @@ use Rattle.tree.proofs.search_tree.last_right_ancestor.Statement.{state
 use Rattle.tree.proofs.search_tree.last_right_ancestor.Tie as tie
 
 returns : tie.Need-returns
-returns c = sym (ancestor-last-empty (c .before .args .n) (c .before .args .p) (c .if1 .taken))
+returns c = sym (ancestor-last-empty (c .before .args .tree-size) (c .before .args .p) (c .if1 .taken))
 
 parting-requires : tie.Need-parting-requires
 parting-requires c κs = search needs
@@ -18,7 +18,7 @@ block-end-requires c κs = search needs
 returns-2 : tie.Need-returns-2
 returns-2 c =
     let a = c .before .before .before .args in
-    c .block-end .ensures ∙ sym (ancestor-last (a .n) (a .p) (c .before .parting .result) (parts (c .before .parting .ensures)))
+    c .block-end .ensures ∙ sym (ancestor-last (a .tree-size) (a .p) (c .before .parting .result) (parts (c .before .parting .ensures)))
 
 pub last-right-ancestor-spec : {M : Type 1} → statement M
 last-right-ancestor-spec =

@@ -1,4 +1,5 @@
--- `verifier::answer_line::put_counts` meets its contract: each number after its tab, and a newline, each after what is written before it.
+-- `verifier::answer_line::put_counts` meets its contract: each number after its tab, and a newline,
+-- each after what is written before it.
 use mathlib.Core.List.{[], _∷_, _++_}
 use borrow.Author.Needs.{needs}
 use Rattle.lines.specs.Number.{decimal}
@@ -60,10 +61,10 @@ returns c =
     let k = g .before .before in
     let w = k .before .before .before in
     let a = w .before .before .before .before in
-    let first = tab ∷ decimal (a .args .size) in
+    let first = tab ∷ decimal (a .args .tree-size) in
     let second = tab ∷ decimal (a .args .pairs) in
     let room = room-first (first ++ second) (newline ∷ []) _ _ (a .pre) in
-    let one = both-put (tab ∷ []) (decimal (a .args .size)) _ _ (room-first first second _ _ room) (w .put-bytes .ensures) (k .next-place .ensures)
+    let one = both-put (tab ∷ []) (decimal (a .args .tree-size)) _ _ (room-first first second _ _ room) (w .put-bytes .ensures) (k .next-place .ensures)
     (g .put-decimal .ensures) (f .next-place2 .ensures) in
     let two = both-put (tab ∷ []) (decimal (a .args .pairs)) _ _ (room-then second one room) (v .put-bytes2 .ensures) (m .next-place3 .ensures)
     (d .put-decimal2 .ensures) (n .next-place4 .ensures) in

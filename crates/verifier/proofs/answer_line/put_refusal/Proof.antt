@@ -1,4 +1,5 @@
--- `verifier::answer_line::put_refusal` meets its contract: the word and a tab, the number, a newline, each after what is written before it.
+-- `verifier::answer_line::put_refusal` meets its contract: the word and a tab, the number, a
+-- newline, each after what is written before it.
 use mathlib.Core.List.{[], _∷_, _++_}
 use Prim.Native.Nat.{_+_, _≤_}
 use native.Mathlib.Omega.{arith}

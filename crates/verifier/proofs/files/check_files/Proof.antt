@@ -1,12 +1,10 @@
--- `verifier::files::check_files` meets its contract: files that were not read or are too long are refused, and else the call that the request asks for is made.
+-- `verifier::files::check_files` meets its contract: files that were not read or are too long are
+-- refused, and else the call that the request asks for is made.
 use mathlib.Core.Path.{_≡_, sym, _∙_}
 use mathlib.Core.Bool.{true}
-use Prim.Native.Nat.{_≤_}
-use lib.ListN.{length}
 use borrow.Author.Tests.{not-true, not-false}
-use Rattle.rules.specs.Limits.{stateTextLimit, requestLimit}
 use Rattle.verifier.specs.Files.{areWithin}
-use Rattle.verifier.proofs.FilesLaws.{unread-refused, over-refused, refusal-told, texts-within, call-told}
+use Rattle.verifier.proofs.FilesLaws.{unread-refused, over-refused, refusal-told, request-within, call-told}
 use borrow.Author.Needs.{needs}
 use Rattle.verifier.proofs.files.check_files.Statement.{statement}
 use Rattle.verifier.proofs.files.check_files.Tie as tie
@@ -20,12 +18,6 @@ fit : (P : tie.Else2)
     → let a = start P .args in
     areWithin (a .request .now) (a .response .now) (a .configuration .now) (a .state .now) (a .outputs .now) (a .signed .now) ≡ true
 fit P = sym (P .before .files-fit .ensures) ∙ not-false _ (P .if2 .left)
-
--- nor are request and state
-texts : (P : tie.Else2) → let a = start P .args in (length (a .request .now) ≤ requestLimit) × (length (a .state .now) ≤ stateTextLimit)
-texts P =
-    let a = start P .args in
-    texts-within (a .request .now) (a .response .now) (a .configuration .now) (a .state .now) (a .outputs .now) (a .signed .now) (fit P)
 
 refused-requires : tie.Need-refused-requires
 refused-requires c κs = search needs
@@ -51,10 +43,12 @@ returns-2 c =
     (over-refused (a .unread) _ _ _ _ _ _ (F .before .if1 .left) (sym (F .files-fit .ensures) ∙ not-true _ (T .if2 .taken))) _ _ _ _ _ (c .refused2 .ensures)
 
 read-request-requires : tie.Need-read-request-requires
-read-request-requires c κs = texts c .0
+read-request-requires c κs =
+    let a = start c .args in
+    request-within (a .request .now) (a .response .now) (a .configuration .now) (a .state .now) (a .outputs .now) (a .signed .now) (fit c)
 
 state-in-requires : tie.Need-state-in-requires
-state-in-requires c κs = texts (c .before) .1
+state-in-requires c κs = search needs
 
 judged-requires : tie.Need-judged-requires
 judged-requires c κs = search needs

@@ -1,4 +1,5 @@
--- `verifier::reading::read_on` meets its contract: a reader is made and asked for a line; the one behind the line is asked for its place and for what is left.
+-- `verifier::reading::read_on` meets its contract: a reader is made and asked for a line; the one
+-- behind the line is asked for its place and for what is left.
 use mathlib.Core.Path.{_≡_, refl, ap₂, _∙_}
 use mathlib.Core.List.{[], _∷_}
 use Prim.Native.Nat.{ℕ, _<_, _^_}

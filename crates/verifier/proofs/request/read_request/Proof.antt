@@ -1,4 +1,5 @@
--- `verifier::request::read_request` meets its contract: there is one line; its word tells the kind, and the other fields are left to `with_fields`.
+-- `verifier::request::read_request` meets its contract: there is one line; its word tells the kind,
+-- and the other fields are left to `with_fields`.
 use mathlib.Core.Path.{sym, _∙_, ap}
 use Prim.Native.Nat.{_-_, _≤_}
 use native.Mathlib.Omega.{arith}

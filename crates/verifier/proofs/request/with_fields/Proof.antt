@@ -1,4 +1,5 @@
--- `verifier::request::with_fields` meets its contract: after the identifier and the clock the line ends; each test that fails is a way in which they are not read.
+-- `verifier::request::with_fields` meets its contract: after the identifier and the clock the line
+-- ends; each test that fails is a way in which they are not read.
 use mathlib.Core.Path.{_≡_, sym, _∙_, ap}
 use mathlib.Core.Option.{some}
 use native.Mathlib.Omega.{arith}

@@ -1,4 +1,5 @@
--- `verifier::reading::Reader::behind` meets its contract: the cursor is asked for the place, and one copy of the reader is opened, whose text goes into the reader that is made.
+-- `verifier::reading::Reader::behind` meets its contract: the cursor is asked for the place, and
+-- one copy of the reader is opened, whose text goes into the reader that is made.
 use mathlib.Core.Path.{_≡_, refl, sym, subst}
 use mathlib.Core.List.{List, [], _∷_}
 use Prim.Native.Nat.{ℕ}

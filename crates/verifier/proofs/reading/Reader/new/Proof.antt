@@ -1,4 +1,5 @@
--- `verifier::reading::Reader::new` meets its contract: one copy of what the text owns goes into the reader, and one stays with the caller.
+-- `verifier::reading::Reader::new` meets its contract: one copy of what the text owns goes into the
+-- reader, and one stays with the caller.
 use mathlib.Core.Path.{_≡_, refl}
 use mathlib.Core.List.{[], _∷_}
 use Prim.Native.Nat.{ℕ, _<_, _^_}

@@ -1,0 +1,3 @@
+pub mod ExportLaws
+pub mod CallExportLaws
+pub mod SignedTextExportLaws
