@@ -1,5 +1,6 @@
--- The calls as C programs make them, and the program: what is answered, the lent bytes afterwards, the files written. A call whose outcome was computed
--- already is not computed again: what it leaves follows from its outcome.
+-- The calls as C programs make them, and the program: what is answered, the lent bytes afterwards,
+-- the files written. A call whose outcome was computed already is not computed again: what it
+-- leaves follows from its outcome.
 use mathlib.Core.Path.{_≡_, refl, sym, ap, _∙_}
 use mathlib.Core.List.{[], _∷_, _++_}
 use mathlib.Core.Option.{Option, none, some, Option·getD, Option·some-injective}
@@ -11,12 +12,17 @@ use Rattle.rules.specs.Limits.{stateTextLimit}
 use Rattle.rules.specs.State.{State}
 use Rattle.rules.specs.StateText.{readState, writeState}
 use Rattle.rules.specs.Refusals.{Inputs, Judgement, refused, judge}
-use Rattle.rules.specs.Calls.{Arguments, libraryInputs, judgeSearch, judgeMonitoring, nextState, stateAfter, valueOf, writtenFirst, textOf, answerWord, outputAfter, textAfter, textJudged, roomJudged, ktSearch, ktMonitor, ktSignedText}
+use Rattle.rules.specs.Calls.{Arguments, inputsWithin, libraryInputs, judgeCall, judgeSearch, judgeMonitoring}
+use Rattle.rules.specs.Calls.{nextState, stateAfter, valueOf, writtenFirst, textOf, answerWord, outputAfter}
+use Rattle.rules.specs.Calls.{textAfter, textJudged, roomJudged, ktCall, ktSearch, ktMonitor, ktSignedText}
 use Rattle.rules.specs.Program.{judgeFiles, printed}
 use Rattle.rules.proofs.RefusalLaws.{zero-accepts}
 use Rattle.rules.proofs.Running.{x, opened}
-use Rattle.rules.proofs.Cases.{Accepted, identifier, configuration, sheet-0, sheet-1, signed, response, head-line, end-line, honest, new, after-search, accepted-search, bare-entry, bare-root, state-text, folder, old-state, texts}
-use Rattle.cases.proofs.HashedCases.{monitoring, after-monitoring, accepted-monitoring, number-of, state-of, value-of}
+use Rattle.rules.proofs.Cases.{Accepted, identifier, configuration, sheet-0, sheet-1, signed, response}
+use Rattle.rules.proofs.Cases.{head-line, end-line, honest, new, after-search, accepted-search, bare-entry}
+use Rattle.rules.proofs.Cases.{bare-root, state-text, folder, old-state, texts}
+use Rattle.cases.proofs.HashedCases.{monitoring, after-monitoring, accepted-monitoring, number-of}
+use Rattle.cases.proofs.HashedCases.{state-of, value-of}
 
 abbrev new-text : Bytes
 new-text = ascii "size\t0\t0\t61\n"
@@ -130,13 +136,13 @@ computed =
 
 -- a search lent just enough for the value and for the new text
 pub search-answered : seen (7 ∷ []) enough (ktSearch new-text arguments signed (7 ∷ []) enough) ≡ search-left
-unfolding ktSearch judgeSearch libraryInputs
+unfolding ktSearch ktCall judgeCall judgeSearch libraryInputs inputsWithin
 search-answered =
     ap (seen (7 ∷ []) enough)
     (computed .search-judged (judge (readState new-text) honest) ∙ ap (λ (s : Option State). judge s honest) (computed .state))
     ∙ accepted-seen new honest after-search (some (x "78")) accepted-search (7 ∷ []) enough ∙ computed .search-seen
 
--- the bytes behind the value stay
+-- the bytes after the value stay
 pub value-first : outputAfter (7 ∷ 7 ∷ 7 ∷ []) (judge new honest) ≡ 0x78 ∷ 7 ∷ 7 ∷ []
 unfolding outputAfter
 value-first =
@@ -145,21 +151,21 @@ value-first =
 -- one byte less for the new text is 1, and every lent byte stays
 pub search-without-room : seen (7 ∷ 7 ∷ 7 ∷ []) too-few (ktSearch new-text arguments signed (7 ∷ 7 ∷ 7 ∷ []) too-few)
     ≡ record { answer = 1; output = 7 ∷ 7 ∷ 7 ∷ []; text = too-few }
-unfolding ktSearch
+unfolding ktSearch ktCall judgeCall judgeSearch
 search-without-room =
     ap (seen (7 ∷ 7 ∷ 7 ∷ []) too-few) (computed .search-roomless (judgeSearch (readState new-text) arguments signed (7 ∷ 7 ∷ 7 ∷ [])))
     ∙ computed .refusal-seen
 
 -- monitoring has no output
 pub monitoring-answered : seen [] enough (ktMonitor state-text monitoring-arguments (monitoring .signedText) enough) ≡ monitoring-left
-unfolding ktMonitor judgeMonitoring libraryInputs
+unfolding ktMonitor ktCall judgeCall judgeMonitoring libraryInputs inputsWithin
 monitoring-answered =
     ap (seen [] enough)
     (computed .monitoring-judged (judge (readState state-text) monitoring) ∙ ap (λ (s : Option State). judge s monitoring) (texts .state-read))
     ∙ accepted-seen (some after-search) monitoring after-monitoring none accepted-monitoring [] enough ∙ computed .monitoring-seen
 
--- the signed text of monitoring goes where the offset says, and the bytes around it stay; at an offset with one byte too little after it nothing is
--- written; a kind number that is no kind is 6
+-- the signed text of monitoring goes where the offset says, and the bytes around it stay; at an
+-- offset with one byte too little after it nothing is written; a kind number that is no kind is 6
 pub record SignedTexts : Type 0 where
   pub placed : ktSignedText 1 new-text bare-arguments (replicate 80 7) 3 ≡ (73, replicate 3 7 ++ bare-signed ++ replicate 4 7)
   pub no-room : ktSignedText 1 new-text bare-arguments (replicate 80 7) 8 ≡ (16, replicate 80 7)

@@ -1,4 +1,5 @@
--- Whole calls that hash: monitoring after the accepted search, refusals with 12 and 13, and two chains of calls.
+-- Whole calls that hash: monitoring after the accepted search, refusals with 12 and 13, and two
+-- chains of calls.
 use mathlib.Core.Path.{_≡_, refl, sym, ap, ap₂, _∙_}
 use mathlib.Core.List.{List, [], _∷_, _++_, map, flatMap}
 use mathlib.Core.Option.{Option, none, some, Option·map, Option·some-injective}
@@ -13,9 +14,13 @@ use Rattle.rules.specs.ResponseText.{readResponse}
 use Rattle.rules.specs.Refusals.{Inputs, Call, refused, passed, judge}
 use Rattle.rules.specs.Calls.{numberOf, stateAfter, valueOf}
 use Rattle.rules.specs.Consistency.{acceptedCalls, shownBy}
-use Rattle.rules.proofs.RefusalLaws.{accepted-meaning, readings-were, zero-accepts, chain-accepted, chain-refused}
+use Rattle.rules.proofs.RefusalLaws.{accepted-meaning, readings-were, zero-accepts, chain-accepted}
+use Rattle.rules.proofs.RefusalLaws.{chain-refused}
 use Rattle.rules.proofs.Running.{x, pair, outcome, outcomeOf, opened}
-use Rattle.rules.proofs.Cases.{Refused, Accepted, identifier, configuration, sheet-0, sheet-1, signed, kt-line, head-line, target-line, step-lines, entry-line, in-line, nl-line, end-line, response, searching, honest, answering, new, watching, after-search, accepted-search}
+use Rattle.rules.proofs.Cases.{Refused, Accepted, identifier, configuration, sheet-0, sheet-1, signed}
+use Rattle.rules.proofs.Cases.{kt-line, head-line, target-line, step-lines, entry-line, in-line, nl-line}
+use Rattle.rules.proofs.Cases.{end-line, response, searching, honest, answering, new, watching, after-search}
+use Rattle.rules.proofs.Cases.{accepted-search}
 
 -- ---- monitoring: version 1 was added in a second entry, which stands on the right path of entry 0
 
@@ -41,7 +46,7 @@ monitoring =
     }
 
 abbrev pub after-monitoring : State
-after-monitoring = record { label = x "61"; size = 2; time = 1001; values = root-of-two ∷ []; monitoringMap = pair 1 0 ∷ [] }
+after-monitoring = record { label = x "61"; log = record { size = 2; timestamp = 1001; values = root-of-two ∷ [] }; monitoringMap = pair 1 0 ∷ [] }
 
 pub accepted-monitoring : Accepted (some after-search) monitoring after-monitoring none
 unfolding opened
@@ -119,7 +124,7 @@ unfolding opened
 monitored-again = refl
 
 abbrev first-entry : LogEntry
-first-entry = record { position = 0; time = 1000; prefixRoot = x "0470a5b73e5d7206f13eb1efafa43a2e45df17b7bca61b55cda03fac3c31c624" }
+first-entry = record { position = 0; timestamp = 1000; prefixRoot = x "0470a5b73e5d7206f13eb1efafa43a2e45df17b7bca61b55cda03fac3c31c624" }
 
 -- the entries that a response shows
 abbrev shownIn : Parts → List LogEntry

@@ -1,4 +1,5 @@
--- Laws of commitments: a commitment's text taken in parts, and what a field spells put into zeros (src/commitment.rt).
+-- Laws of commitments: a commitment's text taken in parts, and what a field encodes put into zeros
+-- (src/commitment.rt).
 use mathlib.Core.Path.{_≡_, refl, _∙_, ap}
 use mathlib.Core.List.{List, [], _∷_, _++_, append-assoc}
 use mathlib.Core.Option.{Option, none, some, Option·getD}
@@ -14,12 +15,12 @@ use Rattle.hash.proofs.BytesLaws.{padded-nil}
 use Rattle.hash.proofs.HasherLaws.{updated-append}
 use Rattle.hash.proofs.HmacLaws.{hmac-parts}
 use Rattle.lines.specs.Hex.{readHex}
-use Rattle.lines.specs.Writing.{placeAfterAny, putAny}
+use Rattle.lines.specs.Writing.{offsetAfterAny, putAny}
 use Rattle.lines.proofs.WritingLaws.{put-fits, put-some, put-none}
 use Rattle.rules.specs.Limits.{labelLimit, valueLimit}
 use Rattle.rules.specs.Encoding.{opaque}
 use Rattle.rules.specs.Commitment.{commitmentKey, commitmentValue, commitmentTo}
-use Rattle.inputs.specs.ResponseLines.{spelled}
+use Rattle.inputs.specs.ResponseLines.{decoded}
 use Rattle.inputs.proofs.FrontLaws.{put-first}
 
 -- ---- the text in parts
@@ -70,12 +71,12 @@ commitment-parts k opening label value g h i j l m r ek fl fv eg eh ei ej el em 
     er ∙ ap (ended k) f ∙ hmac-parts k (opening ++ n ++ label ++ v ++ value)
     ∙ rw (ek, append-assoc opening n label) (ap (hmac commitmentKey) (append-assoc (opening ++ (n ++ label)) v value))
 
--- ---- what a field spells, put into zeros
+-- ---- what a field encodes, put into zeros
 
--- the place after it
-place-first : (n : ℕ) (o : Option Bytes) → length (Option·getD o []) ≤ n → Option·getD (placeAfterAny (replicate n 0) 0 o) 0 ≡ length (Option·getD o [])
-place-first n none h = ap (λ (x : Option ℕ). Option·getD x 0) (put-none (replicate n 0) 0 none refl .0)
-place-first n (some b) h =
+-- the offset after it
+offset-first : (n : ℕ) (o : Option Bytes) → length (Option·getD o []) ≤ n → Option·getD (offsetAfterAny (replicate n 0) 0 o) 0 ≡ length (Option·getD o [])
+offset-first n none h = ap (λ (x : Option ℕ). Option·getD x 0) (put-none (replicate n 0) 0 none refl .0)
+offset-first n (some b) h =
     let e : 0 + length b ≡ length b = omega arith in
     let f = put-fits (replicate n 0) 0 b (omega (arith, length-replicate {A = ℕ} n 0)) .0 in
     ap (λ (x : Option ℕ). Option·getD x 0) (put-some (replicate n 0) 0 (some b) b refl .0 ∙ f) ∙ e
@@ -85,13 +86,13 @@ bytes-first : (n : ℕ) (o : Option Bytes) → length (Option·getD o []) ≤ n 
 bytes-first n none h = put-none (replicate n 0) 0 none refl .1 ∙ padded-nil n
 bytes-first n (some b) h = put-first n (some b) b refl h
 
-module _ (n : ℕ) (f : Bytes) (h : length (spelled f) ≤ n) where
+module _ (n : ℕ) (f : Bytes) (h : length (decoded f) ≤ n) where
   -- it fills the room with zeros after it
-  pub spelled-room : putAny (replicate n 0) 0 (readHex f) ≡ padded n (spelled f)
-  unfolding spelled
-  spelled-room = bytes-first n (readHex f) h
+  pub decoded-room : putAny (replicate n 0) 0 (readHex f) ≡ padded n (decoded f)
+  unfolding decoded
+  decoded-room = bytes-first n (readHex f) h
 
   -- and its length is told
-  pub spelled-stop : Option·getD (placeAfterAny (replicate n 0) 0 (readHex f)) 0 ≡ length (spelled f)
-  unfolding spelled
-  spelled-stop = place-first n (readHex f) h
+  pub decoded-stop : Option·getD (offsetAfterAny (replicate n 0) 0 (readHex f)) 0 ≡ length (decoded f)
+  unfolding decoded
+  decoded-stop = offset-first n (readHex f) h

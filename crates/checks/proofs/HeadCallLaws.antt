@@ -1,32 +1,35 @@
--- Laws of the head of a log that a response shows, from what is found at the places of its entries and nodes (src/head.rt).
+-- Laws of the walk over the log that a response shows: what is known of it in the text, the number
+-- of nodes that it takes, the head that it yields.
 use mathlib.Core.Path.{_≡_, refl, sym, ap, _∙_}
-use mathlib.Core.Bool.{true, not}
+use mathlib.Core.Bool.{true}
 use mathlib.Core.List.{List, [], _++_, map, append-nil}
 use mathlib.Core.Option.{some, Option·some-injective}
-use Prim.Native.Nat.{ℕ}
+use Prim.Native.Nat.{ℕ, _≤_, _<_}
+use native.Mathlib.Omega.{arith}
 use lib.Count.{ones}
-use borrow.Author.Tests.{eqb-true}
-use Rattle.lists.specs.Lists.{Bytes, runs}
+use lib.Dec.{ltb}
+use borrow.Author.Tests.{eqb-true, lt-ltb, le-leb}
+use Rattle.lists.specs.Lists.{Bytes, all, every, runs}
 use Rattle.lists.proofs.ChoiceLaws.{choose-true, bind-some, provided-true}
-use Rattle.lists.proofs.ListLaws.{equal-same}
+use Rattle.lists.proofs.ListLaws.{at-all, equal-same}
 use Rattle.lines.specs.Line.{endedLines, openRest, readLines, readLine, writeLine, leading}
 use Rattle.lines.specs.Readings.{partOf}
-use Rattle.lines.proofs.LineLaws.{lineText, write-line, line-read, linesText, text-written, joined-lines, leading-was, leading-each}
-use Rattle.tree.specs.LogTree.{keptValuesMet}
+use Rattle.lines.proofs.LineLaws.{lineText, write-line, line-read, linesText, text-written, joined-lines}
+use Rattle.lines.proofs.LineLaws.{leading-was, leading-each}
+use Rattle.tree.specs.LogTree.{Known, nodeCount, keptValuesMet}
 use Rattle.tree.specs.LogText.{nodesIn as nodesThere}
-use Rattle.tree.specs.LogHead.{Head, knownIn, isWalkable, walkOver, logHead, headWith}
-use Rattle.tree.specs.declared.log_head.LogHead.{LogHead}
+use Rattle.tree.specs.LogHead.{Head, positions, knownIn, isWalkable, walkOver, logHead, nodesAsked}
 use Rattle.tree.proofs.LogTextLaws.{IsValue, nodes-written}
-use Rattle.rules.specs.Limits.{hashLength}
-use Rattle.rules.specs.Response.{Parts}
+use Rattle.tree.proofs.AskedLaws.{Entries}
+use Rattle.rules.specs.Limits.{treeSizeLimit, hashLength}
+use Rattle.rules.specs.Response.{Parts, entryPositions, logEntry}
 use Rattle.rules.specs.ResponseText.{nodeForm, readNode}
-use Rattle.rules.specs.Refusals.{Call, known, logWalk, logRoot, historyDiffers}
-use Rattle.rules.proofs.AcceptedLaws.{logged-positions, size-was}
-use Rattle.inputs.specs.declared.response.Response.{Response}
-use Rattle.inputs.specs.Response.{entriesIn, nodesIn, partsIn, AllRead}
-use Rattle.checks.specs.Entries.{EntriesStand}
-use Rattle.checks.specs.Calls.{entriesText, IsHead, valuesBlock}
-use Rattle.checks.proofs.AskedCallLaws.{stand-walkable}
+use Rattle.rules.specs.Refusals.{Call, kindRules, asked, entriesAsked, known, logWalk, logRoot}
+use Rattle.rules.proofs.AcceptedLaws.{logged-positions, positions-asked, asked-entries}
+use Rattle.inputs.specs.Response.{nodesIn, partsIn, AllRead, Filled}
+use Rattle.checks.specs.declared.readings.Call.{Call as CallBlock}
+use Rattle.checks.specs.Calls.{IsCall, entriesText, Shapeable, valuesBlock}
+use Rattle.checks.proofs.ShownEntriesLaws.{entries-shown}
 
 -- ---- nodes
 
@@ -46,15 +49,55 @@ nodes-there s (none-left, ended) =
     let vs = leading readNode (endedLines s) .0 in
     let text : Bytes → Bytes = λ v. lineText nodeForm (v, tt) in
     let was = leading-was readNode text (λ l v e. node-read l v e .0) (endedLines s) in
-    let lines : endedLines s ≡ map text vs = was ∙ ap (λ (ls : List Bytes). map text vs ++ ls) none-left ∙ append-nil (map text vs) in
-    let whole : s ≡ linesText (endedLines s) = joined-lines s (endedLines s) (provided-true _ (endedLines s) (equal-same (openRest s) [] ended)) .0 in
-    let written = text-written (λ (v : Bytes). writeLine nodeForm (v, tt)) text (λ v. write-line nodeForm (v, tt)) vs in
-    ap nodesThere (whole ∙ ap linesText lines ∙ sym written) ∙ nodes-written vs (leading-each readNode IsValue (λ l v e. node-read l v e .1) (endedLines s))
+    let lines : endedLines s ≡ map text vs =
+    was ∙ ap (λ (ls : List Bytes). map text vs ++ ls) none-left ∙ append-nil (map text vs) in
+    let whole : s ≡ linesText (endedLines s) =
+    joined-lines s (endedLines s) (provided-true _ (endedLines s) (equal-same (openRest s) [] ended)) .0 in
+    let write : Bytes → Bytes = λ v. writeLine nodeForm (v, tt) in
+    let written = text-written write text (λ v. write-line nodeForm (v, tt)) vs in
+    ap nodesThere (whole ∙ ap linesText lines ∙ sym written)
+    ∙ nodes-written vs (leading-each readNode IsValue (λ l v e. node-read l v e .1) (endedLines s))
 
--- ---- the head
+-- ---- the walk of a call
 
--- what the rules say of it
-abbrev headOf : Call → Head
+-- what is known, whatever values are kept: the kept size, and the entries that the response shows
+record KnownBy (c : Call) (x : Known) : Type 0 where
+  size : x .size ≡ c .state .log .size
+  entries : x .entries ≡ map logEntry (c .parts .entries)
+
+module _ (c : Call) (x : Known) (h : KnownBy c x) where
+  -- the positions are those of the entry lines
+  known-positions : positions (x .entries) ≡ entryPositions (c .parts)
+  known-positions = ap positions (h .entries) ∙ logged-positions (c .parts .entries)
+
+  -- the walk over it is that of the call
+  walk-known : walkOver (c .parts .treeSize) x ≡ logWalk c
+  unfolding logWalk
+  walk-known = rw (h .size, known-positions) refl
+
+  -- there is a walk, where the size is possible and the entries are as asked
+  walkable : 0 < c .parts .treeSize → c .parts .treeSize ≤ treeSizeLimit
+      → c .state .log .size ≤ c .parts .treeSize
+      → entriesAsked (kindRules c .versionsFit) (asked c) (c .parts .entries) ≡ true
+      → isWalkable (c .parts .treeSize) x ≡ true
+  unfolding isWalkable every
+  walkable a b d e =
+      let n : ℕ = c .parts .treeSize in
+      let m : ℕ = c .state .log .size in
+      let i : Entries n (entryPositions (c .parts)) =
+      rw (positions-asked (kindRules c .versionsFit) (asked c) (c .parts .entries) e) (asked-entries c) in
+      let w : all (λ (p : ℕ). ltb p n) (entryPositions (c .parts)) ≡ true =
+      at-all (λ (p : ℕ). ltb p n) (entryPositions (c .parts)) (λ p j. lt-ltb p n (i .within p j)) in
+      rw (h .size, lt-ltb 0 n a, le-leb n treeSizeLimit b, le-leb m n d, known-positions, i .rises, w) refl
+
+  -- and then the number of nodes asked is that of the call
+  nodes-asked : isWalkable (c .parts .treeSize) x ≡ true
+      → nodesAsked (c .parts .treeSize) x ≡ nodeCount (logWalk c)
+  unfolding nodesAsked
+  nodes-asked w = choose-true _ _ _ w ∙ ap nodeCount walk-known
+
+-- the head that the rules speak of
+abbrev pub headOf : Call → Head
 headOf c =
     record {
       root = logRoot c;
@@ -62,42 +105,67 @@ headOf c =
       met = keptValuesMet (known c) (logWalk c) (c .parts .nodes);
     }
 
--- the walk of a call is that over what it knows
-walk-known : (c : Call) → walkOver (c .parts .size) (known c) ≡ logWalk c
-unfolding known logWalk
-walk-known c = rw (logged-positions (c .parts .entries)) refl
+-- it is that of what a call knows, where there is a walk
+head-walked : (c : Call) (x : Known) → x ≡ known c → isWalkable (c .parts .treeSize) x ≡ true
+    → logHead (c .parts .treeSize) x (c .parts .nodes) ≡ headOf c
+unfolding logHead logRoot known
+head-walked c x e w =
+    let b : KnownBy c (known c) = record { size = refl; entries = refl } in
+    ap (λ (y : Known). logHead (c .parts .treeSize) y (c .parts .nodes)) e
+    ∙ choose-true _ _ _ (rw (← e) w)
+    ∙ rw (walk-known c (known c) b) refl
 
--- the head over what a call knows
-head-walked : (c : Call) → isWalkable (c .parts .size) (known c) ≡ true → logHead (c .parts .size) (known c) (c .parts .nodes) ≡ headOf c
-unfolding logHead logRoot
-head-walked c w = choose-true _ _ _ w ∙ rw (walk-known c) refl
+-- ---- the walk of a response that was read
 
--- what is known at the places is what the call knows
-known-there : (c : Call) (s : Bytes) (places : List ℕ) (size : ℕ) (kept : Bytes) → c .state .size ≡ size → c .state .values ≡ runs (ones size) hashLength kept
-    → EntriesStand s places (c .parts .entries) → knownIn s places size kept ≡ known c
-unfolding knownIn known
-known-there c s places size kept m v e = rw (m, v, e) refl
-
--- ---- the head of a response
-
-module _ (text : Bytes) (r : Response) (places : List ℕ) (size : ℕ) (kept : Bytes) (filled : AllRead readNode (partOf text (r .nodes .part)))
-    (s nodes : Bytes) (isEntries : s ≡ entriesText text r) (isNodes : nodes ≡ partOf text (r .nodes .part))
+module _ {text : Bytes} {k : CallBlock} {ps vs : List ℕ} {outputs : Bytes}
+    (p : Shapeable text k ps vs outputs) (c : Call) (i : IsCall c k text outputs)
   where
-    -- a head that is worked out from its entries and nodes is that of the rules
-    pub head-shown : (h : LogHead) (block : Bytes) → headWith block h ≡ logHead (r .size) (knownIn s places size kept) (nodesThere nodes)
-        → IsHead text r places size kept h block
-    unfolding partsIn historyDiffers
-    head-shown h block isHead c parts isSize values sizeRight rises below stands =
-        let n : c .parts .size ≡ r .size = ap (λ (p : Parts). p .size) parts in
-        let entries : c .parts .entries ≡ entriesIn (entriesText text r) = ap (λ (p : Parts). p .entries) parts in
-        let given : nodesThere nodes ≡ c .parts .nodes = ap nodesThere isNodes ∙ nodes-there _ filled ∙ sym (ap (λ (p : Parts). p .nodes) parts) in
-        let stand : EntriesStand s places (c .parts .entries) = rw (isEntries, entries) stands in
-        let (a, b, d) = size-was c sizeRight in
-        let k = known-there c s places size kept isSize values stand in
-        let w = stand-walkable s places (c .parts .entries) stand (c .parts .size) size kept a b (rw (← isSize) d) rises below in
-        let right : headWith block h ≡ headOf c = isHead ∙ rw (← n, given, k) (head-walked c (rw (← k) w)) in
+    filled : Filled text (k .response)
+    filled = p .triable .offsets .3
+
+    tree-size : c .parts .treeSize ≡ k .response .«tree_size»
+    unfolding partsIn
+    tree-size = ap (λ (x : Parts). x .treeSize) (i .parts)
+
+    -- what is known of it in the text
+    text-known : (kept : Bytes) → KnownBy c (knownIn (entriesText text k) (k .«kept_size») kept)
+    unfolding knownIn partsIn
+    text-known kept =
         record {
-          met = ap (λ (y : Head). not (y .met)) (sym right);
-          root = ap (λ (y : Head). y .root) right;
-          values = ap (λ (y : Head). y .values) right;
+          size = sym (i .size);
+          entries =
+              entries-shown (entriesText text k) (filled .entries)
+              ∙ ap (λ (x : Parts). map logEntry (x .entries)) (sym (i .parts));
         }
+
+    -- with the values of the state it is what the call knows
+    all-known : (kept : Bytes) → c .state .log .values ≡ runs (ones (k .«kept_size»)) hashLength kept
+        → knownIn (entriesText text k) (k .«kept_size») kept ≡ known c
+    unfolding knownIn known
+    all-known kept v = let h = text-known kept in rw (i .size, v, h .entries) refl
+
+    module _ (e : entriesAsked (kindRules c .versionsFit) (asked c) (c .parts .entries) ≡ true) where
+      -- there is a walk over it
+      text-walkable : (kept : Bytes)
+          → isWalkable (c .parts .treeSize) (knownIn (entriesText text k) (k .«kept_size») kept) ≡ true
+      text-walkable kept =
+          let n = tree-size in
+          walkable c _ (text-known kept) (omega (arith, n, p .nonempty)) (omega (arith, n, p .largest))
+          (omega (arith, n, i .size, p .grown)) e
+
+      -- the nodes asked of the text are as many as the walk takes
+      pub nodes-counted : (s : Bytes) → s ≡ entriesText text k
+          → nodesAsked (k .response .«tree_size») (knownIn s (k .«kept_size») []) ≡ nodeCount (logWalk c)
+      nodes-counted s q = rw (q, ← tree-size) (nodes-asked c _ (text-known []) (text-walkable []))
+
+      -- the head worked out from it is that of the rules
+      pub head-shown : (s nodes kept : Bytes) → s ≡ entriesText text k
+          → nodes ≡ partOf text (k .response .nodes .part)
+          → c .state .log .values ≡ runs (ones (k .«kept_size»)) hashLength kept → (h : Head)
+          → h ≡ logHead (k .response .«tree_size») (knownIn s (k .«kept_size») kept) (nodesThere nodes)
+          → h ≡ headOf c
+      unfolding partsIn
+      head-shown s nodes kept q r v h isHead =
+          let given : nodesThere nodes ≡ c .parts .nodes =
+          ap nodesThere r ∙ nodes-there _ (filled .nodes) ∙ sym (ap (λ (x : Parts). x .nodes) (i .parts)) in
+          isHead ∙ rw (q, given, ← tree-size) (head-walked c _ (all-known kept v) (text-walkable kept))

@@ -1,4 +1,5 @@
--- Laws of the lines of a response's sections, one at a time (specs/Sections.antt): what they say where, and a section from its first line on.
+-- Laws of the lines of a response's sections, one at a time (specs/Sections.antt): what they say
+-- where, and a section from its first line on.
 use mathlib.Core.Path.{_≡_, refl, sym, _∙_, ap, ap₂}
 use mathlib.Core.Bool.{true, _||_}
 use mathlib.Core.Logic.{_⊎_, inl, inr}
@@ -10,7 +11,7 @@ use lib.Dec.{eqb}
 use lib.ListN.{length, length-append, length-drop, take, drop, getD}
 use lib.Seq.{length-take-le, drop-drop, drop-append-seam}
 use borrow.Author.Tests.{eq-eqb, ne-eqb, eqb-true}
-use Rattle.lists.specs.Choice.{given, orElse}
+use Rattle.lists.specs.Choice.{isSome, orElse}
 use Rattle.lists.specs.Lists.{Bytes}
 use Rattle.lists.proofs.ChoiceLaws.{or-holds, provided-some, bind-some, bind-by, map-some}
 use Rattle.lists.proofs.ListLaws.{same-true}
@@ -22,18 +23,22 @@ use Rattle.lines.specs.Line.{tab, newline, Read, readAfter, readLine, endedLine
 use Rattle.lines.specs.Cursor.{lineAt, fieldAt, fieldsFrom, readAt, wordAt}
 use Rattle.lines.proofs.NumberLaws.{decimal-read}
 use Rattle.lines.proofs.HexLaws.{length-hex, hexField-some}
-use Rattle.lines.proofs.PlaceLaws.{at-cons}
+use Rattle.lines.proofs.OffsetLaws.{at-cons}
 use Rattle.lines.proofs.LineLaws.{lineText, line-read, leading-end, leading-none, leading-some}
 use Rattle.lines.proofs.SectionLaws.{LineHere, line-here, line-none, line-end, line-more}
-use Rattle.lines.proofs.FormLaws.{wordForm, withRest, here-read, read-form, word-here, read-word, words-over, read-field-on, read-number-on}
-use Rattle.tree.specs.LogText.{valueDigits, valueIn, entryIn}
+use Rattle.lines.proofs.FormLaws.{wordForm, withRest, here-read, read-form, word-here, read-word, words-over}
+use Rattle.lines.proofs.FormLaws.{read-field-on, read-number-on}
+use Rattle.lines.specs.Layout.{entryFields, stepFields, valueDigits}
+use Rattle.tree.specs.LogText.{valueIn, entryIn}
 use Rattle.tree.proofs.LogTextLaws.{value-front, entry-written}
 use Rattle.rules.specs.Limits.{hashLength, versionBound}
 use Rattle.rules.specs.Response.{Step, Lookup, Entry, logEntry}
 use Rattle.rules.specs.ResponseText.{commitmentField, stepForm, entryForm}
-use Rattle.rules.specs.ResponseText.{readCommitment, readStep, Item, entryItem, lookupItem, readEntryLine, readItem, grouped}
+use Rattle.rules.specs.ResponseText.{readCommitment, readStep, Item, entryItem, lookupItem, readEntryLine}
+use Rattle.rules.specs.ResponseText.{readItem, grouped}
 use Rattle.inputs.specs.Response.{stepsIn, looseIn, entriesIn, AllRead}
-use Rattle.checks.specs.Sections.{StepLines, EntryLines, CommitmentAt, IsNextStep, entryWord, withLookups, IsNextEntry, readLookup, IsNextLookup}
+use Rattle.checks.specs.Sections.{StepLines, EntryLines, CommitmentAt, IsNextStep, withLookups}
+use Rattle.checks.specs.Sections.{IsNextEntry, readLookup, IsNextLookup}
 use Rattle.checks.specs.declared.sections.NextStep.the-variants.{Step as StepAt}
 use Rattle.checks.specs.declared.sections.NextEntry.the-variants.{Entry as EntryAt}
 use Rattle.checks.specs.declared.sections.NextLookup.the-variants.{Lookup as LookupAt}
@@ -42,7 +47,7 @@ use Rattle.checks.proofs.LookupLineLaws.{firstLetter, lookup-line, lett
 -- ---- lines of one word and fields
 
 module _ (l w : Bytes) where
-  -- such a line is read from the place after its word on
+  -- such a line is read from the offset after its word on
   fields-after : (fs : List Field) (vs : Values fs) → readLine (wordForm w fs) l ≡ some vs → readFields fs (fieldsFrom l (length w + 1)) ≡ some vs
   fields-after fs vs e =
       let (at, p, q) = bind-some (wordAt w l 0) (λ (n : ℕ). readAfter [] fs (fieldsFrom l n)) vs
@@ -93,11 +98,12 @@ step-was l x e =
 
 -- an entry line without its lookups, as an item
 abbrev entryOf : Read entryForm → Option Item
-entryOf (position, (time, (root, _))) = some (entryItem (record { position = position; time = time; prefixRoot = root; lookups = [] }))
+entryOf (position, (timestamp, (root, _))) = some (entryItem (record { position = position; timestamp = timestamp; prefixRoot = root; lookups = [] }))
 
--- what is read of an item's line: of an entry line its position, time and prefix root, of a lookup line the lookup
+-- what is read of an item's line: of an entry line its position, time and prefix root, of a lookup
+-- line the lookup
 abbrev ItemLine : Bytes → Item → Type 0
-ItemLine l (entryItem e) = readLine entryForm l ≡ some (e .position, (e .time, (e .prefixRoot, tt)))
+ItemLine l (entryItem e) = readLine entryForm l ≡ some (e .position, (e .timestamp, (e .prefixRoot, tt)))
 ItemLine l (lookupItem x) = readLookup l ≡ some x
 
 -- a line that reads as an item is that item's line
@@ -121,7 +127,7 @@ no-lines {A} read (l ∷ ls) e f = go (read l) refl
     go (some a) q = absurd (cons-ne-nil a (leading read ls .0) (sym (ap (λ (p : List A × List Bytes). p .0) (leading-some read l ls a q)) ∙ e))
 
 module _ {A : Type 0} (read : Bytes → Option A) (s : Bytes) (at : ℕ) where
-  -- the line at a place of lines that all read: its value, and the lines after it
+  -- the line at an offset of lines that all read: its value, and the lines after it
   record FirstLine (stop next : ℕ) : Type 0 where
     pub here : LineHere s at stop next
     pub value : A
@@ -166,11 +172,11 @@ module _ {A : Type 0} (read : Bytes → Option A) (s : Bytes) (at : ℕ) where
   pub some-line : AllRead read (drop at s) → at < length s → leading read (endedLines (drop at s)) .0 ≡ [] → ⊥
   some-line (a, o) h e = line-more s at h (no-lines read (endedLines (drop at s)) e a) o
 
--- the length of a line is what lies between its places
+-- the length of a line is what lies between its offsets
 line-length : (s : Bytes) (at stop next : ℕ) → LineHere s at stop next → length (take (stop - at) (drop at s)) ≡ stop - at
 line-length s at stop next h = let f = h .forward in let w = h .within in length-take-le (stop - at) (drop at s) (omega (arith, length-drop at s))
 
--- the byte at a line's place is the line's first
+-- the byte at a line's offset is the line's first
 first-byte : (s : Bytes) (at stop next b : ℕ) (t : Bytes) → LineHere s at stop next → take (stop - at) (drop at s) ≡ b ∷ t → getD s at 0 ≡ b
 first-byte s at stop next b t h e =
     let f = h .forward in
@@ -192,7 +198,7 @@ step-text l v c e = line-read stepForm l (v, (c, tt)) e .0
 step-field : (v : ℕ) (c rest : Bytes) → drop (5 + length (decimal v) + 1) (stepText v c ++ rest) ≡ hexField c ++ rest
 unfolding ascii
 step-field v c rest =
-    let n : 5 + length (decimal v) + 1 ≡ length (ascii "step" ++ tab ∷ (decimal v ++ tab ∷ [])) = omega (arith, length-append (decimal v) (tab ∷ [])) in
+    let n : stepFields + length (decimal v) + 1 ≡ length (ascii "step" ++ tab ∷ (decimal v ++ tab ∷ [])) = omega (arith, length-append (decimal v) (tab ∷ [])) in
     ap (λ (k : ℕ). drop k (stepText v c ++ rest)) n
     ∙ ap (drop (length (ascii "step" ++ tab ∷ (decimal v ++ tab ∷ []))))
     (ap (λ (t : Bytes). ascii "step" ++ tab ∷ t)
@@ -208,19 +214,19 @@ commitment-length x c e = pick (or-holds (eqb (length (x ∷ c)) 0) (eqb (length
     pick (inr e) = eqb-true (length (x ∷ c)) hashLength e
 
 -- the commitment of a step stands where its digits do
-step-commitment : (s : Bytes) (place : ℕ) (c rest : Bytes) → (eqb (length c) 0 || eqb (length c) hashLength) ≡ true → AreBytes c
-    → drop place s ≡ hexField c ++ rest → CommitmentAt s place (readCommitment c)
+step-commitment : (s : Bytes) (offset : ℕ) (c rest : Bytes) → (eqb (length c) 0 || eqb (length c) hashLength) ≡ true → AreBytes c
+    → drop offset s ≡ hexField c ++ rest → CommitmentAt s offset (readCommitment c)
 unfolding readCommitment
-step-commitment s place [] rest f b e = tt
-step-commitment s place (x ∷ c) rest f b e =
+step-commitment s offset [] rest f b e = tt
+step-commitment s offset (x ∷ c) rest f b e =
     let n = commitment-length x c f in
     let d : hexField (x ∷ c) ≡ hex (x ∷ c) = hexField-some (x ∷ c) (omega arith) in
     ap (λ (t : Bytes). valueIn (take valueDigits t)) (e ∙ ap (λ (t : Bytes). t ++ rest) d) ∙ value-front (x ∷ c) rest (n, b)
 
 -- the length of a step line tells whether it has a commitment
 commitment-told : (c : Bytes) (k m : ℕ) → (eqb (length c) 0 || eqb (length c) hashLength) ≡ true → k ≡ m + length (hexField c)
-    → given (readCommitment c) ≡ eqb k (m + valueDigits)
-unfolding readCommitment given hexField dash ascii
+    → isSome (readCommitment c) ≡ eqb k (m + valueDigits)
+unfolding readCommitment isSome hexField dash ascii
 commitment-told [] k m f e = sym (ne-eqb k (m + valueDigits) (λ i. omega arith))
 commitment-told (x ∷ c) k m f e =
     let n = commitment-length x c f in
@@ -228,8 +234,8 @@ commitment-told (x ∷ c) k m f e =
 
 module _ (s : Bytes) (at : ℕ) (a : StepLines (drop at s)) where
   module _ (stop next : ℕ) (e : lineAt s at ≡ some (stop, next)) where
-    -- the line at a place of step lines is that of the next step
-    pub step-next : (v field : ℕ) → readAt (readNumber versionBound) (take (stop - at) (drop at s)) 5 ≡ some (v, field)
+    -- the line at an offset of step lines is that of the next step
+    pub step-next : (v field : ℕ) → readAt (readNumber versionBound) (take (stop - at) (drop at s)) stepFields ≡ some (v, field)
         → IsNextStep s at (StepAt v (eqb (length (take (stop - at) (drop at s))) (field + valueDigits)) (at + field) next)
     unfolding stepsIn ascii
     step-next v field r =
@@ -239,9 +245,9 @@ module _ (s : Bytes) (at : ℕ) (a : StepLines (drop at s)) where
         let x = f .value in
         let (c, w, k) = step-was l x (f .reads) in
         let (_, ((g, b), _)) = line-read stepForm l (x .version, (c, tt)) w .1 in
-        let p = Option·some-injective (v, field) (x .version, 5 + length (decimal (x .version)) + 1)
+        let p = Option·some-injective (v, field) (x .version, stepFields + length (decimal (x .version)) + 1)
         (sym r ∙ number-after l (ascii "step") versionBound (commitmentField ∷ []) (x .version) (c, tt) w) in
-        let n : field ≡ 5 + length (decimal (x .version)) + 1 = ap (λ (y : ℕ × ℕ). y .1) p in
+        let n : field ≡ stepFields + length (decimal (x .version)) + 1 = ap (λ (y : ℕ × ℕ). y .1) p in
         let t : l ≡ stepText (x .version) c = step-text l (x .version) c w in
         let d : drop (at + field) s ≡ hexField c ++ newline ∷ drop next s =
         sym (drop-drop field at s) ∙ ap₂ drop n (h .text ∙ ap (λ (u : Bytes). u ++ newline ∷ drop next s) t)
@@ -254,7 +260,7 @@ module _ (s : Bytes) (at : ℕ) (a : StepLines (drop at s)) where
           x,
           f .values,
           sym (ap (λ (y : ℕ × ℕ). y .0) p),
-          ap given k ∙ commitment-told c (length l) field g m,
+          ap isSome k ∙ commitment-told c (length l) field g m,
           rw k (step-commitment s (at + field) c (newline ∷ drop next s) g b d),
           f .others,
           omega arith,
@@ -263,7 +269,7 @@ module _ (s : Bytes) (at : ℕ) (a : StepLines (drop at s)) where
         )
 
     -- its version is read after its word
-    pub step-number : readAt (readNumber versionBound) (take (stop - at) (drop at s)) 5 ≡ none → ⊥
+    pub step-number : readAt (readNumber versionBound) (take (stop - at) (drop at s)) stepFields ≡ none → ⊥
     unfolding ascii
     step-number r =
         let l = take (stop - at) (drop at s) in
@@ -307,29 +313,29 @@ no-item-end s at h = none-grouped (drop at s) (no-line-end readItem s at h)
 -- an entry line begins with `e`
 entry-line-begins : (l : Bytes) (x : Entry) → ItemLine l (entryItem x) → (t : Bytes) × (l ≡ 101 ∷ t)
 unfolding ascii
-entry-line-begins l x h = word-begins l 101 (110 ∷ 116 ∷ 114 ∷ 121 ∷ []) (entryForm .fields) (x .position, (x .time, (x .prefixRoot, tt))) h
+entry-line-begins l x h = word-begins l 101 (110 ∷ 116 ∷ 114 ∷ 121 ∷ []) (entryForm .fields) (x .position, (x .timestamp, (x .prefixRoot, tt))) h
 
 -- the fields of an entry
-abbrev entryFields : Entry → Bytes
-entryFields x = joined tab (decimal (x .position) ∷ decimal (x .time) ∷ hexField (x .prefixRoot) ∷ [])
+abbrev fieldsOf : Entry → Bytes
+fieldsOf x = joined tab (decimal (x .position) ∷ decimal (x .timestamp) ∷ hexField (x .prefixRoot) ∷ [])
 
 -- the text of an entry line
-entry-text : (l : Bytes) (x : Entry) → ItemLine l (entryItem x) → l ≡ (ascii "entry" ++ tab ∷ []) ++ entryFields x
+entry-text : (l : Bytes) (x : Entry) → ItemLine l (entryItem x) → l ≡ (ascii "entry" ++ tab ∷ []) ++ fieldsOf x
 unfolding lineText joined writeFields writeField ascii
-entry-text l x h = line-read entryForm l (x .position, (x .time, (x .prefixRoot, tt))) h .0
+entry-text l x h = line-read entryForm l (x .position, (x .timestamp, (x .prefixRoot, tt))) h .0
 
 -- the entry of an entry line, where its position stands
-entry-told : (l rest : Bytes) (x : Entry) → ItemLine l (entryItem x) → (entryIn (drop entryWord (l ++ rest)) ≡ logEntry x) × (entryWord ≤ length l)
+entry-told : (l rest : Bytes) (x : Entry) → ItemLine l (entryItem x) → (entryIn (drop entryFields (l ++ rest)) ≡ logEntry x) × (entryFields ≤ length l)
 unfolding ascii logEntry
 entry-told l rest x h =
-    let (g, (i, ((f, b), _))) = line-read entryForm l (x .position, (x .time, (x .prefixRoot, tt))) h .1 in
+    let (g, (i, ((f, b), _))) = line-read entryForm l (x .position, (x .timestamp, (x .prefixRoot, tt))) h .1 in
     let t = entry-text l x h in
-    let e = entry-written (x .position) (x .time) (x .prefixRoot) rest g i (eqb-true _ hashLength f, b) in
-    (ap (λ (u : Bytes). entryIn (drop entryWord (u ++ rest))) t ∙ e, rw t (omega arith))
+    let e = entry-written (x .position) (x .timestamp) (x .prefixRoot) rest g i (eqb-true _ hashLength f, b) in
+    (ap (λ (u : Bytes). entryIn (drop entryFields (u ++ rest))) t ∙ e, rw t (omega arith))
 
 module _ (s : Bytes) (at : ℕ) (a : EntryLines (drop at s)) where
   module _ (stop next : ℕ) (e : lineAt s at ≡ some (stop, next)) where
-    -- where no lookup stands, the line at a place is that of the next entry
+    -- where no lookup stands, the line at an offset is that of the next entry
     pub entry-next : looseIn (drop at s) ≡ [] → IsNextEntry s at (EntryAt next)
     entry-next n = let f = first-line readItem s at stop next e a in go (f .value) (f .values) (item-was _ (f .value) (f .reads)) f
       where
@@ -346,13 +352,13 @@ module _ (s : Bytes) (at : ℕ) (a : EntryLines (drop at s)) where
             let hn = h .nextIs in (
               x,
               entry-grouped s at next x v .1,
-              ap entryIn (sym (drop-drop entryWord at s) ∙ ap (drop entryWord) (h .text)) ∙ p,
+              ap entryIn (sym (drop-drop entryFields at s) ∙ ap (drop entryFields) (h .text)) ∙ p,
               f .others,
               omega arith,
               omega arith,
             )
 
-    -- where the byte at a place does not begin an entry line, the line is that of the next lookup
+    -- where the byte at an offset does not begin an entry line, the line is that of the next lookup
     pub lookup-next : (getD s at 0 ≡ 101 → ⊥) → IsNextLookup s at (LookupAt stop next)
     lookup-next n = let f = first-line readItem s at stop next e a in go (f .value) (f .values) (item-was _ (f .value) (f .reads)) f
       where

@@ -1,4 +1,5 @@
--- Laws of lookup lines (specs/Sections.antt): the text of a line that reads as a lookup, and how the lookup reaches a prefix root, told from that text.
+-- Laws of lookup lines (specs/Sections.antt): the text of a line that reads as a lookup, and how
+-- the lookup reaches a prefix root, told from that text.
 use mathlib.Core.Path.{_≡_, refl, sym, _∙_, ap}
 use mathlib.Core.Logic.{_⊎_, inl, inr}
 use mathlib.Core.Bool.{true, false}
@@ -20,13 +21,14 @@ use Rattle.lines.specs.Hex.{hex, hexField}
 use Rattle.lines.specs.Field.{writeField, writeFields}
 use Rattle.lines.specs.Line.{tab, joined, readLine}
 use Rattle.lines.specs.Cursor.{fieldAt, readAt}
-use Rattle.lines.proofs.PlaceLaws.{before-lacks}
+use Rattle.lines.proofs.OffsetLaws.{before-lacks}
 use Rattle.lines.proofs.NumberLaws.{isPlain, read-decimal, decimal-plain}
 use Rattle.lines.proofs.HexLaws.{length-hex, hexField-some}
 use Rattle.lines.proofs.LineLaws.{lineText, line-read}
 use Rattle.lines.proofs.CursorLaws.{read-some}
-use Rattle.tree.specs.LogText.{valueDigits, valueIn, valuesIn}
-use Rattle.tree.specs.PrefixTree.{Terminal, ownLeaf, emptyPlace, foreignLeaf, lookupRoot, terminalFits}
+use Rattle.lines.specs.Layout.{lookupFields, valueDigits}
+use Rattle.tree.specs.LogText.{valueIn, valuesIn}
+use Rattle.tree.specs.PrefixTree.{Terminal, searchedLeaf, emptyPlace, foreignLeaf, lookupRoot, terminalFits}
 use Rattle.tree.proofs.LogTextLaws.{IsValue, length-siblings, value-front, siblings-written}
 use Rattle.rules.specs.Limits.{hashLength, vrfOutputLength, versionBound}
 use Rattle.rules.specs.Response.{Result, included, absent, otherLeaf, Lookup, isIncluded}
@@ -121,32 +123,28 @@ module _ (l : Bytes) (x : Lookup) where
 
 -- ---- its version
 
--- the place of a version, after the two letters of the word and a tab
-abbrev pub versionPlace : ℕ
-versionPlace = 3
-
--- the place after it and the tab that follows it
-abbrev afterPlace : ℕ → ℕ
-afterPlace version = versionPlace + length (decimal version) + 1
+-- the offset after it and the tab that follows it
+abbrev afterOffset : ℕ → ℕ
+afterOffset version = lookupFields + length (decimal version) + 1
 
 module _ (a b version : ℕ) (rest : Bytes) where
-  -- a version after two letters is read, with the place after it
-  front-version : version ≤ versionBound → readAt (readNumber versionBound) (lettered a b version rest) versionPlace ≡ some (version, afterPlace version)
+  -- a version after two letters is read, with the offset after it
+  front-version : version ≤ versionBound → readAt (readNumber versionBound) (lettered a b version rest) lookupFields ≡ some (version, afterOffset version)
   unfolding fieldAt
   front-version h =
       let k : Lacks tab (decimal version) = all-lacks isPlain tab (decimal version) refl (decimal-plain version) in
-      read-some (readNumber versionBound) (lettered a b version rest) versionPlace (decimal version)
+      read-some (readNumber versionBound) (lettered a b version rest) lookupFields (decimal version)
       (sym (before-lacks tab (decimal version) rest k)) (omega arith)
       version (read-decimal versionBound version h)
 
   -- what stands from there on is what follows it
-  front-rest : drop (afterPlace version) (lettered a b version rest) ≡ rest
+  front-rest : drop (afterOffset version) (lettered a b version rest) ≡ rest
   front-rest =
-      let e : afterPlace version ≡ suc (suc (suc (length (decimal version) + 1))) = omega arith in
+      let e : afterOffset version ≡ suc (suc (suc (length (decimal version) + 1))) = omega arith in
       rw e (drop-append-add (decimal version) (tab ∷ rest) 1)
 
-  -- and that place is in the text
-  front-long : afterPlace version ≤ length (lettered a b version rest)
+  -- and that offset is in the text
+  front-long : afterOffset version ≤ length (lettered a b version rest)
   front-long = omega (arith, length-append (decimal version) (tab ∷ rest))
 
 module _ (l : Bytes) (x : Lookup) (t : LookupLine l x) where
@@ -158,22 +156,22 @@ module _ (l : Bytes) (x : Lookup) (t : LookupLine l x) where
   second-letter : getD l 1 0 ≡ secondLetter (x .result)
   second-letter = ap (λ (s : Bytes). getD s 1 0) (t .text)
 
-  -- the version is read at its place
-  version-there : readAt (readNumber versionBound) l versionPlace ≡ some (x .version, afterPlace (x .version))
+  -- the version is read at its offset
+  version-there : readAt (readNumber versionBound) l lookupFields ≡ some (x .version, afterOffset (x .version))
   version-there = rw (t .text) (front-version _ _ (x .version) _ (t .bound))
 
-  module _ (v next : ℕ) (e : readAt (readNumber versionBound) l versionPlace ≡ some (v, next)) where
-    -- what was read there is the version, and the place after it
-    version-was : (v ≡ x .version) × (next ≡ afterPlace (x .version))
+  module _ (v next : ℕ) (e : readAt (readNumber versionBound) l lookupFields ≡ some (v, next)) where
+    -- what was read there is the version, and the offset after it
+    version-was : (v ≡ x .version) × (next ≡ afterOffset (x .version))
     version-was =
-        let i : _≡_ {A = ℕ × ℕ} (v, next) (x .version, afterPlace (x .version)) = Option·some-injective _ _ (sym e ∙ version-there) in
+        let i : _≡_ {A = ℕ × ℕ} (v, next) (x .version, afterOffset (x .version)) = Option·some-injective _ _ (sym e ∙ version-there) in
         (ap (λ (p : ℕ × ℕ). p .0) i, ap (λ (p : ℕ × ℕ). p .1) i)
 
-    -- what follows the version stands from that place on
+    -- what follows the version stands from that offset on
     rest-there : take (length l - next) (drop next l) ≡ afterVersion (x .result) (t .siblings)
     rest-there = take-all (length l - next) (drop next l) (omega (arith, length-drop next l)) ∙ rw (version-was .1, t .text) (front-rest _ _ (x .version) _)
 
-    -- and that place is in the line
+    -- and that offset is in the line
     rest-begins : next ≤ length l
     rest-begins =
         let r = x .result in
@@ -195,12 +193,12 @@ letter-other absent e = omega arith
 letter-other (otherLeaf output commitment) e = omega arith
 
 module _ (l : Bytes) where
-  -- a number read at the place of a version is the version
-  pub version-told : (v next : ℕ) → readAt (readNumber versionBound) l versionPlace ≡ some (v, next) → OfLookup l (λ (x : Lookup). x .version) v
+  -- a number read at the offset of a version is the version
+  pub version-told : (v next : ℕ) → readAt (readNumber versionBound) l lookupFields ≡ some (v, next) → OfLookup l (λ (x : Lookup). x .version) v
   version-told v next e x h = version-was l x (lookup-line l x h) v next e .0
 
   -- the version cannot be missing
-  pub version-misses : (x : Lookup) → readLookup l ≡ some x → readAt (readNumber versionBound) l versionPlace ≡ none → ⊥
+  pub version-misses : (x : Lookup) → readLookup l ≡ some x → readAt (readNumber versionBound) l lookupFields ≡ none → ⊥
   version-misses x h e = Option·none-ne-some _ (sym e ∙ version-there l x (lookup-line l x h))
 
   -- the first byte tells whether the version is there
@@ -273,8 +271,8 @@ module _ (l : Bytes) (x : Lookup) (h : readLookup l ≡ some x) where
   abbrev line : LookupLine l x
   line = lookup-line l x h
 
-  module _ (v next : ℕ) (e : readAt (readNumber versionBound) l versionPlace ≡ some (v, next)) where
-    -- it cannot stop before the place after its version
+  module _ (v next : ℕ) (e : readAt (readNumber versionBound) l lookupFields ≡ some (v, next)) where
+    -- it cannot stop before the offset after its version
     pub rest-misses : length l < next → ⊥
     rest-misses i = omega (arith, rest-begins l x line v next e)
 
@@ -293,12 +291,12 @@ module _ (l : Bytes) (x : Lookup) (h : readLookup l ≡ some x) where
       siblings-reach r q = written-reaches output commitment root (line .siblings) x r q (line .bytes) (line .read)
 
       -- an inclusion, told by its first letter
-      pub in-reaches : getD l 0 0 ≡ 105 → leadsTo output (ownLeaf commitment) root rest ≡ reaches output commitment root x
+      pub in-reaches : getD l 0 0 ≡ 105 → leadsTo output (searchedLeaf commitment) root rest ≡ reaches output commitment root x
       unfolding terminalWith
       in-reaches i = go (x .result) refl
         where
-          go : (r : Result) → x .result ≡ r → leadsTo output (ownLeaf commitment) root rest ≡ reaches output commitment root x
-          go included q = ap (leadsTo output (ownLeaf commitment) root) (rest-is included q) ∙ siblings-reach included q
+          go : (r : Result) → x .result ≡ r → leadsTo output (searchedLeaf commitment) root rest ≡ reaches output commitment root x
+          go included q = ap (leadsTo output (searchedLeaf commitment) root) (rest-is included q) ∙ siblings-reach included q
           go absent q = absurd (omega (arith, i, first-letter l x line, ap firstLetter q))
           go (otherLeaf o c) q = absurd (omega (arith, i, first-letter l x line, ap firstLetter q))
 

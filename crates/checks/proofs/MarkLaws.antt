@@ -1,4 +1,5 @@
--- Laws of the pairs that count, by their marks (specs/MonitoredVersions.antt): the versions looked up for them, with a mark more set.
+-- Laws of the pairs that count, by their marks (specs/MonitoredVersions.antt): the versions looked
+-- up for them, with a mark more set.
 use mathlib.Core.Path.{_≡_, refl, _∙_}
 use mathlib.Core.Logic.{_⊎_, inl, inr, ⊎-elim}
 use mathlib.Core.Bool.{true}
@@ -13,8 +14,7 @@ use Rattle.lists.proofs.ChoiceLaws.{choose-true, choose-false}
 use Rattle.lists.proofs.ListLaws.{set-only, repeated-only}
 use Rattle.lists.proofs.RisingLaws.{insertAll-has, insertAll-keeps, insertAll-only, insertAll-rising}
 use Rattle.rules.specs.Limits.{greatestVersion, versionBound}
-use Rattle.checks.specs.MonitoredVersions.{notAbove, countedOf, counted}
-use Rattle.checks.specs.Monitoring.{AreMarks}
+use Rattle.checks.specs.MonitoredVersions.{notAbove, countedOf, counted, AreMarks}
 
 -- ---- the versions of one pair
 

@@ -1,4 +1,5 @@
--- Laws of the versions that monitoring looks up (specs/MonitoredVersions.antt): the pair with the largest version, and a ladder's versions stored.
+-- Laws of the versions that monitoring looks up (specs/MonitoredVersions.antt): the pair with the
+-- largest version, and a ladder's versions stored.
 use mathlib.Core.Path.{_≡_, refl, sym, _∙_, ap}
 use mathlib.Core.Bool.{Bool, true, false}
 use mathlib.Core.List.{List, [], _∷_, map}
@@ -9,11 +10,12 @@ use lib.Dec.{eqb, leb}
 use lib.ListN.{length, getD, drop, set, replicate}
 use Rattle.lists.specs.Lists.{any, select, largest}
 use Rattle.lists.proofs.ListLaws.{select-here, select-later, select-length, largest-more, largest-none}
-use Rattle.lines.proofs.PlaceLaws.{at-cons, at-end}
+use Rattle.lines.proofs.OffsetLaws.{at-cons, at-end}
 use Rattle.hash.specs.Bytes.{padded}
 use Rattle.tree.specs.Ladder.{ladder, ladderWithin, ladderCapacity}
 use Rattle.tree.specs.SearchTree.{rightAncestors}
-use Rattle.tree.proofs.FillLaws.{Filling, filling-start, filling-same, filling-within, filling-next, filling-end, filled-at}
+use Rattle.tree.proofs.FillLaws.{Filling, filling-start, filling-same, filling-within, filling-next}
+use Rattle.tree.proofs.FillLaws.{filling-end, filled-at}
 use Rattle.tree.proofs.LadderFillLaws.{ladder-fits, within-some}
 use Rattle.rules.specs.Limits.{greatestVersion}
 use Rattle.rules.specs.State.{MapEntry, versions}
@@ -29,7 +31,8 @@ use Rattle.checks.proofs.NotAboveLaws.{upTo, up-to-here, up-to-later}
 abbrev reachingFrom : ℕ → List ℕ → List ℕ → ℕ → ℕ → List ℕ
 reachingFrom n ps vs x i = versionsReaching n (mapOf (drop i ps) (drop i vs)) x
 
--- among the pairs from the i-th on whose right path holds x, the largest version is that of a pair, and `above` is one more; or there is none, and `above` is 0
+-- among the pairs from the i-th on whose right path holds x, the largest version is that of a pair,
+-- and `above` is one more; or there is none, and `above` is 0
 pub record Found (n : ℕ) (ps vs : List ℕ) (x i pair above : ℕ) : Type 0 where
   pub top : above ≡ largest (map suc (reachingFrom n ps vs x i))
   pub held : 0 < above → (pair < length vs) × (above ≡ suc (getD vs pair 0))
@@ -62,7 +65,7 @@ module _ (n : ℕ) (ps vs : List ℕ) (x : ℕ) (e : length ps ≡ length vs) wh
       (l, shown-some (versionsReaching n (mapOf ps vs) x) (getD vs pair 0) (sym q ∙ f .top))
 
   module _ (i k : ℕ) (z : k ≡ suc i) (l : k ≤ length ps) (r : Bool) (t : r ≡ any (eqb x) (rightAncestors n (getD ps i 0))) where
-    -- the pairs behind the i-th
+    -- the pairs after the i-th
     abbrev behind : List MapEntry
     behind = mapOf (drop k ps) (drop k vs)
 

@@ -1,8 +1,10 @@
--- Laws of the next version of each pair (specs/MonitoredVersions.antt): the smallest of them, and all of them moved on past it.
+-- Laws of the next version of each pair (specs/MonitoredVersions.antt): the smallest of them, and
+-- all of them moved on past it.
 use mathlib.Core.Path.{_≡_, refl, sym, _∙_, ap, ap₂, subst}
 use mathlib.Core.Logic.{_⊎_, inl, inr, ⊎-elim}
 use mathlib.Core.Bool.{true, cond}
-use mathlib.Core.List.{List, [], _∷_, _++_, append-nil, List·Memᴰ, List·Memᴰ·head, List·Memᴰ·tail, List·Memᴰ·not-nil}
+use mathlib.Core.List.{List, [], _∷_, _++_, append-nil, List·Memᴰ, List·Memᴰ·head, List·Memᴰ·tail}
+use mathlib.Core.List.{List·Memᴰ·not-nil}
 use Prim.Native.Nat.{ℕ, zero, suc, min, _+_, _-_, _≤_, _<_}
 use native.Mathlib.Nat.{min-eq-left, min-eq-right, min-le-left, min-le-right}
 use native.Mathlib.Numerals.{add-one}
@@ -14,7 +16,7 @@ use borrow.Author.Tests.{lt-ltb, le-ltb, leb-true}
 use Rattle.lists.specs.Lists.{all, rising}
 use Rattle.lists.proofs.ListLaws.{all-cons}
 use Rattle.lists.proofs.RisingLaws.{insertAll-only}
-use Rattle.lines.proofs.PlaceLaws.{at-cons, at-end}
+use Rattle.lines.proofs.OffsetLaws.{at-cons, at-end}
 use Rattle.tree.specs.SearchTree.{nextFrom}
 use Rattle.tree.proofs.DigitLaws.{by-order}
 use Rattle.tree.proofs.NextLaws.{next-nil, next-together, next-stays}

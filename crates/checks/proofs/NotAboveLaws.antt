@@ -1,4 +1,5 @@
--- Laws of the versions of a version's ladder that are not above it (specs/MonitoredVersions.antt): they begin with 0, rise, and none is above it.
+-- Laws of the versions of a version's ladder that are not above it (specs/MonitoredVersions.antt):
+-- they begin with 0, rise, and none is above it.
 use mathlib.Core.Path.{_≡_, refl, _∙_, ap}
 use mathlib.Core.Bool.{true}
 use mathlib.Core.List.{List, _∷_, List·Memᴰ, List·Memᴰ·cases-cons, List·Memᴰ·not-nil}

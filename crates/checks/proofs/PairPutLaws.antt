@@ -1,24 +1,26 @@
--- Laws of a pair put into the monitoring map (specs/Map.antt): it is carried from place to place, and where it is stored, the one that stood there is
--- carried on.
+-- Laws of a pair put into the monitoring map (specs/Map.antt): it is carried from index to index,
+-- and where it is stored, the one that stood there is carried on.
 use mathlib.Core.Path.{_≡_, refl, sym, _∙_, ap}
 use mathlib.Core.Bool.{true, false}
 use mathlib.Core.List.{List, [], _∷_, _++_, map, map-append, append-assoc, append-nil}
 use Prim.Native.Nat.{ℕ, _+_, _-_, _≤_, _<_}
 use native.Mathlib.Omega.{arith}
 use lib.Dec.{eqb, leb, ltb}
-use lib.ListN.{length, take, getD, set, replicate, length-append, length-take, length-map}
-use lib.Seq.{set-at, getD-at, length-take-le}
+use lib.ListN.{length, take, getD, set, replicate, length-append, length-map}
+use lib.Seq.{set-at, getD-at}
 use borrow.Author.Tests.{lt-ltb, le-ltb, eq-eqb, ne-eqb, le-leb, lt-leb, ltb-true}
 use Rattle.lists.specs.Lists.{rising}
 use Rattle.lists.proofs.ChoiceLaws.{choose-true, choose-false, and-holds}
 use Rattle.lists.proofs.RisingLaws.{rising-tail}
 use Rattle.hash.specs.Bytes.{padded}
-use Rattle.hash.proofs.BytesLaws.{length-padded, padded-set}
+use Rattle.hash.proofs.BytesLaws.{padded-set}
 use Rattle.rules.specs.Limits.{mapLimit}
 use Rattle.rules.specs.State.{MapEntry, positions, versions}
-use Rattle.rules.specs.Search.{putEntry}
+use Rattle.rules.specs.Kinds.{putEntry}
+use Rattle.inputs.specs.declared.state.MonitoringMap.{MonitoringMap}
 use Rattle.inputs.proofs.PairLaws.{map-positions, map-versions, map-length}
-use Rattle.checks.specs.Map.{IsMap, pairsOf, putVersion, Holds}
+use Rattle.checks.specs.Map.{IsMap, pairsIn, putVersion, Holds}
+use Rattle.checks.proofs.MapBlockLaws.{filled}
 
 -- ---- a pair against the first of a map
 
@@ -41,7 +43,7 @@ module _ (p v : ℕ) where
         choose-false (ltb p (x .position)) _ _ (le-ltb p (x .position) (omega arith))
         ∙ choose-true (eqb p (x .position)) _ _ (eq-eqb p (x .position) (sym h))
 
-    -- behind it
+    -- after it
     put-above : x .position < p → putVersion p v (x ∷ xs) ≡ x ∷ putVersion p v xs
     unfolding putEntry
     put-above h =
@@ -49,23 +51,28 @@ module _ (p v : ℕ) where
         ∙ choose-false (eqb p (x .position)) _ _ (ne-eqb p (x .position) (λ e. omega arith))
 
 -- the first of a map, put to the others, is the first again
-put-again : (x : MapEntry) (xs : List MapEntry) → rising (positions (x ∷ xs)) ≡ true → putVersion (x .position) (x .version) xs ≡ x ∷ xs
+put-again : (x : MapEntry) (xs : List MapEntry) → rising (positions (x ∷ xs)) ≡ true
+    → putVersion (x .position) (x .version) xs ≡ x ∷ xs
 unfolding rising
 put-again x [] h = put-none (x .position) (x .version)
 put-again x (y ∷ ys) h =
     put-below (x .position) (x .version) y ys
-    (ltb-true (x .position) (y .position) (and-holds (ltb (x .position) (y .position)) (rising (positions (y ∷ ys))) h .0))
+    (ltb-true (x .position) (y .position)
+    (and-holds (ltb (x .position) (y .position)) (rising (positions (y ∷ ys))) h .0))
 
 -- ---- the positions or the versions of pairs, with zeros after them
 
 -- one pair for another
-column-same : (f : MapEntry → ℕ) (es : List MapEntry) (x y : MapEntry) (xs : List MapEntry) → f x ≡ f y → map f (es ++ x ∷ xs) ≡ map f (es ++ y ∷ xs)
-column-same f es x y xs e = map-append f es (x ∷ xs) ∙ ap (λ (n : ℕ). map f es ++ n ∷ map f xs) e ∙ sym (map-append f es (y ∷ xs))
+column-same : (f : MapEntry → ℕ) (es : List MapEntry) (x y : MapEntry) (xs : List MapEntry) → f x ≡ f y
+    → map f (es ++ x ∷ xs) ≡ map f (es ++ y ∷ xs)
+column-same f es x y xs e =
+    map-append f es (x ∷ xs) ∙ ap (λ (n : ℕ). map f es ++ n ∷ map f xs) e ∙ sym (map-append f es (y ∷ xs))
 
 module _ (f : MapEntry → ℕ) (n i : ℕ) (es : List MapEntry) (l : length es ≡ i) where
-  -- those before a place, at it and behind it
+  -- those before an index, at it and after it
   column-split : (x : MapEntry) (xs : List MapEntry)
-      → padded n (map f (es ++ x ∷ xs)) ≡ map f es ++ f x ∷ (map f xs ++ replicate (n - length (map f (es ++ x ∷ xs))) 0)
+      → padded n (map f (es ++ x ∷ xs)) ≡ map f es ++ f x ∷
+      (map f xs ++ replicate (n - length (map f (es ++ x ∷ xs))) 0)
   unfolding padded
   column-split x xs =
       ap (λ (s : List ℕ). s ++ replicate (n - length (map f (es ++ x ∷ xs))) 0) (map-append f es (x ∷ xs))
@@ -75,25 +82,32 @@ module _ (f : MapEntry → ℕ) (n i : ℕ) (es : List MapEntry) (l : length es 
   column-length : length (map f es) ≡ i
   column-length = length-map es f ∙ l
 
-  -- what stands at the place
-  column-at : (d : List ℕ) (x : MapEntry) (xs : List MapEntry) → d ≡ padded n (map f (es ++ x ∷ xs)) → getD d i 0 ≡ f x
+  -- what stands at the index
+  column-at : (d : List ℕ) (x : MapEntry) (xs : List MapEntry) → d ≡ padded n (map f (es ++ x ∷ xs))
+      → getD d i 0 ≡ f x
   column-at d x xs e =
       ap (λ (s : List ℕ). getD s i 0) (e ∙ column-split x xs)
-      ∙ getD-at (map f es) (f x) (map f xs ++ replicate (n - length (map f (es ++ x ∷ xs))) 0) 0 i column-length
+      ∙ getD-at (map f es) (f x)
+      (map f xs ++ replicate (n - length (map f (es ++ x ∷ xs))) 0) 0 i column-length
 
   -- another pair stored there
-  column-set : (d : List ℕ) (x y : MapEntry) (xs : List MapEntry) → d ≡ padded n (map f (es ++ x ∷ xs)) → set d i (f y) ≡ padded n (map f (es ++ y ∷ xs))
+  column-set : (d : List ℕ) (x y : MapEntry) (xs : List MapEntry) → d ≡ padded n (map f (es ++ x ∷ xs))
+      → set d i (f y) ≡ padded n (map f (es ++ y ∷ xs))
   column-set d x y xs e =
       let k : length (map f (es ++ x ∷ xs)) ≡ length (map f (es ++ y ∷ xs)) =
-      length-map (es ++ x ∷ xs) f ∙ length-append es (x ∷ xs) ∙ sym (length-map (es ++ y ∷ xs) f ∙ length-append es (y ∷ xs)) in
+      length-map (es ++ x ∷ xs) f ∙ length-append es (x ∷ xs)
+      ∙ sym (length-map (es ++ y ∷ xs) f ∙ length-append es (y ∷ xs)) in
       ap (λ (s : List ℕ). set s i (f y)) (e ∙ column-split x xs)
-      ∙ set-at (map f es) (f x) (map f xs ++ replicate (n - length (map f (es ++ x ∷ xs))) 0) (f y) i column-length
+      ∙ set-at (map f es) (f x) (map f xs ++ replicate (n - length (map f (es ++ x ∷ xs))) 0)
+      (f y) i column-length
       ∙ ap (λ (m : ℕ). map f es ++ f y ∷ (map f xs ++ replicate (n - m) 0)) k
       ∙ sym (column-split y xs)
 
-  -- a pair stored behind all
-  column-end : (d : List ℕ) (y : MapEntry) → d ≡ padded n (map f es) → i < n → set d i (f y) ≡ padded n (map f (es ++ y ∷ []))
-  column-end d y e h = padded-set n i (f y) (map f es) d e column-length h ∙ ap (padded n) (sym (map-append f es (y ∷ [])))
+  -- a pair stored after all
+  column-end : (d : List ℕ) (y : MapEntry) → d ≡ padded n (map f es) → i < n
+      → set d i (f y) ≡ padded n (map f (es ++ y ∷ []))
+  column-end d y e h =
+      padded-set n i (f y) (map f es) d e column-length h ∙ ap (padded n) (sym (map-append f es (y ∷ [])))
 
 -- ---- carrying
 
@@ -108,41 +122,42 @@ pub record Carrying (whole : List MapEntry) (count : ℕ) (ps vs : List ℕ) (p 
   inVersions : vs ≡ padded mapLimit (versions (done ++ left))
   put : done ++ putVersion p v left ≡ whole
 
--- so many elements stand before the zeros
-pub filled : (count : ℕ) (s : List ℕ) → count ≤ mapLimit → s ≡ padded mapLimit (take count s) → length (take count s) ≡ count
-filled count s h e =
-    let l : length s ≡ mapLimit = ap length e ∙ length-padded mapLimit (take count s) (omega (arith, length-take count s)) in
-    length-take-le count s (omega arith)
-
 -- at first nothing is done
-pub carrying-start : (ps vs : List ℕ) (count p v : ℕ) → IsMap ps vs count → Carrying (putVersion p v (pairsOf ps vs count)) count ps vs p v 0
-carrying-start ps vs count p v m =
-    let a : length (take count ps) ≡ count = filled count ps (m .few) (m .positions) in
-    let e : length (take count ps) ≡ length (take count vs) = a ∙ sym (filled count vs (m .few) (m .versions)) in
-    let x = map-positions (take count ps) (take count vs) e in
-    let y = map-versions (take count ps) (take count vs) e in
+pub carrying-start : (m : MonitoringMap) (p v : ℕ) → IsMap m
+    → Carrying (putVersion p v (pairsIn m)) (m .count) (m .positions) (m .versions) p v 0
+carrying-start m p v h =
+    let ps = take (m .count) (m .positions) in
+    let vs = take (m .count) (m .versions) in
+    let a : length ps ≡ m .count = filled (m .count) (m .positions) (h .few) (h .positions) in
+    let e : length ps ≡ length vs = a ∙ sym (filled (m .count) (m .versions) (h .few) (h .versions)) in
+    let x = map-positions ps vs e in
+    let y = map-versions ps vs e in
     record {
       done = [];
-      left = pairsOf ps vs count;
+      left = pairsIn m;
       front = refl;
-      counted = omega (arith, map-length (take count ps) (take count vs) e);
-      rise = ap rising x ∙ m .rise;
-      inPositions = m .positions ∙ ap (padded mapLimit) (sym x);
-      inVersions = m .versions ∙ ap (padded mapLimit) (sym y);
+      counted = omega (arith, map-length ps vs e);
+      rise = ap rising x ∙ h .rise;
+      inPositions = h .positions ∙ ap (padded mapLimit) (sym x);
+      inVersions = h .versions ∙ ap (padded mapLimit) (sym y);
       put = refl;
     }
 
-module _ {whole : List MapEntry} {count : ℕ} {ps vs : List ℕ} {p v i : ℕ} (few : count ≤ mapLimit) (c : Carrying whole count ps vs p v i) where
+module _ {whole : List MapEntry} {count : ℕ} {ps vs : List ℕ} {p v i : ℕ} (few : count ≤ mapLimit)
+    (c : Carrying whole count ps vs p v i) where
   -- so many pairs, of these positions and versions, are the whole, and fit
   abbrev Told : ℕ → List ℕ → List ℕ → Type 0
-  Told n qs ws = (true ≡ leb (length whole) mapLimit) × (true ≡ true → Holds whole (record { fits = true; positions = qs; versions = ws; count = n }))
+  Told n qs ws =
+      (true ≡ leb (length whole) mapLimit) ×
+      (true ≡ true → Holds whole (record { positions = qs; versions = ws; count = n }))
 
   -- they are, where the arrays hold them
-  told : (n : ℕ) (qs ws : List ℕ) (es : List MapEntry) → es ≡ whole → n ≤ mapLimit → n ≡ length es → qs ≡ padded mapLimit (positions es)
+  told : (n : ℕ) (qs ws : List ℕ) (es : List MapEntry) → es ≡ whole → n ≤ mapLimit → n ≡ length es
+      → qs ≡ padded mapLimit (positions es)
       → ws ≡ padded mapLimit (versions es) → Told n qs ws
   told n qs ws es e h l a b =
       let k : length whole ≤ mapLimit = omega (arith, ap length e) in
-      let r : Holds whole (record { fits = true; positions = qs; versions = ws; count = n }) =
+      let r : Holds whole (record { positions = qs; versions = ws; count = n }) =
       record {
         positions = a ∙ ap (λ (x : List MapEntry). padded mapLimit (positions x)) e;
         versions = b ∙ ap (λ (x : List MapEntry). padded mapLimit (versions x)) e;
@@ -150,7 +165,7 @@ module _ {whole : List MapEntry} {count : ℕ} {ps vs : List ℕ} {p v i : ℕ} 
       } in
       (sym (le-leb (length whole) mapLimit k), λ _. r)
 
-  -- the pair that stands at a place which is left, and those behind it
+  -- the pair that stands at an index which is left, and those after it
   record Here : Type 0 where
     pair : MapEntry
     others : List MapEntry
@@ -164,20 +179,26 @@ module _ {whole : List MapEntry} {count : ℕ} {ps vs : List ℕ} {p v i : ℕ} 
   here : i < count → Here
   here h = go (c .left) (c .counted) (c .rise) (c .inPositions) (c .inVersions) (c .put)
     where
-      go : (es : List MapEntry) → i + length es ≡ count → rising (positions es) ≡ true → ps ≡ padded mapLimit (positions (c .done ++ es))
+      go : (es : List MapEntry) → i + length es ≡ count → rising (positions es) ≡ true
+          → ps ≡ padded mapLimit (positions (c .done ++ es))
           → vs ≡ padded mapLimit (versions (c .done ++ es)) → c .done ++ putVersion p v es ≡ whole → Here
       go [] l r a b e = absurd (omega arith)
-      go (x ∷ xs) l r a b e = record { pair = x; others = xs; counted = l; rise = r; inPositions = a; inVersions = b; put = e }
+      go (x ∷ xs) l r a b e =
+          record { pair = x; others = xs; counted = l; rise = r; inPositions = a; inVersions = b; put = e }
 
   -- the position there is its own
   position-here : (x : Here) → getD ps i 0 ≡ x .pair .position
-  position-here x = column-at (λ (e : MapEntry). e .position) mapLimit i (c .done) (c .front) ps (x .pair) (x .others) (x .inPositions)
+  position-here x =
+      column-at (λ (e : MapEntry). e .position) mapLimit i (c .done) (c .front) ps (x .pair) (x .others)
+      (x .inPositions)
 
   -- and so is the version
   version-here : (x : Here) → getD vs i 0 ≡ x .pair .version
-  version-here x = column-at (λ (e : MapEntry). e .version) mapLimit i (c .done) (c .front) vs (x .pair) (x .others) (x .inVersions)
+  version-here x =
+      column-at (λ (e : MapEntry). e .version) mapLimit i (c .done) (c .front) vs (x .pair) (x .others)
+      (x .inVersions)
 
-  -- one place on
+  -- one index on
   front-next : (x : MapEntry) → length (c .done ++ x ∷ []) ≡ i + 1
   front-next x = omega (arith, length-append (c .done) (x ∷ []), c .front)
 
@@ -187,39 +208,51 @@ module _ {whole : List MapEntry} {count : ℕ} {ps vs : List ℕ} {p v i : ℕ} 
       let x = here h in
       let new : MapEntry = record { position = p; version = v } in
       let q : x .pair .position ≡ p = sym (position-here x) ∙ e in
-      let w : c .done ++ new ∷ x .others ≡ whole = ap (λ (l : List MapEntry). c .done ++ l) (sym (put-over p v (x .pair) (x .others) q)) ∙ x .put in
-      let l : count ≡ length (c .done ++ new ∷ x .others) = omega (arith, length-append (c .done) (new ∷ x .others), c .front, x .counted) in
+      let w : c .done ++ new ∷ x .others ≡ whole =
+      ap (λ (l : List MapEntry). c .done ++ l) (sym (put-over p v (x .pair) (x .others) q)) ∙ x .put in
+      let l : count ≡ length (c .done ++ new ∷ x .others) =
+      omega (arith, length-append (c .done) (new ∷ x .others), c .front, x .counted) in
       let a : ps ≡ padded mapLimit (positions (c .done ++ new ∷ x .others)) =
-      x .inPositions ∙ ap (padded mapLimit) (column-same (λ (y : MapEntry). y .position) (c .done) (x .pair) new (x .others) q) in
+      x .inPositions
+      ∙ ap (padded mapLimit)
+      (column-same (λ (y : MapEntry). y .position) (c .done) (x .pair) new (x .others) q) in
       told count ps (set vs i v) (c .done ++ new ∷ x .others) w few l a
-      (column-set (λ (y : MapEntry). y .version) mapLimit i (c .done) (c .front) vs (x .pair) new (x .others) (x .inVersions))
+      (column-set (λ (y : MapEntry). y .version) mapLimit i (c .done) (c .front) vs (x .pair) new (x .others)
+      (x .inVersions))
 
   -- a pair of a lower position: it stays
-  pub carried-past : {qs ws : List ℕ} {q w : ℕ} → i < count → getD ps i 0 < p → qs ≡ ps → ws ≡ vs → q ≡ p → w ≡ v → Carrying whole count qs ws q w (i + 1)
+  pub carried-past : {qs ws : List ℕ} {q w : ℕ} → i < count → getD ps i 0 < p → qs ≡ ps → ws ≡ vs → q ≡ p
+      → w ≡ v → Carrying whole count qs ws q w (i + 1)
   carried-past {q = q} {w = w} h e eqs ews eq ew =
       let x = here h in
       let on : putVersion q w (x .others) ≡ putVersion p v (x .others) = rw (eq, ew) refl in
-      let s : (c .done ++ x .pair ∷ []) ++ x .others ≡ c .done ++ x .pair ∷ x .others = append-assoc (c .done) (x .pair ∷ []) (x .others) in
+      let s : (c .done ++ x .pair ∷ []) ++ x .others ≡ c .done ++ x .pair ∷ x .others =
+      append-assoc (c .done) (x .pair ∷ []) (x .others) in
       record {
         done = c .done ++ x .pair ∷ [];
         left = x .others;
         front = front-next (x .pair);
         counted = omega (arith, x .counted);
         rise = rising-tail (x .pair .position) (positions (x .others)) (x .rise);
-        inPositions = eqs ∙ x .inPositions ∙ ap (λ (l : List MapEntry). padded mapLimit (positions l)) (sym s);
+        inPositions =
+            eqs ∙ x .inPositions ∙ ap (λ (l : List MapEntry). padded mapLimit (positions l)) (sym s);
         inVersions = ews ∙ x .inVersions ∙ ap (λ (l : List MapEntry). padded mapLimit (versions l)) (sym s);
         put =
-            append-assoc (c .done) (x .pair ∷ []) (putVersion q w (x .others)) ∙ ap (λ (l : List MapEntry). c .done ++ x .pair ∷ l) on
-            ∙ ap (λ (l : List MapEntry). c .done ++ l) (sym (put-above p v (x .pair) (x .others) (omega (arith, position-here x)))) ∙ x .put;
+            append-assoc (c .done) (x .pair ∷ []) (putVersion q w (x .others))
+            ∙ ap (λ (l : List MapEntry). c .done ++ x .pair ∷ l) on
+            ∙ ap (λ (l : List MapEntry). c .done ++ l)
+            (sym (put-above p v (x .pair) (x .others) (omega (arith, position-here x)))) ∙ x .put;
       }
 
   -- a pair of a higher position: it is carried on
-  pub carried-stored : {qs ws : List ℕ} {q w : ℕ} → i < count → p < getD ps i 0 → qs ≡ set ps i p → ws ≡ set vs i v → q ≡ getD ps i 0 → w ≡ getD vs i 0
+  pub carried-stored : {qs ws : List ℕ} {q w : ℕ} → i < count → p < getD ps i 0 → qs ≡ set ps i p
+      → ws ≡ set vs i v → q ≡ getD ps i 0 → w ≡ getD vs i 0
       → Carrying whole count qs ws q w (i + 1)
   carried-stored {q = q} {w = w} h e eqs ews eq ew =
       let x = here h in
       let new : MapEntry = record { position = p; version = v } in
-      let s : (c .done ++ new ∷ []) ++ x .others ≡ c .done ++ new ∷ x .others = append-assoc (c .done) (new ∷ []) (x .others) in
+      let s : (c .done ++ new ∷ []) ++ x .others ≡ c .done ++ new ∷ x .others =
+      append-assoc (c .done) (new ∷ []) (x .others) in
       let on : putVersion q w (x .others) ≡ x .pair ∷ x .others =
       rw (eq ∙ position-here x, ew ∙ version-here x) (put-again (x .pair) (x .others) (x .rise)) in
       record {
@@ -229,17 +262,21 @@ module _ {whole : List MapEntry} {count : ℕ} {ps vs : List ℕ} {p v i : ℕ} 
         counted = omega (arith, x .counted);
         rise = rising-tail (x .pair .position) (positions (x .others)) (x .rise);
         inPositions =
-            eqs ∙ column-set (λ (y : MapEntry). y .position) mapLimit i (c .done) (c .front) ps (x .pair) new (x .others) (x .inPositions)
+            eqs ∙ column-set (λ (y : MapEntry). y .position) mapLimit i (c .done) (c .front) ps (x .pair) new
+            (x .others) (x .inPositions)
             ∙ ap (λ (l : List MapEntry). padded mapLimit (positions l)) (sym s);
         inVersions =
-            ews ∙ column-set (λ (y : MapEntry). y .version) mapLimit i (c .done) (c .front) vs (x .pair) new (x .others) (x .inVersions)
+            ews ∙ column-set (λ (y : MapEntry). y .version) mapLimit i (c .done) (c .front) vs (x .pair) new
+            (x .others) (x .inVersions)
             ∙ ap (λ (l : List MapEntry). padded mapLimit (versions l)) (sym s);
         put =
-            append-assoc (c .done) (new ∷ []) (putVersion q w (x .others)) ∙ ap (λ (l : List MapEntry). c .done ++ new ∷ l) on
-            ∙ ap (λ (l : List MapEntry). c .done ++ l) (sym (put-below p v (x .pair) (x .others) (omega (arith, position-here x)))) ∙ x .put;
+            append-assoc (c .done) (new ∷ []) (putVersion q w (x .others))
+            ∙ ap (λ (l : List MapEntry). c .done ++ new ∷ l) on
+            ∙ ap (λ (l : List MapEntry). c .done ++ l)
+            (sym (put-below p v (x .pair) (x .others) (omega (arith, position-here x)))) ∙ x .put;
       }
 
-  -- behind all pairs the carried one is the last
+  -- after all pairs the carried one is the last
   module _ (h : count ≤ i) where
     -- nothing is left
     nothing-left : c .left ≡ []
@@ -255,7 +292,9 @@ module _ {whole : List MapEntry} {count : ℕ} {ps vs : List ℕ} {p v i : ℕ} 
 
     -- the whole has one pair more
     one-more : c .done ++ record { position = p; version = v } ∷ [] ≡ whole
-    one-more = ap (λ (l : List MapEntry). c .done ++ l) (sym (ap (putVersion p v) nothing-left ∙ put-none p v)) ∙ c .put
+    one-more =
+        ap (λ (l : List MapEntry). c .done ++ l) (sym (ap (putVersion p v) nothing-left ∙ put-none p v))
+        ∙ c .put
 
     -- than so many
     front-whole : length (c .done) ≡ count

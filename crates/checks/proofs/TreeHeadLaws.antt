@@ -55,7 +55,7 @@ module _ (s a : Bytes) (n : ℕ) (r : Bytes) where
   configuration-other h = rw (head-parts a n r) (other-front s a (bigEndian 8 n ++ r) h)
 
   module _ {t : Bytes} (h : same (take (length a) s) a ≡ true) (d : t ≡ drop (length a) s) where
-    -- what stands behind the configuration
+    -- what stands after the configuration
     behind : same t (bigEndian 8 n ++ r) ≡ same s (treeHead a n r)
     behind = rw (head-parts a n r, d) (same-front s a (bigEndian 8 n ++ r) h)
 

@@ -1,4 +1,5 @@
--- Laws of the text that a log signs: it is written part by part, into bytes from a place on (src/tree_head.rt).
+-- Laws of the text that a log signs: it is written part by part, into bytes from an offset on
+-- (src/tree_head.rt).
 use mathlib.Core.Path.{_≡_, refl, sym, _∙_, ap}
 use mathlib.Core.List.{[], _++_, append-assoc, append-nil}
 use Prim.Native.Nat.{ℕ, _+_, _-_, _≤_, _<_}
@@ -11,7 +12,7 @@ use Rattle.lists.specs.Choice.{choose}
 use Rattle.lists.specs.Lists.{Bytes, written}
 use Rattle.hash.specs.Bytes.{bigEndian}
 use Rattle.hash.proofs.BytesLaws.{length-bigEndian, tail-part}
-use Rattle.lines.specs.Writing.{placeAfter, putAt}
+use Rattle.lines.specs.Writing.{offsetAfter, putAt}
 use Rattle.lines.proofs.WritingLaws.{put-fits}
 use Rattle.rules.specs.Configuration.{treeHead}
 use Rattle.rules.specs.Calls.{placed}
@@ -20,15 +21,15 @@ use Rattle.inputs.proofs.StateWriterLaws.{then-put}
 
 -- ---- part by part
 
--- a text put behind another that was written is both written as one
+-- a text put after another that was written is both written as one
 put-behind : (s t u : Bytes) (at : ℕ) {s′ s″ : Bytes} → length t ≡ at → length (t ++ u) ≤ length s → s′ ≡ written s 0 t → s″ ≡ putAt s′ at u
     → s″ ≡ written s 0 (t ++ u)
 put-behind s t u at {s′} {s″} e h w p =
     let l = length-append t u in
-    let front : Wrote s 0 t at s′ = record { room = omega arith; place = omega arith; bytes = w } in
-    then-put u front (placeAfter s′ at u) (omega arith) (refl, p) refl .bytes
+    let front : Wrote s 0 t at s′ = record { room = omega arith; offset = omega arith; bytes = w } in
+    then-put u front (offsetAfter s′ at u) (omega arith) (refl, p) refl .bytes
 
--- the configuration, the size and the root, put one behind the other
+-- the configuration, the size and the root, put one after the other
 pub head-put : (s a : Bytes) (n : ℕ) (r : Bytes) → length (treeHead a n r) ≤ length s → {b s1 s2 s3 : Bytes} → b ≡ bigEndian 8 n
     → s1 ≡ putAt s 0 a → s2 ≡ putAt s1 (length a) b → s3 ≡ putAt s2 (length a + 8) r → s3 ≡ written s 0 (treeHead a n r)
 unfolding treeHead
@@ -40,7 +41,7 @@ head-put s a n r h {b} {s1} {s2} {s3} e p q t =
     let w2 : s2 ≡ written s 0 (a ++ bigEndian 8 n) = put-behind s a (bigEndian 8 n) (length a) refl (omega arith) w1 (q ∙ ap (putAt s1 (length a)) e) in
     put-behind s (a ++ bigEndian 8 n) r (length a + 8) (omega arith) h w2 t
 
--- ---- from a place on
+-- ---- from an offset on
 
 module _ (s : Bytes) (at : ℕ) (t : Bytes) where
   -- a text for which there is too little room
@@ -48,7 +49,7 @@ module _ (s : Bytes) (at : ℕ) (t : Bytes) where
   unfolding placed choose
   placed-over h = (rw (lt-leb (at + length t) (length s) h) refl, rw (lt-leb (at + length t) (length s) h) refl)
 
-  -- a text written to the first of the bytes from a place on, which were lent and are put back
+  -- a text written to the first of the bytes from an offset on, which were lent and are put back
   written-behind : {y : Bytes} → y ≡ written (take (length s - at) (drop at s)) 0 t → take at s ++ (y ++ drop (length s - at) (drop at s)) ≡ written s at t
   unfolding written
   written-behind {y} e =

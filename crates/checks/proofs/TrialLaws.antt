@@ -1,4 +1,5 @@
--- Laws of rules that are tried one after the other, or in parts that each answer the number of their first rule that applies, or 0 (specs/Calls.antt).
+-- Laws of rules that are tried one after the other, or in parts that each answer the number of
+-- their first rule that applies, or 0 (specs/Calls.antt).
 use mathlib.Core.Path.{_≡_, refl, sym, ap, _∙_}
 use mathlib.Core.Logic.{inl, inr}
 use mathlib.Core.Bool.{Bool, true, false}
@@ -8,7 +9,8 @@ use native.Mathlib.Omega.{arith}
 use Rattle.lists.specs.Choice.{choose}
 use Rattle.rules.specs.Refusals.{Call, Judgement, refused, passed, Rule, rule, tried, triedAfter}
 use Rattle.rules.specs.Calls.{numberOf}
-use Rattle.rules.proofs.RefusalLaws.{NoneApplies, FirstApplies, Tried, tried-meaning, tried-append, rest-tried, number-refused}
+use Rattle.rules.proofs.RefusalLaws.{NoneApplies, FirstApplies, Tried, tried-meaning, tried-append}
+use Rattle.rules.proofs.RefusalLaws.{rest-tried, number-refused}
 use Rattle.checks.specs.Calls.{numberTried}
 
 -- ---- one rule after the other

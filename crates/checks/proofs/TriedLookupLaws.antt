@@ -1,157 +1,294 @@
--- One lookup of a search, tried with what the call gives (specs/Lookups.antt).
-use mathlib.Core.Path.{_≡_, refl, sym, _∙_, ap, ap₂}
-use mathlib.Core.Logic.{_⊎_, inl, inr}
-use mathlib.Core.Bool.{Bool, true, false, _&&_, false≢true, and-false}
-use mathlib.Core.List.{List, [], _∷_}
-use mathlib.Core.Option.{some, bind}
-use Prim.Native.Nat.{ℕ, _-_, _≤_, _<_}
+-- One lookup, tried with what a call gives (specs/Lookups.antt).
+use mathlib.Core.Path.{_≡_, refl, sym, _∙_, ap, ap₂, subst}
+use mathlib.Core.Logic.{⊎-elim}
+use mathlib.Core.Bool.{Bool, true, false, _&&_, not, false≢true, and-false}
+use mathlib.Core.List.{List, [], _∷_, List·Memᴰ, List·Memᴰ·head, List·Memᴰ·tail, List·Memᴰ·cases-cons}
+use mathlib.Core.List.{List·Memᴰ·not-nil}
+use mathlib.Core.Option.{Option, none, some, bind, Option·elim, Option·getD}
+use Prim.Native.Nat.{ℕ, _≤_, _<_}
 use native.Mathlib.Omega.{arith}
 use lib.Dec.{eqb, ltb}
-use lib.ListN.{length}
+use lib.ListN.{length, take, drop, getD}
 use borrow.Author.Tests.{eq-eqb, ne-eqb, eqb-true, lt-ltb, le-ltb}
-use Rattle.lists.specs.Choice.{choose, given}
-use Rattle.lists.specs.Lists.{Bytes, all, any, same}
-use Rattle.lists.proofs.ChoiceLaws.{choose-true, choose-false, or-holds}
-use Rattle.lists.proofs.ListLaws.{all-cons, all-at, any-at, first-here, first-later}
-use Rattle.tree.specs.PrefixTree.{Terminal, ownLeaf, terminalFits, lookupRoot}
-use Rattle.rules.specs.VrfOutputs.{outputOf, hasOutput}
-use Rattle.rules.specs.Response.{Target, Finding, searched, Step, Result, included, absent, otherLeaf, Lookup, isIncluded}
-use Rattle.rules.specs.Refusals.{Call, commitmentAsked, stepCommitment, commitmentBy, commitmentOf, terminal, untried, lookupHolds}
+use Rattle.lists.specs.Choice.{choose}
+use Rattle.lists.specs.Lists.{Bytes, all, first, same}
+use Rattle.lists.proofs.ChoiceLaws.{choose-true, choose-false}
+use Rattle.lists.proofs.ListLaws.{all-cons, all-at, first-here, first-later}
+use Rattle.lines.specs.Layout.{valueDigits}
+use Rattle.tree.specs.LogText.{valueIn}
+use Rattle.tree.specs.PrefixTree.{Terminal, searchedLeaf, terminalFits, lookupRoot}
+use Rattle.rules.specs.VrfOutputs.{VrfOutput, hasOutput, outputOf}
+use Rattle.rules.specs.Response.{Finding, targetOf, Step, stepVersions}
+use Rattle.rules.specs.Response.{Result, included, absent, otherLeaf, Lookup, isIncluded}
+use Rattle.rules.specs.Kinds.{KindRules}
+use Rattle.rules.specs.Search.{isIncludedAbove, searchRules}
+use Rattle.rules.specs.Monitoring.{monitoringRules}
+use Rattle.rules.specs.Refusals.{Call, kindRules, commitmentAsked, stepCommitment, commitmentBy, commitmentOf}
+use Rattle.rules.specs.Refusals.{terminal}
+use Rattle.rules.specs.Refusals.{lookupHolds, lookupPasses}
+use Rattle.rules.proofs.KindLaws.{search-rules, monitoring-rules}
+use Rattle.inputs.specs.declared.response_lines.Kind.{Kind}
+use Rattle.inputs.specs.declared.response_lines.Kind.the-variants.{Search, Monitor}
 use Rattle.inputs.specs.declared.vrf_outputs.FoundOutput.{FoundOutput}
-use Rattle.inputs.specs.VrfOutputs.{IsRecordOf}
-use Rattle.inputs.proofs.VrfOutputLaws.{found-output}
-use Rattle.checks.specs.Sections.{readLookup, OfLookup}
-use Rattle.checks.specs.Steps.{IsStepCommitment, versionsOf as stepVersions}
-use Rattle.checks.specs.Lookups.{terminalWith, reaches, Sought, passes, Passes}
-use Rattle.checks.proofs.SearchStepLaws.{isOf, stepOf, commitmentIn, commitment-was}
+use Rattle.inputs.specs.VrfOutputs.{foundOutput, recordOf, recordsBelow, IsRecordOf}
+use Rattle.inputs.proofs.VrfOutputLaws.{found-output, found-index}
+use Rattle.checks.specs.declared.lookups.Sought.{Sought}
+use Rattle.checks.specs.Sections.{CommitmentAt, readLookup, OfLookup}
+use Rattle.checks.specs.Steps.{versionsOf, CommitmentsBy}
+use Rattle.checks.specs.Lookups.{terminalWith, reaches, IsSoughtOf, TriedWith, IsStep, Passes}
 
--- what stands at a place, with a commitment that is the version's, where one is needed
-terminal-by : (c : Call) (v : ℕ) (commitment : Bytes) (r : Result) → (isIncluded r ≡ true → commitment ≡ commitmentOf c v)
+-- ---- a lookup that holds
+
+-- what stands at an offset, with a commitment that is the version's, where one is needed
+terminal-by : (c : Call) (v : ℕ) (commitment : Bytes) (r : Result)
+    → (isIncluded r ≡ true → commitment ≡ commitmentOf c v)
     → terminalWith commitment r ≡ terminal c v r
 unfolding terminalWith terminal isIncluded
-terminal-by c v commitment included h = ap ownLeaf (h refl)
+terminal-by c v commitment included h = ap searchedLeaf (h refl)
 terminal-by c v commitment absent h = refl
 terminal-by c v commitment (otherLeaf output other) h = refl
 
 -- a lookup reaches its root where it holds
-pub reaches-holds : (c : Call) (root output commitment : Bytes) (l : Lookup) → output ≡ outputOf (c .outputs) (l .version)
-    → (isIncluded (l .result) ≡ true → commitment ≡ commitmentOf c (l .version)) → reaches output commitment root l ≡ lookupHolds c root l
+reaches-holds : (c : Call) (root output commitment : Bytes) (l : Lookup)
+    → output ≡ outputOf (c .outputs) (l .version)
+    → (isIncluded (l .result) ≡ true → commitment ≡ commitmentOf c (l .version))
+    → reaches output commitment root l ≡ lookupHolds c root l
 unfolding reaches lookupHolds
 reaches-holds c root output commitment l e h =
-    ap₂ (λ (o : Bytes) (t : Terminal). terminalFits o t (length (l .siblings)) && same (lookupRoot o t (l .siblings)) root) e
+    ap₂
+    (λ (o : Bytes) (t : Terminal).
+    terminalFits o t (length (l .siblings)) && same (lookupRoot o t (l .siblings)) root)
+    e
     (terminal-by c (l .version) commitment (l .result) h)
 
--- a version below the target's that is among the steps has a commitment
-commitment-given : (target : Target) (v : ℕ) (xs : List Step) → v < target .version → all (commitmentAsked (searched target)) xs ≡ true
-    → any (eqb v) (stepVersions xs) ≡ true → given (commitmentIn (stepOf xs v)) ≡ true
-unfolding any bind
-commitment-given target v [] h a w = absurd (false≢true w)
-commitment-given target v (x ∷ xs) h a w =
-    let (p, q) = all-cons (commitmentAsked (searched target)) x xs a in
-    go p (eqb (x .version) v) refl (commitment-given target v xs h q)
+-- ---- the commitments of steps
+
+-- the first step of a version
+abbrev isOf : ℕ → Step → Bool
+isOf v x = eqb (x .version) v
+
+-- the commitment that there is, or none
+abbrev commitmentIn : Option Step → Bytes
+commitmentIn o = Option·getD (bind o (λ x. x .commitment)) []
+
+-- a commitment that is asked of a step and stands at an offset is the value there
+value-there : (s : Bytes) (offset : ℕ) (committed : Bool) (o : Option Bytes) → committed ≡ true
+    → Option·elim o (not committed) (λ _. committed) ≡ true → CommitmentAt s offset o
+    → valueIn (take valueDigits (drop offset s)) ≡ Option·getD o []
+unfolding Option·elim
+value-there s offset committed none t a h = absurd (false≢true (sym (ap not t) ∙ a))
+value-there s offset committed (some c) t a h = h
+
+-- the commitment of a step's version, where versions like it have one, stands at the offset with
+-- the number of the version's record
+commitment-stands : (s : Bytes) (outputs : List VrfOutput) (offsets : List ℕ) (isCommitted : ℕ → Bool)
+    (v : ℕ) (xs : List Step)
+    → isCommitted v ≡ true → all (commitmentAsked isCommitted) xs ≡ true → CommitmentsBy s outputs offsets xs
+    → List·Memᴰ v (versionsOf xs)
+    → valueIn (take valueDigits (drop (getD offsets (recordsBelow outputs v) 0) s)) ≡ stepCommitment xs v
+unfolding stepCommitment bind commitmentAsked
+commitment-stands s outputs offsets isCommitted v [] t a h m = absurd (List·Memᴰ·not-nil m)
+commitment-stands s outputs offsets isCommitted v (x ∷ xs) t a h m =
+    let (p, q) = all-cons (commitmentAsked isCommitted) x xs a in
+    go (eqb (x .version) v) refl p
+    (commitment-stands s outputs offsets isCommitted v xs t q (λ y n. h y (List·Memᴰ·tail n)))
   where
-    go : commitmentAsked (searched target) x ≡ true → (b : Bool) → eqb (x .version) v ≡ b
-        → (any (eqb v) (stepVersions xs) ≡ true → given (commitmentIn (stepOf xs v)) ≡ true)
-        → given (commitmentIn (stepOf (x ∷ xs) v)) ≡ true
-    go p true e f = rw (first-here (isOf v) x xs e)
-        (commitment-was target x p ∙ lt-ltb (x .version) (target .version) (omega (arith, eqb-true (x .version) v e)))
-    go p false e f = rw (first-later (isOf v) x xs e) (f (later (or-holds (eqb v (x .version)) (any (eqb v) (stepVersions xs)) w)))
-      where
-        later : (eqb v (x .version) ≡ true) ⊎ (any (eqb v) (stepVersions xs) ≡ true) → any (eqb v) (stepVersions xs) ≡ true
-        later (inl i) = absurd (false≢true (sym e ∙ eq-eqb (x .version) v (sym (eqb-true v (x .version) i))))
-        later (inr i) = i
+    offset : ℕ → ℕ
+    offset u = getD offsets (recordsBelow outputs u) 0
 
-module _ (c : Call) (outputs steps : Bytes) (places wanted : List ℕ) (t : ℕ) (own : Bytes) (s : Sought c outputs steps places wanted t own) where
-  -- in a search a lookup cannot be tried where it is there above the target
-  untried-by : (l : Lookup) → untried (c .parts .finding) l ≡ (ltb t (l .version) && isIncluded (l .result))
-  unfolding untried
-  untried-by l =
-      ap (λ (f : Finding). untried f l) (s .finding) ∙ ap (λ (v : ℕ). ltb v (l .version) && isIncluded (l .result)) (s .version)
+    go : (b : Bool) → eqb (x .version) v ≡ b → commitmentAsked isCommitted x ≡ true
+        → (List·Memᴰ v (versionsOf xs)
+        → valueIn (take valueDigits (drop (offset v) s)) ≡ commitmentIn (first (isOf v) xs))
+        → valueIn (take valueDigits (drop (offset v) s)) ≡ commitmentIn (first (isOf v) (x ∷ xs))
+    go true e p f =
+        let i = eqb-true (x .version) v e in
+        let stands = subst (λ (u : ℕ). CommitmentAt s (offset u) (x .commitment)) i (h x (List·Memᴰ·head refl)) in
+        value-there s (offset v) (isCommitted (x .version)) (x .commitment) (ap isCommitted i ∙ t) p stands
+        ∙ ap commitmentIn (sym (first-here (isOf v) x xs e))
+    go false e p f =
+        f
+        (⊎-elim (λ i. absurd (false≢true (sym e ∙ eq-eqb (x .version) v (sym i)))) (λ k. k)
+        (List·Memᴰ·cases-cons m))
+        ∙ ap commitmentIn (sym (first-later (isOf v) x xs e))
 
-  -- one that can be tried passes where it holds
-  tried-passes : (root : Bytes) (l : Lookup) → untried (c .parts .finding) l ≡ false → lookupHolds c root l ≡ passes c root l
-  unfolding passes
-  tried-passes root l e = sym (choose-false (untried (c .parts .finding) l) (λ _. true) (λ _. lookupHolds c root l) e)
+-- ---- what the kind of a call says of its lookups
 
-  -- what is found for a version that is wanted is its output
-  output-found : (v w : ℕ) (r : FoundOutput) → IsRecordOf outputs v r → v ≡ w → any (eqb w) wanted ≡ true → r .output ≡ outputOf (c .outputs) w
-  output-found v w r f e a =
-      let (u, m, q) = any-at (eqb w) wanted a in
-      let h : hasOutput (c .outputs) v ≡ true = ap (hasOutput (c .outputs)) (e ∙ eqb-true w u q) ∙ all-at (hasOutput (c .outputs)) wanted u (s .there) m in
-      ap (λ (x : FoundOutput). x .output) (f (c .outputs) (s .outputs)) ∙ found-output (c .outputs) _ v h ∙ ap (outputOf (c .outputs)) e
+-- the commitment of a version is in its step
+abbrev InStep : Call → ℕ → Type 0
+InStep c v = (commitmentOf c v ≡ stepCommitment (c .parts .steps) v) × (kindRules c .isCommitted v ≡ true)
+
+module _ (c : Call) (t : ℕ) (committed : Bytes) where
+  -- in a search a lookup cannot be tried where it is included above the version sought
+  untried-search : IsSoughtOf Search c t committed → (l : Lookup)
+      → kindRules c .untried l ≡ (ltb t (l .version) && isIncluded (l .result))
+  unfolding searchRules isIncludedAbove
+  untried-search (target, found, version, _) l =
+      ap (λ (k : KindRules). k .untried l) (search-rules c target found)
+      ∙ ap (λ (v : ℕ). ltb v (l .version) && isIncluded (l .result)) version
+
+  -- in monitoring every one can be tried
+  untried-monitoring : IsSoughtOf Monitor c t committed → (l : Lookup) → kindRules c .untried l ≡ false
+  unfolding monitoringRules
+  untried-monitoring found l = ap (λ (k : KindRules). k .untried l) (monitoring-rules c found)
+
+  -- and in both one that is not included
+  untried-absent : (k : Kind) → IsSoughtOf k c t committed → (l : Lookup) → isIncluded (l .result) ≡ false
+      → kindRules c .untried l ≡ false
+  untried-absent Search s l e = untried-search s l ∙ rw e (and-false (ltb t (l .version)))
+  untried-absent Monitor s l e = untried-monitoring s l
 
   -- the commitment of a version, in a search
-  commitment-by : (v : ℕ) → commitmentOf c v ≡ choose (eqb v t) (λ _. own) (λ _. stepCommitment (c .parts .steps) v)
-  unfolding commitmentOf commitmentBy
-  commitment-by v =
-      ap (λ (f : Finding). commitmentBy f (c .parts .label) (c .parts .steps) v) (s .finding)
-      ∙ ap₂ (λ (u : ℕ) (k : Bytes). choose (eqb v u) (λ _. k) (λ _. stepCommitment (c .parts .steps) v)) (s .version) (sym (s .commitment))
+  commitment-search : IsSoughtOf Search c t committed → (v : ℕ)
+      → commitmentOf c v ≡ choose (eqb v t) (λ _. committed) (λ _. stepCommitment (c .parts .steps) v)
+  unfolding commitmentOf commitmentBy targetOf
+  commitment-search (target, found, version, isCommitment) v =
+      ap (λ (f : Finding). commitmentBy (targetOf f) (c .parts .label) (c .parts .steps) v) found
+      ∙ ap₂ (λ (u : ℕ) (k : Bytes). choose (eqb v u) (λ _. k) (λ _. stepCommitment (c .parts .steps) v))
+      version (sym isCommitment)
 
-  -- of the target it is its own
-  commitment-own : (v : ℕ) → v ≡ t → own ≡ commitmentOf c v
-  commitment-own v e = sym (commitment-by v ∙ choose-true (eqb v t) (λ _. own) (λ _. stepCommitment (c .parts .steps) v) (eq-eqb v t e))
+  -- of the version sought it is its own
+  commitment-target : IsSoughtOf Search c t committed → (v : ℕ) → v ≡ t → committed ≡ commitmentOf c v
+  commitment-target s v e = sym (commitment-search s v ∙ choose-true (eqb v t) _ _ (eq-eqb v t e))
 
-  -- of a version below it that is wanted it is that of the step
-  commitment-step : (v : ℕ) (r : Bytes) → IsStepCommitment steps places wanted v r → v < t → any (eqb v) wanted ≡ true → r ≡ commitmentOf c v
-  commitment-step v r f h a =
-      let target = s .target in
-      let xs = c .parts .steps in
-      let asked : all (commitmentAsked (searched target)) xs ≡ true = ap (λ (f : Finding). all (commitmentAsked f) xs) (sym (s .finding)) ∙ s .asked in
-      let known = commitment-given target v xs (omega (arith, s .version)) asked (ap (any (eqb v)) (s .steps) ∙ a) in
-      f xs (s .steps) (s .stand) known
-      ∙ sym (commitment-by v ∙ choose-false (eqb v t) (λ _. own) (λ _. stepCommitment xs v) (ne-eqb v t (λ e. omega arith)))
+  -- of a version below it, it is in the step
+  step-below : IsSoughtOf Search c t committed → (v : ℕ) → v < t → InStep c v
+  unfolding searchRules
+  step-below s v h = (
+    commitment-search s v ∙ choose-false (eqb v t) _ _ (ne-eqb v t (λ e. omega arith)),
+    ap (λ (k : KindRules). k .isCommitted v) (search-rules c (s .0) (s .1)) ∙ ap (ltb v) (s .2) ∙ lt-ltb v t h,
+  )
 
--- a lookup line of which the version, the output found for it, and whether it says that the version is there are told
-module _ (line root outputs steps : Bytes) (places wanted : List ℕ) (t : ℕ) (own : Bytes) (v : ℕ) (found : FoundOutput) (there : Bool)
+  -- in monitoring, of all
+  step-monitored : IsSoughtOf Monitor c t committed → (v : ℕ) → InStep c v
+  unfolding monitoringRules commitmentOf commitmentBy targetOf
+  step-monitored found v = (
+    ap (λ (f : Finding). commitmentBy (targetOf f) (c .parts .label) (c .parts .steps) v) found,
+    ap (λ (k : KindRules). k .isCommitted v) (monitoring-rules c found),
+  )
+
+-- ---- a lookup line
+
+-- one that can be tried passes where it holds
+tried-passes : (c : Call) (root : Bytes) (l : Lookup) → kindRules c .untried l ≡ false
+    → lookupHolds c root l ≡ lookupPasses c root l
+unfolding lookupPasses
+tried-passes c root l e = sym (choose-false (kindRules c .untried l) (λ _. true) (λ _. lookupHolds c root l) e)
+
+-- one of which its version, the record found for it, and whether it is included are told
+module _ (line root outputs steps : Bytes) (offsets : List ℕ) (s : Sought) (v : ℕ) (found : FoundOutput)
+    (there : Bool)
     (versionTold : OfLookup line (λ (l : Lookup). l .version) v) (outputTold : IsRecordOf outputs v found)
     (thereTold : OfLookup line (λ (l : Lookup). isIncluded (l .result)) there) where
-  -- one that can be tried, with a commitment that is the version's where it is there, passes where it reaches the root
+  -- the record is that of the version
+  found-told : (c : Call) (l : Lookup) → TriedWith c s outputs steps offsets → readLookup line ≡ some l
+      → IsStep c l
+      → (found .output ≡ outputOf (c .outputs) (l .version))
+      × (found .index ≡ recordsBelow (c .outputs) (l .version))
+  found-told c l w q m =
+      let u = l .version in
+      let xs = c .outputs in
+      let has = all-at (hasOutput xs) (stepVersions (c .parts)) u (w .there) m in
+      let is : found ≡ foundOutput (recordsBelow xs u) (recordOf xs u) =
+      subst (λ (x : ℕ). IsRecordOf outputs x found) (versionTold l q) outputTold xs (w .outputs) in (
+        ap (λ (x : FoundOutput). x .output) is ∙ found-output xs (recordsBelow xs u) u has,
+        ap (λ (x : FoundOutput). x .index) is ∙ found-index xs (recordsBelow xs u) u has,
+      )
+
+  -- one that can be tried, with a commitment that is the version's where it is included, passes
+  -- where it reaches the root
   passes-by : (commitment : Bytes) (r : Bool) → OfLookup line (reaches (found .output) commitment root) r
-      → ((c : Call) (l : Lookup) → Sought c outputs steps places wanted t own → readLookup line ≡ some l → any (eqb (l .version)) wanted ≡ true
-      → ((ltb t (l .version) && isIncluded (l .result)) ≡ false) × (isIncluded (l .result) ≡ true → commitment ≡ commitmentOf c (l .version)))
-      → Passes line root outputs steps places wanted t own r
-  passes-by commitment r f h c l s q w =
-      let (u, k) = h c l s q w in
-      f l q
-      ∙ reaches-holds c root (found .output) commitment l
-      (output-found c outputs steps places wanted t own s v (l .version) found outputTold (versionTold l q) w) k
-      ∙ tried-passes c outputs steps places wanted t own s root l (untried-by c outputs steps places wanted t own s l ∙ u)
+      → ((c : Call) (l : Lookup) → TriedWith c s outputs steps offsets → readLookup line ≡ some l → IsStep c l
+      → (kindRules c .untried l ≡ false)
+      × (isIncluded (l .result) ≡ true → commitment ≡ commitmentOf c (l .version)))
+      → Passes line root s outputs steps offsets r
+  passes-by commitment r f h c l w q m =
+      let (u, k) = h c l w q m in
+      f l q ∙ reaches-holds c root (found .output) commitment l (found-told c l w q m .0) k
+      ∙ tried-passes c root l u
 
-  -- one that says that its version is not there is tried without a commitment
-  pub passes-absent : there ≡ false → (r : Bool) → OfLookup line (reaches (found .output) own root) r → Passes line root outputs steps places wanted t own r
-  passes-absent n r f =
-      passes-by own r f
-      (λ c l s q w.
-      let e : isIncluded (l .result) ≡ false = sym (thereTold l q) ∙ n in
-      (rw e (and-false (ltb t (l .version))), λ i. absurd (false≢true (sym e ∙ i))))
-
-  -- one that is there above the target passes untried
-  pub passes-untried : there ≡ true → t < v → Passes line root outputs steps places wanted t own true
-  unfolding passes
-  passes-untried y h c l s q w =
-      let e : untried (c .parts .finding) l ≡ true =
-      untried-by c outputs steps places wanted t own s l
-      ∙ ap₂ _&&_ (lt-ltb t (l .version) (omega (arith, versionTold l q))) (sym (thereTold l q) ∙ y) in
-      sym (choose-true (untried (c .parts .finding) l) (λ _. true) (λ _. lookupHolds c root l) e)
-
-  -- one of a version not above the target, with a commitment
-  passes-there : v ≤ t → (commitment : Bytes) (r : Bool) → OfLookup line (reaches (found .output) commitment root) r
-      → ((c : Call) → Sought c outputs steps places wanted t own → any (eqb v) wanted ≡ true → commitment ≡ commitmentOf c v)
-      → Passes line root outputs steps places wanted t own r
-  passes-there h commitment r f k =
+  -- one that is not included is tried without a commitment
+  pub passes-absent : there ≡ false → (commitment : Bytes) (r : Bool)
+      → OfLookup line (reaches (found .output) commitment root) r
+      → Passes line root s outputs steps offsets r
+  passes-absent n commitment r f =
       passes-by commitment r f
-      (λ c l s q w.
-      let e = versionTold l q in (
-        ap (λ (b : Bool). b && isIncluded (l .result)) (le-ltb t (l .version) (omega arith)),
-        λ _. k c s (ap (λ (u : ℕ). any (eqb u) wanted) e ∙ w) ∙ ap (commitmentOf c) e,
+      (λ c l w q m.
+      let e : isIncluded (l .result) ≡ false = sym (thereTold l q) ∙ n in (
+        untried-absent c (s .version) (s .commitment) (s .kind) (w .sought) l e,
+        λ i. absurd (false≢true (sym e ∙ i)),
       ))
 
-  -- the target itself is tried with its own commitment
-  pub passes-own : v ≡ t → (r : Bool) → OfLookup line (reaches (found .output) own root) r → Passes line root outputs steps places wanted t own r
-  passes-own e r f = passes-there (omega arith) own r f (λ c s w. commitment-own c outputs steps places wanted t own s v e)
+  module _ (isSearch : s .kind ≡ Search) where
+    -- what is sought in a search
+    sought-search : (c : Call) → TriedWith c s outputs steps offsets
+        → IsSoughtOf Search c (s .version) (s .commitment)
+    sought-search c w = subst (λ (k : Kind). IsSoughtOf k c (s .version) (s .commitment)) isSearch (w .sought)
 
-  -- a version below it with that of its step
-  pub passes-step : v < t → (commitment : Bytes) (r : Bool) → IsStepCommitment steps places wanted v commitment
-      → OfLookup line (reaches (found .output) commitment root) r → Passes line root outputs steps places wanted t own r
-  passes-step h commitment r k f =
-      passes-there (omega arith) commitment r f (λ c s w. commitment-step c outputs steps places wanted t own s v commitment k h w)
+    -- one that is included above the version sought passes untried
+    pub passes-untried : there ≡ true → s .version < v → Passes line root s outputs steps offsets true
+    unfolding lookupPasses
+    passes-untried y h c l w q m =
+        let e : kindRules c .untried l ≡ true =
+        untried-search c (s .version) (s .commitment) (sought-search c w) l
+        ∙ ap₂ _&&_ (lt-ltb (s .version) (l .version) (omega (arith, versionTold l q))) (sym (thereTold l q) ∙ y) in
+        sym (choose-true (kindRules c .untried l) (λ _. true) (λ _. lookupHolds c root l) e)
+
+    -- one of a version not above it can be tried
+    tried-below : v ≤ s .version → (c : Call) (l : Lookup) → TriedWith c s outputs steps offsets
+        → readLookup line ≡ some l
+        → kindRules c .untried l ≡ false
+    tried-below h c l w q =
+        untried-search c (s .version) (s .commitment) (sought-search c w) l
+        ∙ ap (λ (b : Bool). b && isIncluded (l .result))
+        (le-ltb (s .version) (l .version) (omega (arith, versionTold l q)))
+
+    -- the version sought is tried with its own commitment
+    pub passes-target : v ≡ s .version → (r : Bool)
+        → OfLookup line (reaches (found .output) (s .commitment) root) r
+        → Passes line root s outputs steps offsets r
+    passes-target e r f =
+        passes-by (s .commitment) r f
+        (λ c l w q m. (
+          tried-below (omega arith) c l w q,
+          λ _. commitment-target c (s .version) (s .commitment) (sought-search c w) (l .version)
+              (sym (versionTold l q) ∙ e),
+        ))
+
+  -- a version whose commitment is in its step is tried with the value at the offset of its record
+  module _ (commitment : Bytes) (r : Bool)
+      (stands : commitment ≡ valueIn (take valueDigits (drop (getD offsets (found .index) 0) steps)))
+      (told : OfLookup line (reaches (found .output) commitment root) r) where
+    passes-step : ((c : Call) (l : Lookup) → TriedWith c s outputs steps offsets → readLookup line ≡ some l
+        → (kindRules c .untried l ≡ false) × InStep c (l .version))
+        → Passes line root s outputs steps offsets r
+    passes-step h =
+        passes-by commitment r told
+        (λ c l w q m.
+        let (u, (inStep, committed)) = h c l w q in (
+          u,
+          λ _. stands
+              ∙ ap (λ (i : ℕ). valueIn (take valueDigits (drop (getD offsets i 0) steps))) (found-told c l w q m .1)
+              ∙ commitment-stands steps (c .outputs) offsets (kindRules c .isCommitted) (l .version)
+              (c .parts .steps) committed (w .asked) (w .stand) m
+              ∙ sym inStep,
+        ))
+
+    -- in a search those below the version sought
+    pub passes-below : s .kind ≡ Search → v < s .version → Passes line root s outputs steps offsets r
+    passes-below isSearch h =
+        passes-step
+        (λ c l w q. (
+          tried-below isSearch (omega arith) c l w q,
+          step-below c (s .version) (s .commitment) (sought-search isSearch c w) (l .version)
+              (omega (arith, versionTold l q)),
+        ))
+
+    -- in monitoring all
+    pub passes-monitored : s .kind ≡ Monitor → Passes line root s outputs steps offsets r
+    passes-monitored isMonitoring =
+        passes-step
+        (λ c l w q.
+        let k = subst (λ (k : Kind). IsSoughtOf k c (s .version) (s .commitment)) isMonitoring (w .sought) in (
+          untried-monitoring c (s .version) (s .commitment) k l,
+          step-monitored c (s .version) (s .commitment) k (l .version),
+        ))

@@ -1,53 +1,55 @@
--- What is known of the entries of a response, from where their lines stand: for contracts of private functions alone.
+-- What is known of the entries of a response: for contracts of private functions alone.
 use mathlib.Core.Path.{_≡_}
 use mathlib.Core.Bool.{Bool, true, _&&_, cond}
 use mathlib.Core.List.{List, map}
 use Prim.Native.Nat.{ℕ, _+_}
 use lib.Dec.{leb, ltb}
-use lib.ListN.{take}
 use Rattle.lists.specs.Lists.{Bytes, all, unfalling, lastOr}
-use Rattle.tree.specs.LogText.{entriesAt}
-use Rattle.rules.specs.State.{State}
-use Rattle.rules.specs.Response.{Target, searched, Lookup, Entry, logEntry}
-use Rattle.rules.specs.Search.{Asked}
-use Rattle.rules.specs.Refusals.{entriesAsked, timeFits}
-use Rattle.inputs.specs.Response.{entriesIn}
+use Rattle.tree.specs.SearchTree.{frontierAndPaths}
+use Rattle.rules.specs.State.{KeptLog}
+use Rattle.rules.specs.Response.{Lookup, Entry}
+use Rattle.rules.specs.Kinds.{askedAt}
+use Rattle.rules.specs.Refusals.{entriesAsked, timestampFits}
+use Rattle.inputs.specs.declared.response_lines.Kind.{Kind}
+use Rattle.checks.specs.declared.timestamps.Timestamps.{Timestamps}
+use Rattle.checks.specs.MonitoredVersions.{wantedBy, fitBy}
 
 abbrev pub versionsOf : List Lookup → List ℕ
 versionsOf ls = map (λ (l : Lookup). l .version) ls
 
--- the entries at some positions, with the same versions asked of each
-abbrev pub askedAt : List ℕ → List ℕ → List Asked
-askedAt positions wanted = map (λ (p : ℕ). record { position = p; versions = wanted }) positions
-
--- whether the entries of a search are as asked
-abbrev pub AreEntriesAsked : Bytes → List ℕ → List ℕ → Bool → Type 0
-AreEntriesAsked s positions wanted r = (target : Target) → r ≡ entriesAsked (searched target) (askedAt positions wanted) (entriesIn s)
-
--- entries stand at some places
-abbrev pub EntriesStand : Bytes → List ℕ → List Entry → Type 0
-EntriesStand s places es = entriesAt s places ≡ map logEntry es
-
--- where they are as asked, they stand at the places
-abbrev pub AreEntriesAt : Bytes → ℕ → List ℕ → Bool → Type 0
-AreEntriesAt s count places asked = asked ≡ true → EntriesStand s (take count places) (entriesIn s)
+-- the entries are as asked: the frontier and the right paths of the positions, the lookups of each
+-- as its kind wants
+abbrev pub areAsked : Kind → List ℕ → ℕ → List ℕ → List ℕ → List Entry → Bool
+areAsked kind ladder n ps vs es =
+    entriesAsked (fitBy kind) (askedAt (wantedBy kind ladder n ps vs) (frontierAndPaths n ps)) es
 
 -- ---- times
 
--- whether their times do not fall, and fit the kept size and time
-abbrev pub AreTimesFit : Bytes → List ℕ → ℕ → ℕ → Bool → Type 0
-AreTimesFit s places size time r =
-    (st : State) (es : List Entry) → st .size ≡ size → st .time ≡ time → EntriesStand s places es
-    → r ≡ (unfalling (map (λ (e : Entry). e .time) es) && all (timeFits st) es)
+abbrev pub timestampsOf : List Entry → List ℕ
+timestampsOf es = map (λ (e : Entry). e .timestamp) es
 
--- the time of the last one
-abbrev pub IsLastTime : Bytes → List ℕ → ℕ → Type 0
-IsLastTime s places r = (es : List Entry) → EntriesStand s places es → r ≡ lastOr 0 (map (λ (e : Entry). e .time) es)
-
--- a time is not too far ahead of the clock, nor too far behind it
-abbrev pub nearClock : ℕ → ℕ → ℕ → ℕ → Bool
-nearClock time clock ahead behind = leb time (clock + ahead) && leb clock (time + behind)
+-- where the entries are as asked: whether their times do not fall, and fit the kept size and time;
+-- the time of the last
+abbrev pub AreTimestamps : ℕ → ℕ → List Entry → Bool → Bool → ℕ → Type 0
+AreTimestamps size timestamp es asked fit last =
+    asked ≡ true
+    → ((log : KeptLog) → log .size ≡ size → log .timestamp ≡ timestamp
+    → fit ≡ (unfalling (timestampsOf es) && all (timestampFits log) es))
+    × (last ≡ lastOr 0 (timestampsOf es))
 
 -- the time of an entry fits the kept size and time, by its position
 abbrev pub fitsKept : ℕ → ℕ → ℕ → ℕ → Bool
-fitsKept position there size time = cond (ltb position size) (leb there time) (leb time there)
+fitsKept position there size timestamp = cond (ltb position size) (leb there timestamp) (leb timestamp there)
+
+-- no entry so far
+unfoldable pub noTimestamps : Timestamps
+noTimestamps = record { latest = 0; fit = true }
+
+-- an entry more
+unfoldable pub timestampsAfter : ℕ → ℕ → Timestamps → ℕ → ℕ → Timestamps
+timestampsAfter size timestamp t position there =
+    record { latest = there; fit = t .fit && leb (t .latest) there && fitsKept position there size timestamp }
+
+-- a time is not too far ahead of the clock, nor too far behind it
+abbrev pub nearClock : ℕ → ℕ → ℕ → ℕ → Bool
+nearClock timestamp clock ahead behind = leb timestamp (clock + ahead) && leb clock (timestamp + behind)

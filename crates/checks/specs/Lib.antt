@@ -1,10 +1,7 @@
 pub mod Sections
 pub mod Steps
+pub mod MonitoredVersions
 pub mod Entries
 pub mod Lookups
 pub mod Map
 pub mod Calls
-pub mod Search
-pub mod MonitoredVersions
-pub mod Monitoring
-pub mod SignedText

@@ -4,12 +4,12 @@ ghost use Prim.Native.Nat.{_≤_};
 ghost use lib.ListN.{length};
 ghost use Rattle.rules.specs.Limits.{labelLimit, valueLimit, openingLength};
 ghost use Rattle.rules.specs.Commitment.{commitmentTo};
-ghost use Rattle.inputs.specs.ResponseLines.{spelled};
+ghost use Rattle.inputs.specs.ResponseLines.{decoded};
 use hash::hmac::finish;
 use hash::hmac::start;
 use inputs::response_lines::Target;
 use lines::writing::Put;
-use lines::writing::put_spelled;
+use lines::writing::put_decoded;
 
 // The key of both suites (001, 15.1).
 const KEY: [u8; 16] = [
@@ -31,17 +31,19 @@ const KEY: [u8; 16] = [
     0xf5,
 ];
 
-// The commitment to a value under a label, with an opening; value and opening are given by the fields that spell them.
+// The commitment to a value under a label, with an opening; value and opening are given by the
+// fields that encode them.
 pub(crate) fn commitment(opening: &[u8], label: &[u8], value: &[u8]) -> [u8; 32]
-    requires opening { ⌜ length (spelled (now opening)) ≡ openingLength ⌝ }
+    requires opening { ⌜ length (decoded (now opening)) ≡ openingLength ⌝ }
     requires label { ⌜ length (now label) ≤ labelLimit ⌝ }
-    requires value { ⌜ length (spelled (now value)) ≤ valueLimit ⌝ }
-    ensures { λ r. ⌜ r ≡ commitmentTo (spelled (now (opening .entry))) (now (label .entry)) (spelled (now (value .entry))) ⌝ }
+    requires value { ⌜ length (decoded (now value)) ≤ valueLimit ⌝ }
+    ensures { λ r. ⌜ r ≡ commitmentTo (decoded (now (opening .entry))) (now (label .entry))
+        (decoded (now (value .entry))) ⌝ }
 {
     let mut opened = [0u8; Target::OPENING];
     let mut shown = [0u8; Target::VALUE];
-    put_spelled(&mut opened, 0, opening);
-    let length = match put_spelled(&mut shown, 0, value) {
+    put_decoded(&mut opened, 0, opening);
+    let length = match put_decoded(&mut shown, 0, value) {
         Put::Next(stop) => stop,
         Put::Unchanged => 0,
     };

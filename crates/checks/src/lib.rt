@@ -1,27 +1,21 @@
-// The calls on a response (paper 01, Sixteen numbers).
-mod asked;
+// The calls on a response (paper 01, Sixteen numbers). `call` has the whole of a call, `readings` 1
+// to 5, `trial` 6 to 14 in the order of trial, `acceptance` what follows from them; `search` and
+// `monitoring` have what the kinds ask.
+mod acceptance;
+pub mod call;
 mod commitment;
 mod entries;
-mod given;
-mod head;
 pub mod limits;
 mod lookups;
 mod map;
-mod monitored_asked;
-mod monitored_entries;
-mod monitored_lookups;
-mod monitored_map;
-mod monitored_shown;
-mod monitored_steps;
 mod monitored_versions;
-pub mod monitoring;
-mod monitoring_checks;
-pub mod readings;
-pub mod search;
-mod search_checks;
+mod monitoring;
+mod readings;
+mod request;
+mod search;
 mod sections;
-mod shown;
 pub mod signed_text;
 mod steps;
-mod times;
+mod timestamps;
 mod tree_head;
+mod trial;

@@ -1,4 +1,5 @@
-// The most bytes of what a call is given (paper 01, Sixteen numbers: 1); the state's are State::TEXT.
+// The most bytes of what a call is given (paper 01, Sixteen numbers: 1); the state's are
+// State::TEXT.
 pub struct InputLimit {}
 
 impl InputLimit {

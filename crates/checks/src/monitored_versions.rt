@@ -19,17 +19,23 @@ pub(crate) enum LargestPair {
     NoPair,
 }
 
-// The pair with the largest version of those whose right path holds an entry of a log of n entries.
-pub(crate) fn largest_pair(n: u64, positions: &[u64], versions: &[u32], entry: u64) -> LargestPair
+// The pair with the largest version of those whose right path holds an entry of a log of tree_size
+// entries.
+pub(crate) fn largest_pair(
+    tree_size: u64,
+    positions: &[u64],
+    versions: &[u32],
+    entry: u64,
+) -> LargestPair
     requires { ⌜ length (now positions) ≡ length (now versions) ⌝ }
-    ensures { λ r. ⌜ IsLargest n (now (positions .entry)) (now (versions .entry)) entry r ⌝ }
+    ensures { λ r. ⌜ IsLargest «tree_size» (now (positions .entry)) (now (versions .entry)) entry r ⌝ }
 {
     let mut pair: usize = 0;
     let mut above: u64 = 0;
     let mut i = positions.len();
     while 0 < i {
         i -= 1;
-        if is_right_ancestor(n, positions[i], entry) {
+        if is_right_ancestor(tree_size, positions[i], entry) {
             let version = versions[i] as u64;
             if above <= version {
                 above = version + 1;
@@ -46,7 +52,8 @@ pub(crate) fn largest_pair(n: u64, positions: &[u64], versions: &[u32], entry: u
 // The versions of a version's ladder that are not above it, in their order.
 pub(crate) fn versions_not_above(version: u32) -> Ladder
     requires { ⌜ version ≤ greatestVersion ⌝ }
-    ensures { λ r. ⌜ (r .versions ≡ padded ladderCapacity (notAbove version)) × (r .length ≡ length (notAbove version)) ⌝ }
+    ensures { λ r. ⌜ (r .versions ≡ padded ladderCapacity (notAbove version))
+        × (r .length ≡ length (notAbove version)) ⌝ }
 {
     let whole = Ladder::of(version);
     let all = whole.versions;

@@ -1,190 +1,120 @@
-// A search (paper 01): whether its response is accepted, and what comes of it.
+// What a search asks of a response (paper 01, Ladder, search, monitoring).
 ghost use mathlib.Core.Path.{_≡_};
-ghost use mathlib.Core.Bool.{true};
-ghost use lib.ListN.{length, take};
-ghost use Rattle.lists.specs.Choice.{given};
-ghost use Rattle.rules.specs.Refusals.{validState};
-ghost use Rattle.rules.specs.Calls.{judgeSearch, outputAfter};
-ghost use Rattle.inputs.specs.State.{stateOf};
-ghost use Rattle.checks.specs.Calls.{argumentsOf, Readable};
-ghost use Rattle.checks.specs.Search.{searchAnswer, IsAcceptedAnswer, AreAcceptedBytes, IsReadAnswer, AreReadBytes};
-use crate::map::with_pair;
-use crate::readings::ReadInputs;
-use crate::readings::read_inputs;
-use crate::search_checks::Checked;
-use crate::search_checks::check_search;
-use crate::tree_head::is_tree_head;
-use inputs::response::Response;
-use inputs::state::State;
-use lines::writing::Put;
-use lines::writing::put_spelled;
-use tree::log_head::LogHead;
+ghost use Prim.Native.Nat.{_≤_};
+ghost use lib.ListN.{length};
+ghost use Rattle.tree.specs.Ladder.{ladder};
+ghost use Rattle.rules.specs.Limits.{vrfOutputsLimit};
+ghost use Rattle.inputs.specs.declared.response_lines.Kind.the-variants.{Search};
+ghost use Rattle.checks.specs.Calls.{offsetBound, Shapeable, IsShape};
+ghost use Rattle.checks.specs.Sections.{StepLines};
+ghost use Rattle.checks.specs.Steps.{recordsCapacity, AreSearchSteps, AreOutputsThere};
+ghost use Rattle.checks.specs.Steps.{AreCommitmentsBy};
+use crate::entries::entries_asked;
+use crate::readings::Call;
+use crate::sections::NextStep;
+use crate::sections::next_step;
+use crate::steps::StepsAsked;
+use crate::steps::note_commitment;
+use crate::trial::Shape;
+use inputs::response_lines::Kind;
+use tree::ladder::Ladder;
 
-// 0 for acceptance, or the number of the refusal; the state afterwards; the version found, and how many of the output bytes its value fills.
-pub struct SearchAnswer {
-    pub number: u64,
-    pub state: State,
-    pub version: u32,
-    pub length: usize,
-}
-
-// The answer to a response: for a state, the identifier sent, the clock, the VRF outputs and the signed text that the chip approved. The value of an accepted
-// search is written to the first output bytes.
-pub fn search(
-    response: &[u8],
-    configuration: &[u8],
-    state: State,
-    identifier: &[u8],
-    clock: u64,
-    outputs: &[u8],
-    signed: &[u8],
-    output: &mut [u8],
-) -> SearchAnswer
-    ensures answer { λ r. ⌜ r ≡ searchAnswer state (judgeSearch (stateOf state)
-        (argumentsOf (now (response .entry)) (now (configuration .entry)) (now (identifier .entry)) clock (now (outputs .entry)))
-        (now (signed .entry)) (now (output .entry))) ⌝ }
-    ensures bytes { λ r. ⌜ now (output .exit) ≡ outputAfter (now (output .entry)) (judgeSearch (stateOf state)
-        (argumentsOf (now (response .entry)) (now (configuration .entry)) (now (identifier .entry)) clock (now (outputs .entry)))
-        (now (signed .entry)) (now (output .entry))) ⌝ }
-{
-    let valid = state.is_valid();
-    match read_inputs(response, configuration, valid, identifier, outputs, signed) {
-        ReadInputs::Taken {
-            ahead,
-            behind,
-            response: r,
-        } => searched(
-            response,
-            r,
-            configuration,
-            ahead,
-            behind,
-            state,
-            identifier,
-            clock,
-            outputs,
-            signed,
-            output,
-        ),
-        ReadInputs::Refused(number) => refused(number, state),
-    }
-}
-
-// The value of an accepted search: the part of the output bytes that it fills.
-pub fn value(output: &[u8], length: usize) -> &[u8]
-    ensures { λ r. ⌜ now r ≡ take length (now (output .entry)) ⌝ }
-{
-    if output.len() < length {
-        return output;
-    }
-    &output[..length]
-}
-
-// A refusal: the state as given, and no version nor value.
-fn refused(number: u64, state: State) -> SearchAnswer
-    ensures { λ r. ⌜ r ≡ record { number = number; state = state; version = 0; length = 0 } ⌝ }
-{
-    SearchAnswer {
-        number,
-        state,
-        version: 0,
-        length: 0,
-    }
-}
-
-// The answer to a response that was read.
-fn searched(
+// Whether a search shows what is asked: the frontier, in each entry a beginning of the ladder, and
+// the ladder as steps. The offsets of the commitments go into the table lent.
+pub(crate) fn search_asked(
     text: &[u8],
-    r: Response,
-    configuration: &[u8],
-    ahead: u64,
-    behind: u64,
-    state: State,
-    identifier: &[u8],
-    clock: u64,
+    call: Call,
+    positions: &[u64],
+    versions: &[u32],
     outputs: &[u8],
-    signed: &[u8],
-    output: &mut [u8],
-) -> SearchAnswer
-    requires { ⌜ Readable (stateOf state) (now text) r (now identifier) (now outputs) ⌝ }
-    ensures answer { λ a. ⌜ IsReadAnswer (now (text .entry)) r (now (configuration .entry)) ahead behind state (now (identifier .entry)) clock (now (outputs .entry)) (now (signed .entry)) (length (now (output .entry))) a ⌝ }
-    ensures bytes { λ a. ⌜ AreReadBytes (now (text .entry)) r (now (configuration .entry)) ahead behind state (now (identifier .entry)) clock (now (outputs .entry)) (now (signed .entry)) (now (output .entry)) (now (output .exit)) ⌝ }
+    commitments: &mut [u32],
+) -> Shape
+    requires possible { ⌜ Shapeable (now text) call (now positions) (now versions) (now outputs) ⌝ }
+    requires kind { ⌜ call .response .kind ≡ Search ⌝ }
+    requires room { ⌜ length (now commitments) ≡ recordsCapacity ⌝ }
+    ensures { λ s. ⌜ IsShape (now (text .entry)) call (now (positions .entry)) (now (versions .entry))
+        (now (outputs .entry)) s (now (commitments .exit)) ⌝ }
 {
-    let mut values = [0u8; LogHead::BLOCK];
-    let checked = check_search(
-        text,
-        r,
-        ahead,
-        behind,
-        state,
-        identifier,
-        clock,
-        outputs,
-        &mut values,
+    let version = call.response.target.version;
+    let whole = Ladder::of(version);
+    let ladder = whole.versions;
+    let length = whole.length;
+    let mut marks = [0u32; 1];
+    let entries = entries_asked(
+        Kind::Search,
+        call.response.entries.part.of(text),
+        call.response.tree_size,
+        call.kept_size,
+        call.kept_timestamp,
+        &ladder[..length],
+        &positions[..0],
+        &versions[..0],
+        &mut marks[..0],
     );
-    if checked.number != 0 {
-        return refused(checked.number, state);
+    let steps = search_steps(
+        call.response.steps.part.of(text),
+        &ladder[..length],
+        version,
+        outputs,
+        commitments,
+    );
+    Shape {
+        asked: entries.asked & steps.asked,
+        outputs: steps.there,
+        timestamps: entries.timestamps,
+        timestamp: entries.timestamp,
     }
-    let root = checked.root;
-    if !is_tree_head(signed, configuration, r.size, root) {
-        return refused(15, state);
-    }
-    accepted(
-        r.target.value.of(text),
-        r.target.version,
-        r.size,
-        state,
-        checked,
-        values,
-        output,
-    )
 }
 
-// The answer where none of 1 to 15 applies: 16, or acceptance.
-fn accepted(
-    field: &[u8],
+// The steps of a search for a version, whose ladder is wanted: its versions, with the commitments
+// of those below the version. The offsets of the commitments go into the table lent, by the records
+// of their versions' outputs.
+fn search_steps(
+    steps: &[u8],
+    wanted: &[u32],
     version: u32,
-    size: u64,
-    state: State,
-    checked: Checked,
-    values: [u8; LogHead::BLOCK],
-    output: &mut [u8],
-) -> SearchAnswer
-    requires valid { ⌜ given (validState (stateOf state)) ≡ true ⌝ }
-    ensures answer { λ a. ⌜ IsAcceptedAnswer (now (field .entry)) version size state checked values (length (now (output .entry))) a ⌝ }
-    ensures bytes { λ a. ⌜ AreAcceptedBytes (now (field .entry)) version size state checked values (now (output .entry)) (now (output .exit)) ⌝ }
+    outputs: &[u8],
+    offsets: &mut [u32],
+) -> StepsAsked
+    requires lines { ⌜ StepLines (now steps) ⌝ }
+    requires short { ⌜ length (now steps) ≤ offsetBound ⌝ }
+    requires ladder { ⌜ now wanted ≡ ladder version ⌝ }
+    requires outputs { ⌜ length (now outputs) ≤ vrfOutputsLimit ⌝ }
+    requires room { ⌜ length (now offsets) ≡ recordsCapacity ⌝ }
+    ensures asked { λ r. ⌜ AreSearchSteps (now (steps .entry)) version (r .asked) ⌝ }
+    ensures there { λ r. ⌜ AreOutputsThere (now (steps .entry)) (now (outputs .entry)) (r .asked)
+        (r .there) ⌝ }
+    ensures offsets { λ r. ⌜ AreCommitmentsBy (now (steps .entry)) (now (outputs .entry)) (r .asked)
+        (r .there) (now (offsets .exit)) ⌝ }
 {
-    let old_positions = state.positions;
-    let old_versions = state.versions;
-    let map = with_pair(
-        old_positions,
-        old_versions,
-        state.pairs,
-        checked.position,
-        version,
-    );
-    if !map.fits {
-        return refused(16, state);
+    let mut at: usize = 0;
+    let mut there = true;
+    let mut i: usize = 0;
+    while i < wanted.len() {
+        let NextStep::Step {
+            version: shown,
+            committed,
+            commitment,
+            next,
+        } = next_step(steps, at)
+        else {
+            return StepsAsked {
+                asked: false,
+                there,
+            };
+        };
+        if (shown != wanted[i]) | (committed != (shown < version)) {
+            return StepsAsked {
+                asked: false,
+                there,
+            };
+        }
+        there &= note_commitment(outputs, shown, commitment, offsets);
+        at = next;
+        i += 1;
     }
-    let Put::Next(written) = put_spelled(output, 0, field) else {
-        return refused(16, state);
-    };
-    let label = state.label;
-    let positions = map.positions;
-    let versions = map.versions;
-    SearchAnswer {
-        number: 0,
-        state: State {
-            label,
-            length: state.length,
-            size,
-            time: checked.time,
-            values,
-            positions,
-            versions,
-            pairs: map.count,
-        },
-        version,
-        length: written,
+    StepsAsked {
+        asked: at == steps.len(),
+        there,
     }
 }

@@ -1,73 +1,67 @@
-// The lines of a response's sections, one at a time, once the response has been read: of each line it is known what it is.
+// The lines of a response's sections, one at a time, once the response has been read: of each line
+// it is known what it is.
 ghost use mathlib.Core.Path.{_≡_};
 ghost use mathlib.Core.List.{[]};
 ghost use Prim.Native.Nat.{_≤_};
 ghost use lib.ListN.{length, drop};
 ghost use Rattle.rules.specs.Response.{Lookup, isIncluded};
 ghost use Rattle.inputs.specs.Response.{looseIn};
-ghost use Rattle.checks.specs.Sections.{StepLines, EntryLines, IsNextStep, IsNextEntry, IsNextLookup, OfLookup};
+ghost use Rattle.checks.specs.Sections.{StepLines, EntryLines, IsNextStep, IsNextEntry, IsNextLookup};
+ghost use Rattle.checks.specs.Sections.{OfLookup};
 use lines::cursor::Cursor;
 use lines::cursor::NextLine;
 use lines::cursor::NextNumber;
+use lines::layout::Layout;
 
-// A step: its version, whether it has a commitment, and the place of its digits; the place of the next line.
+// A step: its version, whether it has a commitment, and the offset of its digits; the offset of the
+// next line.
 pub(crate) enum NextStep {
     Step {
         version: u32,
-        given: bool,
+        committed: bool,
         commitment: usize,
         next: usize,
     },
-    NoStep,
+    Unread,
 }
 
-// An entry, by the place after its line.
+// An entry, by the offset after its line.
 pub(crate) enum NextEntry {
     Entry(usize),
-    NoEntry,
+    Unread,
 }
 
-// A lookup, by the place where its line stops; the place of the next line.
+// A lookup, by the offset where its line stops; the offset of the next line.
 pub(crate) enum NextLookup {
     Lookup { stop: usize, next: usize },
-    NoLookup,
+    Unread,
 }
 
-// The bytes of a line before its first field: the word and a tab.
-const STEP_WORD: usize = 5;
-
-pub(crate) const ENTRY_WORD: usize = 6;
-
-pub(crate) const LOOKUP_WORD: usize = 3;
-
-// The digits of a value.
-pub(crate) const DIGITS: usize = 64;
-
-// The step at a place.
+// The step at an offset.
 pub(crate) fn next_step(steps: &[u8], at: usize) -> NextStep
     requires lines { ⌜ StepLines (drop at (now steps)) ⌝ }
     requires within { ⌜ at ≤ length (now steps) ⌝ }
     ensures { λ r. ⌜ IsNextStep (now (steps .entry)) at r ⌝ }
 {
     let NextLine::Ended { stop, next } = Cursor { at }.line(steps) else {
-        return NextStep::NoStep;
+        return NextStep::Unread;
     };
     let line = &steps[at..stop];
-    let NextNumber::Read { value, next: field } = Cursor { at: STEP_WORD }.number(
+    let NextNumber::Read { value, next: field } = Cursor { at: Layout::STEP }.number(
         line,
         u32::MAX as u64,
     ) else {
-        return NextStep::NoStep;
+        return NextStep::Unread;
     };
     NextStep::Step {
         version: value as u32,
-        given: line.len() == field.at + DIGITS,
+        committed: line.len() == field.at + Layout::DIGITS,
         commitment: at + field.at,
         next: next.at,
     }
 }
 
-// The entry at a place where no lookup stands.
+// The entry at an offset where no lookup stands.
 pub(crate) fn next_entry(entries: &[u8], at: usize) -> NextEntry
     requires lines { ⌜ EntryLines (drop at (now entries)) ⌝ }
     requires loose { ⌜ looseIn (drop at (now entries)) ≡ [] ⌝ }
@@ -77,21 +71,21 @@ pub(crate) fn next_entry(entries: &[u8], at: usize) -> NextEntry
     let start = Cursor { at };
     match start.line(entries) {
         NextLine::Ended { stop: _, next } => NextEntry::Entry(next.at),
-        NextLine::Open => NextEntry::NoEntry,
+        NextLine::Unread => NextEntry::Unread,
     }
 }
 
-// The lookup at a place, where an entry may stand too.
+// The lookup at an offset, where an entry may stand too.
 pub(crate) fn next_lookup(entries: &[u8], at: usize) -> NextLookup
     requires lines { ⌜ EntryLines (drop at (now entries)) ⌝ }
     requires within { ⌜ at ≤ length (now entries) ⌝ }
     ensures { λ r. ⌜ IsNextLookup (now (entries .entry)) at r ⌝ }
 {
     if entries.len() <= at {
-        return NextLookup::NoLookup;
+        return NextLookup::Unread;
     }
-    if entries[at] == b'e' {
-        return NextLookup::NoLookup;
+    if entries[at] == Layout::ENTRY_LETTER {
+        return NextLookup::Unread;
     }
     let start = Cursor { at };
     match start.line(entries) {
@@ -99,7 +93,7 @@ pub(crate) fn next_lookup(entries: &[u8], at: usize) -> NextLookup
             stop,
             next: next.at,
         },
-        NextLine::Open => NextLookup::NoLookup,
+        NextLine::Unread => NextLookup::Unread,
     }
 }
 
@@ -107,7 +101,7 @@ pub(crate) fn next_lookup(entries: &[u8], at: usize) -> NextLookup
 pub(crate) fn lookup_version(line: &[u8]) -> u32
     ensures { λ r. ⌜ OfLookup (now (line .entry)) (λ (l : Lookup). l .version) r ⌝ }
 {
-    let start = Cursor { at: LOOKUP_WORD };
+    let start = Cursor { at: Layout::LOOKUP };
     match start.number(line, u32::MAX as u64) {
         NextNumber::Read { value, next: _ } => value as u32,
         NextNumber::Unread => 0,
@@ -121,5 +115,5 @@ pub(crate) fn is_included(line: &[u8]) -> bool
     if line.len() == 0 {
         return false;
     }
-    line[0] == b'i'
+    line[0] == Layout::IN_LETTER
 }

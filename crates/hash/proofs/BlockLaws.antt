@@ -1,4 +1,5 @@
--- Laws of one block (specs/Block.antt): the words of a block, the schedule by sixteen words, and the rounds by sixteen.
+-- Laws of one block (specs/Block.antt): the words of a block, the schedule by sixteen words, and
+-- the rounds by sixteen.
 use mathlib.Core.Path.{_≡_, refl, sym, ap, _∙_}
 use mathlib.Core.List.{List, [], _∷_, _++_, append-assoc, append-nil}
 use Prim.Native.Nat.{ℕ, zero, suc, _+_, _-_, _*_, _%_, _≤_, _<_}
@@ -6,8 +7,10 @@ use native.Mathlib.Nat.{add-zero, add-suc}
 use native.Mathlib.Numerals.{add-one}
 use native.Mathlib.Omega.{arith}
 use native.Mathlib.Decide.{decLt}
-use lib.ListN.{length, getD, take, drop, set, length-append, length-drop, take-append-drop, drop-of-length-le, List·getD-append}
-use lib.Seq.{set-at, drop-append-le, getD-take, getD-drop, getD-append-add, take-append-le, take-all, take-suc-set, drop-cons}
+use lib.ListN.{length, getD, take, drop, set, length-append, length-drop, take-append-drop, drop-of-length-le}
+use lib.ListN.{List·getD-append}
+use lib.Seq.{set-at, drop-append-le, getD-take, getD-drop, getD-append-add, take-append-le, take-all}
+use lib.Seq.{take-suc-set, drop-cons}
 use Rattle.hash.specs.declared.block.HashValue.{HashValue}
 use Rattle.hash.specs.Words.{word, constants}
 use Rattle.hash.specs.Block.{words, mixed, next, extended, schedule, round, rounds, added, compressed}
@@ -90,7 +93,8 @@ extended-front (suc n) w h = take-append-le 16 (extended n w) (next (extended n 
 new-length : (n : ℕ) (w : List ℕ) → length w ≡ 16 → length (drop 16 (extended n w)) ≡ n
 new-length n w h = length-drop 16 (extended n w) ∙ omega (arith, extended-length n w)
 
--- The window: sixteen words in which each new word takes the place of the oldest. After t words it has these t, and then the old ones that are left.
+-- The window: sixteen words in which each new word takes the place of the oldest. After t words it
+-- has these t, and then the old ones that are left.
 pub window : ℕ → List ℕ → List ℕ
 window t w = drop 16 (extended t w) ++ drop t w
 
@@ -108,7 +112,8 @@ next-sixteen w u h hu =
     let e : u ≡ drop 16 (extended 16 w) = hu ∙ window-full w h in
     (ap length e ∙ new-length 16 w h, e)
 
--- a word of the schedule stands in the window at its number modulo 16: among the old words where it is one of the first sixteen, else among the new
+-- a word of the schedule stands in the window at its number modulo 16: among the old words where it
+-- is one of the first sixteen, else among the new
 window-at : (t j : ℕ) (w : List ℕ) → length w ≡ 16 → t < 16 → j < 16 → getD (window t w) ((t + j) % 16) 0 ≡ getD (extended t w) (t + j) 0
 unfolding window
 window-at t j w h ht hj = go (decLt (t + j) 16)
@@ -209,8 +214,9 @@ unfolding words
 words-length zero b = refl
 words-length (suc n) b = let e = words-length n b in simp length-append (omega arith)
 
--- Four times sixteen rounds, each with its constants and the words that follow the last ones, are the sixty-four of a block:
--- the schedule is the four sixteens of words one after the other, and rounds over an appended list are rounds after rounds.
+-- Four times sixteen rounds, each with its constants and the words that follow the last ones, are
+-- the sixty-four of a block: the schedule is the four sixteens of words one after the other, and
+-- rounds over an appended list are rounds after rounds.
 pub four-sixteens : (v v0 v1 v2 v3 : HashValue) (k0 k1 k2 k3 b w0 w1 w2 w3 : List ℕ) → w0 ≡ words 16 b → w1 ≡ drop 16 (extended 16 w0)
     → w2 ≡ drop 16 (extended 16 w1) → w3 ≡ drop 16 (extended 16 w2) → v0 ≡ rounds 16 v k0 w0 → v1 ≡ rounds 16 v0 k1 w1
     → v2 ≡ rounds 16 v1 k2 w2 → v3 ≡ rounds 16 v2 k3 w3 → k0 ++ (k1 ++ (k2 ++ k3)) ≡ constants → length k0 ≡ 16 → length k1 ≡ 16

@@ -1,10 +1,12 @@
--- Laws of numbers as bytes and of lists filled up with zeros (specs/Bytes.antt). A buffer that starts all zero and is filled from its front is a `padded` list at each step.
+-- Laws of numbers as bytes and of lists filled up with zeros (specs/Bytes.antt). A buffer that
+-- starts all zero and is filled from its front is a `padded` list at each step.
 use mathlib.Core.Path.{_≡_, refl, sym, _∙_, ap}
 use mathlib.Core.List.{List, [], _∷_, _++_, map, append-assoc, append-nil}
 use Prim.Native.Nat.{ℕ, zero, suc, _+_, _-_, _/_, _%_, _≤_, _<_}
 use native.Mathlib.Nat.{le-of-eq}
 use native.Mathlib.Omega.{arith}
-use lib.ListN.{length, getD, take, drop, set, replicate, length-append, length-take, length-drop, length-replicate, length-map, replicate-append-replicate}
+use lib.ListN.{length, getD, take, drop, set, replicate, length-append, length-take, length-drop}
+use lib.ListN.{length-replicate, length-map, replicate-append-replicate}
 use lib.Seq.{paste, take-at, drop-at, drop-append-add, set-at, take-all, take-length, length-take-le}
 use Rattle.hash.specs.Bytes.{AreBytes, bigEndian, padded}
 

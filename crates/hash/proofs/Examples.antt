@@ -1,5 +1,6 @@
--- Published examples as theorems about the definitions: antt computes each one.
--- SHA-256: NIST's examples for FIPS 180-4. HMAC-SHA-256: RFC 4231, test cases 2 and 6 (a key shorter and one longer than a block).
+-- Published examples as theorems about the definitions: antt computes each one. SHA-256: NIST's
+-- examples for FIPS 180-4. HMAC-SHA-256: RFC 4231, test cases 2 and 6 (a key shorter and one longer
+-- than a block).
 use mathlib.Core.Path.{_≡_, refl}
 use mathlib.Core.List.{[], _∷_}
 use lib.ListN.{replicate}

@@ -1,4 +1,5 @@
--- Laws of a message that comes in parts (specs/Hasher.antt): what a Hasher is does not depend on how the message was cut, and its digest is the message's.
+-- Laws of a message that comes in parts (specs/Hasher.antt): what a Hasher is does not depend on
+-- how the message was cut, and its digest is the message's.
 use mathlib.Core.Path.{_≡_, refl, sym, ap, _∙_}
 use mathlib.Core.List.{List, [], _++_, append-assoc}
 use Prim.Native.Nat.{ℕ, _+_, _-_, _*_, _/_, _%_, _^_, _≤_, _<_}
@@ -12,8 +13,10 @@ use Rattle.hash.specs.Bytes.{padded}
 use Rattle.hash.specs.Block.{compressed}
 use Rattle.hash.specs.Sha256.{initial, blocks, finished, sha256}
 use Rattle.hash.specs.Hasher.{pending, started, taken, updated, closed}
-use Rattle.hash.proofs.BytesLaws.{padded-nil, padded-first, padded-paste, padded-full, take-padded, length-padded}
-use Rattle.hash.proofs.MessageLaws.{blocks-zero, blocks-more, blocks-add, blocks-front, finished-split, finished-count}
+use Rattle.hash.proofs.BytesLaws.{padded-nil, padded-first, padded-paste, padded-full, take-padded}
+use Rattle.hash.proofs.BytesLaws.{length-padded}
+use Rattle.hash.proofs.MessageLaws.{blocks-zero, blocks-more, blocks-add, blocks-front, finished-split}
+use Rattle.hash.proofs.MessageLaws.{finished-count}
 
 -- whole blocks may be taken first
 taken-split : (n : ℕ) (v : HashValue) (s : List ℕ) (l : ℕ) → 64 * n ≤ length s → taken v s l ≡ taken (blocks n v s) (drop (64 * n) s) l

@@ -14,7 +14,8 @@ use Rattle.hash.specs.declared.hasher.Hasher.{Hasher}
 use Rattle.hash.specs.Bytes.{AreBytes, padded}
 use Rattle.hash.specs.Sha256.{sha256}
 use Rattle.hash.specs.Hasher.{started, updated, closed}
-use Rattle.hash.specs.Hmac.{keyBlock, xored, innerKey, outerKey, innerString, outerString, hmac, begun, ended}
+use Rattle.hash.specs.Hmac.{keyBlock, xored, innerKey, outerKey, innerString, outerString, hmac, begun}
+use Rattle.hash.specs.Hmac.{ended}
 use Rattle.hash.proofs.BytesLaws.{bytes-append, bytes-zeros, padded-first}
 use Rattle.hash.proofs.MessageLaws.{length-digest, bytes-digest}
 use Rattle.hash.proofs.HasherLaws.{updated-append, closed-updated}
@@ -48,7 +49,8 @@ key-long k d b h hd e =
 
 -- ---- a text that comes in parts
 
--- the code, from a hasher that has taken the text: the outer key and the inner digest are hashed as two parts
+-- the code, from a hasher that has taken the text: the outer key and the inner digest are hashed as
+-- two parts
 pub ended-law : (k : List ℕ) (h n u w : Hasher) (o i r : List ℕ) → n ≡ started → o ≡ xored 0x5c (keyBlock k) → i ≡ closed h
     → u ≡ updated n o → w ≡ updated u i → r ≡ closed w → r ≡ ended k h
 unfolding ended outerKey

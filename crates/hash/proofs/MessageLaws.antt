@@ -11,7 +11,9 @@ use Rattle.hash.specs.declared.block.HashValue.{HashValue}
 use Rattle.hash.specs.Bytes.{AreBytes, bigEndian, padded}
 use Rattle.hash.specs.Block.{compressed}
 use Rattle.hash.specs.Sha256.{padding, blocks, initial, digestOf, finished, sha256}
-use Rattle.hash.proofs.BytesLaws.{bytes-append, bytes-bigEndian, length-bigEndian, length-padded, padded-set, padded-zeros, padded-first, padded-paste, take-padded, tail-part}
+use Rattle.hash.proofs.BytesLaws.{bytes-append, bytes-bigEndian, length-bigEndian, length-padded}
+use Rattle.hash.proofs.BytesLaws.{padded-set, padded-zeros, padded-first, padded-paste, take-padded}
+use Rattle.hash.proofs.BytesLaws.{tail-part}
 
 -- ---- the blocks
 
@@ -67,8 +69,8 @@ length-padding l = let e = length-bigEndian 8 (l * 2 ^ 3 % 2 ^ 64) in simp (leng
 pub whole-blocks : (m : List ℕ) → length (m ++ padding (length m)) % 64 ≡ 0
 whole-blocks m = omega (arith, length-append m (padding (length m)), length-padding (length m))
 
--- The bytes `rest`, a byte 128 and, from a place on, the count of bits, put one after the other into 128 zeros,
--- are `rest` and its padding, where the place is right after the padding's zeros.
+-- The bytes `rest`, a byte 128 and, from a place on, the count of bits, put one after the other
+-- into 128 zeros, are `rest` and its padding, where the place is right after the padding's zeros.
 pub ending-law : (rest b e bits : List ℕ) (l at : ℕ) → length rest + 1 + (119 - l % 64) % 64 ≡ at → at + 8 ≤ 128
     → b ≡ paste (replicate 128 0) 0 rest (length rest) → length bits ≡ 8 → bits ≡ bigEndian 8 (l * 2 ^ 3 % 2 ^ 64)
     → e ≡ paste (set b (length rest) 128) at bits (length bits) → (length e ≡ 128) × (e ≡ padded 128 (rest ++ padding l))

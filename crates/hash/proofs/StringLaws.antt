@@ -1,4 +1,5 @@
--- Laws of the buffers in which src/strings.rt puts a string together: zeros, filled from the front until they are full.
+-- Laws of the buffers in which src/strings.rt puts a string together: zeros, filled from the front
+-- until they are full.
 use mathlib.Core.Path.{_≡_, refl, _∙_}
 use mathlib.Core.List.{List, [], _∷_, _++_, append-assoc}
 use Prim.Native.Nat.{ℕ, _+_}

@@ -18,7 +18,9 @@ mixed w2 w7 w15 w16 = (smallSigma1 w2 + w7 + smallSigma0 w15 + w16) % 2 ^ 32
 
 -- the word that follows the words w of a schedule
 unfoldable pub next : List ℕ → ℕ
-next w = mixed (getD w (length w - 2) 0) (getD w (length w - 7) 0) (getD w (length w - 15) 0) (getD w (length w - 16) 0)
+next w =
+    mixed (getD w (length w - 2) 0) (getD w (length w - 7) 0) (getD w (length w - 15) 0)
+    (getD w (length w - 16) 0)
 
 -- n words more
 unfoldable pub extended : ℕ → List ℕ → List ℕ

@@ -1,4 +1,5 @@
--- Numbers as bytes, the highest byte first (FIPS 180-4, 3.1; RFC 8446, 3.3), and lists filled up with zeros.
+-- Numbers as bytes, the highest byte first (FIPS 180-4, 3.1; RFC 8446, 3.3), and lists filled up
+-- with zeros.
 use mathlib.Core.List.{List, [], _∷_, _++_}
 use Prim.Native.Nat.{ℕ, zero, suc, _-_, _/_, _%_, _<_}
 use lib.ListN.{length, replicate}

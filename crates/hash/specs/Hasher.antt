@@ -1,4 +1,5 @@
--- SHA-256 of a message that comes in parts: what a Hasher is after each part. Laws in proofs/HasherLaws.antt say that its digest is then that of the whole message.
+-- SHA-256 of a message that comes in parts: what a Hasher is after each part. Laws in
+-- proofs/HasherLaws.antt say that its digest is then that of the whole message.
 use mathlib.Core.List.{List, _++_}
 use Prim.Native.Nat.{ℕ, _+_, _*_, _/_, _%_, _^_}
 use lib.ListN.{length, take, drop, replicate}
@@ -15,7 +16,8 @@ pending h = take (h .count % 64) (h .block)
 unfoldable pub started : Hasher
 started = record { value = initial; block = replicate 64 0; count = 0 }
 
--- what is left after s, the last bytes of a message of l bytes, from the hash value v of the blocks before s
+-- what is left after s, the last bytes of a message of l bytes, from the hash value v of the blocks
+-- before s
 unfoldable pub taken : HashValue → List ℕ → ℕ → Hasher
 taken v s l =
     record {

@@ -37,7 +37,8 @@ outerString k m = outerKey k ++ sha256 (innerString k m)
 unfoldable pub hmac : List ℕ → List ℕ → List ℕ
 hmac k m = sha256 (outerString k m)
 
--- the same of a text that comes in parts: a Hasher that has taken K XOR ipad, and the code from one that has then taken the text
+-- the same of a text that comes in parts: a Hasher that has taken K XOR ipad, and the code from one
+-- that has then taken the text
 unfoldable pub begun : List ℕ → Hasher
 begun k = updated started (innerKey k)
 

@@ -1,4 +1,5 @@
--- The words of SHA-256: the operations of FIPS 180-4, 2.2.2 and 3.2, the functions of 4.1.2 and the constants of 4.2.2. A word is a number below 2 ^ 32.
+-- The words of SHA-256: the operations of FIPS 180-4, 2.2.2 and 3.2, the functions of 4.1.2 and the
+-- constants of 4.2.2. A word is a number below 2 ^ 32.
 use mathlib.Core.List.{List, [], _∷_}
 use Prim.Native.Nat.{ℕ, _+_, _-_, _*_, _/_, _%_, _^_}
 use lib.Bits.{bitAnd, bitOr, bitXor}

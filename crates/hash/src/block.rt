@@ -1,4 +1,5 @@
-// One block of SHA-256 (FIPS 180-4, 6.2.2). Sixteen words of the message schedule are kept at a time.
+// One block of SHA-256 (FIPS 180-4, 6.2.2). Sixteen words of the message schedule are kept at a
+// time.
 ghost use mathlib.Core.Path.{_≡_};
 ghost use Prim.Native.Nat.{_+_, _≤_};
 ghost use lib.ListN.{length, take, drop};
@@ -115,7 +116,8 @@ fn mixed(w2: u32, w7: u32, w15: u32, w16: u32) -> u32
 // Step 1 for the next sixteen words, which take the places of the sixteen words w.
 fn next_words(w: &mut [u32; 16])
     requires { ⌜ length (now w) ≡ 16 ⌝ }
-    ensures { λ _. ⌜ (length (now (w .exit)) ≡ 16) × (now (w .exit) ≡ drop 16 (Block.extended 16 (now (w .entry)))) ⌝ }
+    ensures { λ _. ⌜ (length (now (w .exit)) ≡ 16)
+        × (now (w .exit) ≡ drop 16 (Block.extended 16 (now (w .entry)))) ⌝ }
 {
     w[0] = mixed(w[14], w[9], w[1], w[0]);
     w[1] = mixed(w[15], w[10], w[2], w[1]);

@@ -8,7 +8,8 @@ ghost use Rattle.hash.specs.Bytes.{bigEndian};
 // Copies src into dst from a place on.
 pub(crate) fn copy_at(dst: &mut [u8], at: usize, src: &[u8])
     requires { ⌜ at + length (now src) ≤ length (now dst) ⌝ }
-    ensures { λ _. ⌜ now (dst .exit) ≡ paste (now (dst .entry)) at (now (src .entry)) (length (now (src .entry))) ⌝ }
+    ensures { λ _. ⌜ now (dst .exit)
+        ≡ paste (now (dst .entry)) at (now (src .entry)) (length (now (src .entry))) ⌝ }
 {
     let n = src.len();
     for i in 0..n {
@@ -16,7 +17,7 @@ pub(crate) fn copy_at(dst: &mut [u8], at: usize, src: &[u8])
     }
 }
 
-// The number that four bytes spell.
+// The number that four bytes encode.
 pub fn number4(a: u8, b: u8, c: u8, d: u8) -> u32
     ensures { λ r. ⌜ r ≡ ((a * 256 + b) * 256 + c) * 256 + d ⌝ }
 {

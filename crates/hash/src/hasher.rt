@@ -14,7 +14,8 @@ use crate::sha256::finish;
 use crate::sha256::initial;
 use std::num::wrapping_add_u64;
 
-// The hash value after the whole blocks of what has come, the bytes after them with zeros behind, and how many bytes have come, modulo 2^64.
+// The hash value after the whole blocks of what has come, the bytes after them with zeros after,
+// and how many bytes have come, modulo 2^64.
 pub struct Hasher {
     pub value: HashValue,
     pub block: [u8; 64],
@@ -78,7 +79,8 @@ fn filled(old: [u8; 64], fill: usize, part: &[u8]) -> [u8; 64]
     block
 }
 
-// What is left where a message of `count` bytes ends in s, from the hash value of the blocks before s.
+// What is left where a message of `count` bytes ends in s, from the hash value of the blocks before
+// s.
 fn taken(v: HashValue, s: &[u8], count: u64) -> Hasher
     ensures { λ r. ⌜ r ≡ Hasher·.taken v (now (s .entry)) count ⌝ }
 {
@@ -94,7 +96,8 @@ fn taken(v: HashValue, s: &[u8], count: u64) -> Hasher
     }
 }
 
-// The digest of a message of `count` bytes, from the hash value of its whole blocks and the bytes after them.
+// The digest of a message of `count` bytes, from the hash value of its whole blocks and the bytes
+// after them.
 fn closed(v: HashValue, block: [u8; 64], count: u64) -> [u8; 32]
     ensures { λ r. ⌜ r ≡ finished v count (take (count % 64) block) ⌝ }
 {

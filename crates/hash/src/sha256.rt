@@ -38,7 +38,8 @@ pub(crate) fn blocks(v: HashValue, s: &[u8]) -> HashValue
     x
 }
 
-// The last bytes of a message of `total` bytes, fewer than a block, with the padding after them (5.1.1) and zeros after that.
+// The last bytes of a message of `total` bytes, fewer than a block, with the padding after them
+// (5.1.1) and zeros after that.
 fn ending(rest: &[u8], total: u64) -> [u8; 128]
     requires { ⌜ (length (now rest) < 64) × (total % 64 ≡ length (now rest)) ⌝ }
     ensures { λ r. ⌜ (length r ≡ 128) × (r ≡ padded 128 (now (rest .entry) ++ Sha256.padding total)) ⌝ }
@@ -57,7 +58,8 @@ fn ending(rest: &[u8], total: u64) -> [u8; 128]
     }
 }
 
-// The digest of a message of `total` bytes from the hash value of its whole blocks and the bytes after them.
+// The digest of a message of `total` bytes from the hash value of its whole blocks and the bytes
+// after them.
 pub(crate) fn finish(v: HashValue, total: u64, rest: &[u8]) -> [u8; 32]
     requires { ⌜ (length (now rest) < 64) × (total % 64 ≡ length (now rest)) ⌝ }
     ensures { λ r. ⌜ r ≡ Sha256.finished v total (now (rest .entry)) ⌝ }

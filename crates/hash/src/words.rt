@@ -1,4 +1,5 @@
-// Words of 32 bits: the functions of FIPS 180-4, 4.1.2, sums modulo 2^32, and a word from its bytes (3.1).
+// Words of 32 bits: the functions of FIPS 180-4, 4.1.2, sums modulo 2^32, and a word from its bytes
+// (3.1).
 ghost use mathlib.Core.Path.{_≡_};
 ghost use Prim.Native.Nat.{_+_, _%_, _^_, _≤_};
 ghost use lib.ListN.{length};

@@ -1,4 +1,5 @@
--- Laws of reading a configuration (crate rules, specs/Configuration.antt): what each step of the reader means at its place, one law for each way out.
+-- Laws of reading a configuration (crate rules, specs/Configuration.antt): what each step of the
+-- reader means at its offset, one law for each way out.
 use mathlib.Core.Path.{_≡_, refl, sym, _∙_, ap}
 use mathlib.Core.List.{[]}
 use mathlib.Core.Option.{Option, none, some, bind}
@@ -14,10 +15,12 @@ use Rattle.lists.specs.Lists.{Bytes, same}
 use Rattle.lists.proofs.ListLaws.{equal-same, differ-same}
 use Rattle.lines.specs.declared.part.Part.{Part}
 use Rattle.lines.specs.Readings.{partOf}
-use Rattle.lines.proofs.PlaceLaws.{at-cons, at-end}
+use Rattle.lines.proofs.OffsetLaws.{at-cons, at-end}
 use Rattle.rules.specs.Encoding.{bytesAfter, uint, readUint, readOpaque}
-use Rattle.rules.specs.Configuration.{Configuration, p256Suite, contactMonitoring, readPresent, readOptional, readConfiguration}
-use Rattle.rules.proofs.EncodingLaws.{after-byte, after-none, byte-fits, bytes-front, bytes-short, uint-front, uint-short}
+use Rattle.rules.specs.Configuration.{Configuration, p256Suite, contactMonitoring, readPresent, readOptional}
+use Rattle.rules.specs.Configuration.{readConfiguration}
+use Rattle.rules.proofs.EncodingLaws.{after-byte, after-none, byte-fits, bytes-front, bytes-short, uint-front}
+use Rattle.rules.proofs.EncodingLaws.{uint-short}
 use Rattle.inputs.specs.Configuration.{uint8, uint16, uint64, readFront, readTimes}
 
 -- ---- numbers
@@ -28,7 +31,7 @@ byte-room i n b l h k =
     let p : 256 ^ suc i ≤ 256 ^ uint64 = pow-le-pow-right {n = 256} (omega arith) l in
     omega (arith, byte-fits i n b h k)
 
--- the number grows by the byte at a place
+-- the number grows by the byte at an offset
 pub byte-taken : (s : Bytes) (i n : ℕ) → i < length s → bytesAfter n (drop i s) ≡ bytesAfter (n * 256 + getD s i 0) (drop (i + 1) s)
 byte-taken s i n h = ap (bytesAfter n) (at-cons s i h) ∙ after-byte n (getD s i 0) (drop (i + 1) s)
 
@@ -37,7 +40,7 @@ pub bytes-taken : (s : Bytes) (i n : ℕ) → length s ≤ i → bytesAfter n (d
 bytes-taken s i n h = ap (bytesAfter n) (at-end s i h) ∙ after-none n
 
 module _ (s : Bytes) (at width : ℕ) where
-  -- too few bytes at a place are no number
+  -- too few bytes at an offset are no number
   pub no-uint : length s - at < width → readUint width (drop at s) ≡ none
   no-uint h = uint-short width (drop at s) (omega (arith, length-drop at s))
 

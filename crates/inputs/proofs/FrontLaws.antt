@@ -1,5 +1,6 @@
--- Laws of bytes that are put at the front of others, and of arrays of zeros that are filled from their front: with bytes that fit, or with the first
--- elements of a list, as far as there is room (specs/StateReader.antt).
+-- Laws of bytes that are put at the front of others, and of arrays of zeros that are filled from
+-- their front: with bytes that fit, or with the first elements of a list, as far as there is room
+-- (specs/StateReader.antt).
 use mathlib.Core.Path.{_≡_, refl, sym, _∙_, ap}
 use mathlib.Core.Logic.{_⊎_, inl, inr}
 use mathlib.Core.List.{List, [], _∷_, _++_}
@@ -15,13 +16,13 @@ use Rattle.lists.specs.Lists.{Bytes, written}
 use Rattle.lists.proofs.ChoiceLaws.{provided-some, provided-none}
 use Rattle.hash.specs.Bytes.{padded}
 use Rattle.hash.proofs.BytesLaws.{length-padded, padded-nil, padded-set, padded-paste}
-use Rattle.lines.specs.Writing.{placeAfter, putAt, putAny}
+use Rattle.lines.specs.Writing.{offsetAfter, putAt, putAny}
 use Rattle.lines.proofs.WritingLaws.{put-fits, put-over, put-some}
 use Rattle.inputs.specs.StateReader.{front}
 
 -- ---- bytes put into zeros
 
--- bytes put behind a list that zeros fill up
+-- bytes put after a list that zeros fill up
 put-behind : (n at : ℕ) (s t d : List ℕ) → d ≡ padded n s → length s ≡ at → at + length t ≤ n → putAt d at t ≡ padded n (s ++ t)
 unfolding written
 put-behind n at s t d e l h =
@@ -35,17 +36,17 @@ put-first n o b e h = put-some (replicate n 0) 0 o b e .1 ∙ put-behind n 0 [] 
 -- ---- bytes put at the front of others
 
 module _ (s t : Bytes) where
-  -- where there is a place after them, they fit, and it is their length
-  pub place-fits : (n : ℕ) → placeAfter s 0 t ≡ some n → (length t ≤ length s) × (length t ≡ n)
-  unfolding placeAfter
-  place-fits n e =
+  -- where there is an offset after them, they fit, and it is their length
+  pub offset-fits : (n : ℕ) → offsetAfter s 0 t ≡ some n → (length t ≤ length s) × (length t ≡ n)
+  unfolding offsetAfter
+  offset-fits n e =
       let (h, l) = provided-some (leb (0 + length t) (length s)) (0 + length t) n e in
       (omega (arith, leb-true (0 + length t) (length s) h), omega (arith, l))
 
   -- where there is none, they are longer
-  pub place-over : placeAfter s 0 t ≡ none → length s < length t
-  unfolding placeAfter
-  place-over e = omega (arith, leb-false (0 + length t) (length s) (provided-none (leb (0 + length t) (length s)) (0 + length t) e))
+  pub offset-over : offsetAfter s 0 t ≡ none → length s < length t
+  unfolding offsetAfter
+  offset-over e = omega (arith, leb-false (0 + length t) (length s) (provided-none (leb (0 + length t) (length s)) (0 + length t) e))
 
 -- ---- the first elements of a list
 

@@ -1,22 +1,46 @@
--- Laws of the pairs of a monitoring map, which stand as positions and as versions (specs/State.antt).
+-- Laws of the pairs of a monitoring map, which stand as positions and as versions
+-- (specs/State.antt).
 use mathlib.Core.Path.{_≡_, refl, sym, _∙_, ap, ap₂}
 use mathlib.Core.Bool.{Bool, true, false, and-false}
 use mathlib.Core.List.{List, [], _∷_}
 use Prim.Native.Nat.{ℕ, zero, suc, _+_, _≤_, _<_}
+use native.Mathlib.Numerals.{add-one}
 use native.Mathlib.Omega.{arith}
-use lib.Dec.{leb}
-use lib.ListN.{length, getD, take, drop, length-take, length-map}
-use lib.Seq.{getD-take}
-use borrow.Author.Tests.{le-leb, lt-leb, leb-true}
+use lib.Dec.{leb, ltb}
+use lib.ListN.{length, getD, take, drop, length-take, length-map, drop-of-length-le}
+use lib.Seq.{getD-take, drop-cons}
+use borrow.Author.Tests.{le-leb, lt-leb, lt-ltb, le-ltb, leb-true}
 use Rattle.lists.specs.Lists.{all}
 use Rattle.lists.proofs.ListLaws.{all-at, at-member}
-use Rattle.lines.proofs.PlaceLaws.{at-cons}
+use Rattle.lines.proofs.OffsetLaws.{at-cons}
 use Rattle.tree.specs.LogWalk.{risingBelow}
-use Rattle.tree.proofs.RisingBelowLaws.{between, between-low, between-high, between-next, between-end}
+use Rattle.tree.proofs.RisingBelowLaws.{between, between-all}
 use Rattle.rules.specs.Limits.{greatestVersion}
 use Rattle.rules.specs.State.{MapEntry, positions, versions}
 use Rattle.inputs.specs.State.{mapOf, pairsFit}
 use Rattle.inputs.proofs.RoomLaws.{all-next, all-stops, all-ends}
+
+-- ---- positions, tested one after the other
+
+module _ (n : ℕ) (ps : List ℕ) (least i d : ℕ) (h : between least n (drop i ps) ≡ between 0 n ps) where
+  -- one that is below the bound decides
+  pub between-low : i < length ps → getD ps i d < least → false ≡ risingBelow n ps
+  between-low l u = sym (sym (between-all n ps) ∙ sym h ∙ ap (between least n) (drop-cons ps i d l) ∙ rw (lt-leb least (getD ps i d) u) refl)
+
+  -- so does one that is not below n
+  pub between-high : i < length ps → least ≤ getD ps i d → n ≤ getD ps i d → false ≡ risingBelow n ps
+  between-high l u v =
+      sym (sym (between-all n ps) ∙ sym h ∙ ap (between least n) (drop-cons ps i d l) ∙ rw (le-leb least (getD ps i d) u, le-ltb (getD ps i d) n v) refl)
+
+  -- past another what is left decides
+  pub between-next : i < length ps → least ≤ getD ps i d → getD ps i d < n → between (getD ps i d + 1) n (drop (i + 1) ps) ≡ between 0 n ps
+  between-next l u v =
+      rw (add-one i, add-one (getD ps i d))
+      (sym (ap (between least n) (drop-cons ps i d l) ∙ rw (le-leb least (getD ps i d) u, lt-ltb (getD ps i d) n v) refl) ∙ h)
+
+  -- at the end nothing is left
+  pub between-end : length ps ≤ i → true ≡ risingBelow n ps
+  between-end l = sym (sym (between-all n ps) ∙ sym h ∙ ap (between least n) (drop-of-length-le ps l))
 
 -- ---- pairs, tested one after the other
 
@@ -24,7 +48,8 @@ use Rattle.inputs.proofs.RoomLaws.{all-next, all-stops, all-ends}
 abbrev isNotTooGreat : ℕ → Bool
 isNotTooGreat v = leb v greatestVersion
 
--- what is left of the first pairs from i on, with a bound that the positions are to reach, decides whether they fit
+-- what is left of the first pairs from i on, with a bound that the positions are to reach, decides
+-- whether they fit
 pub record PairsLeft (size pairs : ℕ) (ps vs : List ℕ) (least i : ℕ) : Type 0 where
   pub rise : between least size (drop i (take pairs ps)) ≡ between 0 size (take pairs ps)
   pub versionsFit : all isNotTooGreat (drop i (take pairs vs)) ≡ all isNotTooGreat (take pairs vs)
@@ -77,7 +102,7 @@ module _ (size pairs : ℕ) (ps vs : List ℕ) (least i : ℕ) (left : PairsLeft
           versionsFit = all-next isNotTooGreat (take pairs vs) i (omega (arith, length-take pairs vs)) t ∙ left .versionsFit;
         }
 
--- where no version is too great, the one at a place is not
+-- where no version is too great, the one at an offset is not
 pub version-within : (vs : List ℕ) (i : ℕ) → all isNotTooGreat vs ≡ true → i < length vs → getD vs i 0 ≤ greatestVersion
 version-within vs i a h = leb-true (getD vs i 0) greatestVersion (all-at isNotTooGreat vs (getD vs i 0) a (at-member vs i 0 h))
 
@@ -108,7 +133,7 @@ unfolding mapOf
 map-made [] = refl
 map-made (e ∷ es) = ap (λ (l : List MapEntry). e ∷ l) (map-made es)
 
--- a pair has the position and the version of its place
+-- a pair has the position and the version of its offset
 pub map-at : (ps vs : List ℕ) (i : ℕ) (d : MapEntry) → i < length ps → i < length vs
     → getD (mapOf ps vs) i d ≡ record { position = getD ps i 0; version = getD vs i 0 }
 unfolding mapOf
@@ -117,7 +142,7 @@ map-at (p ∷ ps) [] i d h l = absurd (omega arith)
 map-at (p ∷ ps) (v ∷ vs) zero d h l = refl
 map-at (p ∷ ps) (v ∷ vs) (suc i) d h l = map-at ps vs i d (omega arith) (omega arith)
 
--- the pairs from a place on are the one there and those behind it
+-- the pairs from an offset on are the one there and those after it
 pub pairs-from : (ps vs : List ℕ) (i : ℕ) → i < length ps → i < length vs
     → mapOf (drop i ps) (drop i vs) ≡ record { position = getD ps i 0; version = getD vs i 0 } ∷ mapOf (drop (i + 1) ps) (drop (i + 1) vs)
 unfolding mapOf

@@ -1,5 +1,5 @@
--- Laws of the sections of a response together (specs/Response.antt): they make a response if one `end` line ends them, the text ends there too,
--- and each lookup follows an entry.
+-- Laws of the sections of a response together (specs/Response.antt): they make a response if one
+-- `end` line ends them, the text ends there too, and each lookup follows an entry.
 use mathlib.Core.Path.{_≡_, refl, sym, _∙_, ap}
 use mathlib.Core.Bool.{Bool, true, false, _&&_}
 use mathlib.Core.List.{List, [], _∷_}
@@ -22,7 +22,8 @@ use Rattle.inputs.specs.declared.response.Section.{Section}
 use Rattle.inputs.specs.declared.response.Sort.the-variants.{Steps, Entries, Nodes, Ends}
 use Rattle.inputs.specs.declared.response_header.Header.{Header}
 use Rattle.inputs.specs.declared.response.Response.{Response}
-use Rattle.inputs.specs.Response.{stepsIn, entriesIn, nodesIn, partsIn, Counted, Ordered, Filled, looseIn}
+use Rattle.inputs.specs.Response.{stepsIn, entriesIn, nodesIn, partsIn, Counted, Ordered, Filled}
+use Rattle.inputs.specs.Response.{looseIn}
 use Rattle.inputs.specs.ResponseHeader.{partsAfter}
 use Rattle.inputs.specs.ResponseSections.{SectionOf}
 
@@ -50,7 +51,7 @@ module _
           kind = h .kind;
           identifier = h .identifier;
           label = h .label;
-          size = h .size;
+          «tree_size» = h .«tree_size»;
           target = h .target;
           steps = steps;
           entries = entries;

@@ -1,4 +1,5 @@
--- Laws of the fields of the lines before the sections of a response (specs/ResponseHeader.antt): the parts of a line as parts of the text.
+-- Laws of the fields of the lines before the sections of a response (specs/ResponseHeader.antt):
+-- the parts of a line as parts of the text.
 use mathlib.Core.Path.{_≡_, refl, sym, _∙_, ap, ap₂}
 use mathlib.Core.List.{_++_}
 use mathlib.Core.Option.{none, some, bind}
@@ -6,7 +7,7 @@ use Prim.Native.Nat.{ℕ, _+_, _-_, _<_}
 use native.Mathlib.Omega.{arith}
 use lib.ListN.{length, take, drop, length-drop, length-take, take-append-drop}
 use lib.Seq.{take-append-le, drop-append-le, drop-drop}
-use Rattle.lists.specs.Choice.{given}
+use Rattle.lists.specs.Choice.{isSome}
 use Rattle.lists.specs.Lists.{Bytes}
 use Rattle.lines.specs.Hex.{readHex}
 use Rattle.lines.specs.Line.{readLine}
@@ -20,17 +21,17 @@ use Rattle.inputs.specs.declared.response_lines.Kind.{Kind}
 use Rattle.inputs.specs.declared.response_lines.Kind.the-variants.{Search}
 use Rattle.inputs.specs.declared.response_lines.Target.{Target}
 use Rattle.inputs.specs.declared.response_lines.KtLine.{KtLine}
-use Rattle.inputs.specs.declared.response_lines.KtLine.the-variants.{Kt}
+use Rattle.inputs.specs.declared.response_lines.KtLine.the-variants.{Read as Kt}
 use Rattle.inputs.specs.declared.response_lines.TargetLine.{TargetLine}
-use Rattle.inputs.specs.declared.response_lines.TargetLine.the-variants.{Sought}
-use Rattle.inputs.specs.declared.response_header.KtFrom.the-variants.{Opened}
-use Rattle.inputs.specs.declared.response_header.FindingFrom.the-variants.{Found}
-use Rattle.inputs.specs.ResponseLines.{ktOf, targetOf, Spells, StandsIn, KtStands, TargetStands}
+use Rattle.inputs.specs.declared.response_lines.TargetLine.the-variants.{Read as Sought}
+use Rattle.inputs.specs.declared.response_header.KtFrom.the-variants.{Read as Opened}
+use Rattle.inputs.specs.declared.response_header.FindingFrom.the-variants.{Read as Found}
+use Rattle.inputs.specs.ResponseLines.{ktOf, targetOf, Decodes, StandsIn, KtStands, TargetStands}
 use Rattle.inputs.specs.Response.{findingIn}
 use Rattle.inputs.specs.ResponseHeader.{readKt, readFrom, readFinding, openedOf, findingOf}
 use Rattle.inputs.proofs.ResponseLaws.{from-some}
 
--- a part of a line is a part of the text, moved by the place where the line begins
+-- a part of a line is a part of the text, moved by the offset where the line begins
 part-moved : (s : Bytes) (at n : ℕ) (p q : Part) → StandsIn (take n (drop at s)) p → q .start ≡ at + p .start → q .stop ≡ at + p .stop
     → partOf s q ≡ partOf (take n (drop at s)) p
 unfolding partOf
@@ -44,9 +45,9 @@ part-moved s at n p q (f, w, _) a b =
     ap (drop (p .start)) (sym (take-append-drop n x)) ∙ drop-append-le (p .start) l (drop n x) (omega arith) in
     ap₂ take k (d ∙ i) ∙ take-append-le m (drop (p .start) l) (drop n x) (omega (arith, length-drop (p .start) l))
 
--- moved so, it spells what it did
-moved-spells : (s : Bytes) (at n : ℕ) (p q : Part) → StandsIn (take n (drop at s)) p → q .start ≡ at + p .start → q .stop ≡ at + p .stop → Spells s q
-moved-spells s at n p q i a b = ap (λ (t : Bytes). given (readHex t)) (part-moved s at n p q i a b) ∙ i .2
+-- moved so, it encodes what it did
+moved-decodes : (s : Bytes) (at n : ℕ) (p q : Part) → StandsIn (take n (drop at s)) p → q .start ≡ at + p .start → q .stop ≡ at + p .stop → Decodes s q
+moved-decodes s at n p q i a b = ap (λ (t : Bytes). isSome (readHex t)) (part-moved s at n p q i a b) ∙ i .2
 
 -- and stands within the text
 moved-within : (s : Bytes) (at stop next : ℕ) (p : Part) → LineHere s at stop next → StandsIn (take (stop - at) (drop at s)) p
@@ -67,13 +68,13 @@ line-opened s stop next r kind identifier label e q w k =
     rw (part-moved s 0 (stop - 0) identifier identifier i (omega arith) (omega arith), part-moved s 0 (stop - 0) label label j (omega arith) (omega arith))
     (sym (from-some readKt s 0 stop next _ e (sym q ∙ ap (ktOf l) k)))
 
--- they spell what they do in the line
-pub opened-spells : (s : Bytes) (stop next : ℕ) (r : KtLine) (kind : Kind) (identifier label : Part) → lineAt s 0 ≡ some (stop, next)
-    → KtStands (take (stop - 0) (drop 0 s)) r → r ≡ Kt kind identifier label → Spells s identifier × Spells s label
-opened-spells s stop next r kind identifier label e w k =
+-- they encode what they do in the line
+pub opened-decodes : (s : Bytes) (stop next : ℕ) (r : KtLine) (kind : Kind) (identifier label : Part) → lineAt s 0 ≡ some (stop, next)
+    → KtStands (take (stop - 0) (drop 0 s)) r → r ≡ Kt kind identifier label → Decodes s identifier × Decodes s label
+opened-decodes s stop next r kind identifier label e w k =
     let n = stop - 0 in
     let (i, j) = rw k at w in
-    (moved-spells s 0 n identifier identifier i (omega arith) (omega arith), moved-spells s 0 n label label j (omega arith) (omega arith))
+    (moved-decodes s 0 n identifier identifier i (omega arith) (omega arith), moved-decodes s 0 n label label j (omega arith) (omega arith))
 
 -- a search whose target line is not read found nothing
 pub target-unfound : (s : Bytes) (at : ℕ) → readFrom (readLine targetForm) s at ≡ none → readFinding search s at ≡ none
@@ -100,11 +101,11 @@ module _
         let (i, j) = rw k at w in
         record { opening = moved-within s at stop next (t .opening) h i; value = moved-within s at stop next (t .value) h j }
 
-    -- there they spell what they do in the line
-    pub target-spells : Spells s (moved at (t .opening)) × Spells s (moved at (t .value))
-    target-spells =
+    -- there they encode what they do in the line
+    pub target-decodes : Decodes s (moved at (t .opening)) × Decodes s (moved at (t .value))
+    target-decodes =
         let (i, j) = rw k at w in
-        (moved-spells s at (stop - at) (t .opening) (moved at (t .opening)) i refl refl, moved-spells s at (stop - at) (t .value) (moved at (t .value)) j refl refl)
+        (moved-decodes s at (stop - at) (t .opening) (moved at (t .opening)) i refl refl, moved-decodes s at (stop - at) (t .value) (moved at (t .value)) j refl refl)
 
     -- the line is what a search found, with its fields as parts of the text
     pub target-found : targetOf (take (stop - at) (drop at s)) r ≡ readLine targetForm (take (stop - at) (drop at s))

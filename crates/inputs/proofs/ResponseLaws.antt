@@ -1,4 +1,5 @@
--- Laws of reading a response from its places (specs/ResponseHeader.antt): the line at a place, and the lines before the sections, one after the other.
+-- Laws of reading a response from its offsets (specs/ResponseHeader.antt): the line at an offset,
+-- and the lines before the sections, one after the other.
 use mathlib.Core.Path.{_≡_, refl, sym, _∙_, ap, ap₂}
 use mathlib.Core.List.{List, [], _∷_}
 use mathlib.Core.Option.{Option, none, some, bind, Option·map, Option·some-injective, Option·none-ne-some}
@@ -12,16 +13,17 @@ use Rattle.lines.specs.Line.{Read as ReadForm, endedLines, openRest, readLines,
 use Rattle.lines.specs.Cursor.{lineAt}
 use Rattle.lines.proofs.SectionLaws.{LineHere, line-here, line-none}
 use Rattle.rules.specs.Response.{Kind, search, monitor, Finding, searched, monitored, Parts}
-use Rattle.rules.specs.ResponseText.{ktForm, headForm, targetForm, readBody, readRest, readParts, readResponse}
+use Rattle.rules.specs.ResponseText.{ktForm, headForm, targetForm, readBody, readRest, readParts}
+use Rattle.rules.specs.ResponseText.{readResponse}
 use Rattle.inputs.specs.ResponseHeader.{readKt, readFrom, readFinding}
 
--- ---- the line at a place
+-- ---- the line at an offset
 
--- a value with the place, or with the lines, after what it was read from
+-- a value with the offset, or with the lines, after what it was read from
 abbrev pub followedBy : {A B : Type 0} → B → A → A × B
 followedBy rest a = (a, rest)
 
--- the lines from a place on, after a value
+-- the lines from an offset on, after a value
 abbrev linesFrom : {A : Type 0} → Bytes → A × ℕ → A × List Bytes
 linesFrom s (a, next) = (a, endedLines (drop next s))
 
@@ -45,7 +47,7 @@ module _ {A : Type 0} (read : Bytes → Option A) (s : Bytes) (at : ℕ) where
       go none = refl
       go (some a) = refl
 
-  -- where it reads, the place after it is the next
+  -- where it reads, the offset after it is the next
   pub from-some : (stop next : ℕ) (a : A) → lineAt s at ≡ some (stop, next) → read (take (stop - at) (drop at s)) ≡ some a → readFrom read s at ≡ some (a, next)
   from-some stop next a e q = from-line stop next e ∙ ap (Option·map (followedBy next)) q
 
@@ -66,7 +68,7 @@ module _ {A : Type 0} (read : Bytes → Option A) (s : Bytes) (at : ℕ) where
       go none e = rw (line-none s at e .0, from-open e) refl
       go (some (stop, next)) e = rw (line-here s at stop next e .lines, from-line stop next e) (step (read (take (stop - at) (drop at s))) next)
 
-  -- what was read there is a line that reads, and the place after it is the next
+  -- what was read there is a line that reads, and the offset after it is the next
   pub record ReadHere (a : A) (next : ℕ) : Type 0 where
     pub stop : ℕ
     pub here : LineHere s at stop next
@@ -83,7 +85,8 @@ module _ {A : Type 0} (read : Bytes → Option A) (s : Bytes) (at : ℕ) where
           let n : after ≡ next = ap (λ (x : A × ℕ). x .1) p in
           record { stop = stop; here = rw (← n) (line-here s at stop after q); reads = r ∙ ap some v }
 
--- what is open from a place on is open after the line that was read there, and the place after it is within the text
+-- what is open from an offset on is open after the line that was read there, and the offset after
+-- it is within the text
 from-rest : {A : Type 0} (read : Bytes → Option A) (s : Bytes) (at : ℕ) (a : A) (next : ℕ) → readFrom read s at ≡ some (a, next)
     → (openRest (drop at s) ≡ openRest (drop next s)) × (next ≤ length s)
 from-rest read s at a next e = let h = from-was read s at a next e .here in (h .rest, omega (arith, h .within, h .nextIs))

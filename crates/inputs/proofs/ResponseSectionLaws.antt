@@ -1,4 +1,5 @@
--- Laws of the sections of a response (specs/ResponseSections.antt): what a line is in a section, a section line by line, lookups that follow no entry.
+-- Laws of the sections of a response (specs/ResponseSections.antt): what a line is in a section, a
+-- section line by line, lookups that follow no entry.
 use mathlib.Core.Path.{_≡_, refl, sym, _∙_, ap}
 use mathlib.Core.Bool.{Bool, true, false, not, false≢true}
 use mathlib.Core.List.{List, [], _∷_, _++_, append-nil}
@@ -8,39 +9,42 @@ use native.Mathlib.Omega.{arith}
 use lib.Dec.{ltb}
 use lib.ListN.{length, length-append, take, drop}
 use borrow.Author.Tests.{lt-ltb}
-use Rattle.lists.specs.Choice.{given, orElse}
+use Rattle.lists.specs.Choice.{isSome, orElse}
 use Rattle.lists.specs.Lists.{Bytes}
 use Rattle.lists.proofs.ChoiceLaws.{map-some, given-some, given-none}
 use Rattle.lines.specs.Line.{Read as ReadForm, endedLines, readLine, leading}
 use Rattle.lines.specs.Cursor.{lineAt}
 use Rattle.lines.specs.Readings.{partOf}
 use Rattle.lines.proofs.LineLaws.{leading-end, leading-none, leading-some}
-use Rattle.lines.proofs.SectionLaws.{line-here, line-none, Section, section-start, section-next, section-lines, section-rest, section-part, section-closed}
+use Rattle.lines.proofs.SectionLaws.{line-here, line-none, Section, section-start, section-next}
+use Rattle.lines.proofs.SectionLaws.{section-lines, section-rest, section-part, section-closed}
 use Rattle.lines.proofs.SectionLaws.{leading-append, leading-snoc}
 use Rattle.rules.specs.Response.{Entry, Lookup}
-use Rattle.rules.specs.ResponseText.{entryForm, Item, entryItem, lookupItem, readIn, readNo, readNl, readEntryLine, readItem, grouped}
+use Rattle.rules.specs.ResponseText.{entryForm, Item, entryItem, lookupItem, readIn, readNo, readNl}
+use Rattle.rules.specs.ResponseText.{readEntryLine, readItem, grouped}
 use Rattle.inputs.specs.declared.response.Sort.{Sort}
 use Rattle.inputs.specs.declared.response.Sort.the-variants.{Steps, Entries, Nodes, Ends}
 use Rattle.inputs.specs.declared.response.Role.{Role}
 use Rattle.inputs.specs.declared.response.RoleFrom.{RoleFrom}
 use Rattle.inputs.specs.ResponseHeader.{readFrom}
 use Rattle.inputs.specs.Response.{looseIn}
-use Rattle.inputs.specs.ResponseSections.{Element, readElement, beginsElement, readRole, roleOf, roleFromOf, countOf, SectionOf}
+use Rattle.inputs.specs.ResponseSections.{Element, readElement, beginsElement, readRole, roleOf}
+use Rattle.inputs.specs.ResponseSections.{roleFromOf, countOf, SectionOf}
 use Rattle.inputs.proofs.ResponseLaws.{followedBy, from-line, from-some, ReadHere, from-was}
 
 -- ---- one line
 
 -- a line that reads begins something, where every such line does
-pub line-begins : {A : Type 0} (o : Option A) → given o ≡ true → Option·map (λ _. true) o ≡ some true
+pub line-begins : {A : Type 0} (o : Option A) → isSome o ≡ true → Option·map (λ _. true) o ≡ some true
 line-begins o e = let (a, q) = given-some o e in rw q refl
 
 -- a line that does not read stands outside
-pub line-outside : {A B : Type 0} (f : A → B) (o : Option A) → given o ≡ false → Option·map f o ≡ none
+pub line-outside : {A B : Type 0} (f : A → B) (o : Option A) → isSome o ≡ false → Option·map f o ≡ none
 line-outside f o e = rw (given-none o e) refl
 
 -- an entry line as an item
 abbrev entry : ReadForm entryForm → Option Item
-entry (position, (time, (root, _))) = some (entryItem (record { position = position; time = time; prefixRoot = root; lookups = [] }))
+entry (position, (timestamp, (root, _))) = some (entryItem (record { position = position; timestamp = timestamp; prefixRoot = root; lookups = [] }))
 
 -- a lookup line
 abbrev readLookup : Bytes → Option Lookup
@@ -48,29 +52,29 @@ readLookup l = orElse (readIn l) (orElse (readNo l) (readNl l))
 
 module _ (l : Bytes) where
   -- an entry line begins an entry
-  pub entry-begins : given (readEntryLine l) ≡ true → readRole Entries l ≡ some true
-  unfolding readItem readEntryLine orElse bind given
+  pub entry-begins : isSome (readEntryLine l) ≡ true → readRole Entries l ≡ some true
+  unfolding readItem readEntryLine orElse bind isSome
   entry-begins e = go (readLine entryForm l) e
     where
-      go : (o : Option (ReadForm entryForm)) → given (bind o entry) ≡ true
+      go : (o : Option (ReadForm entryForm)) → isSome (bind o entry) ≡ true
           → Option·map (beginsElement Entries) (orElse (bind o entry) (Option·map lookupItem (readLookup l))) ≡ some true
       go none e = absurd (false≢true e)
       go (some x) e = refl
 
-  module _ (n : given (readEntryLine l) ≡ false) where
+  module _ (n : isSome (readEntryLine l) ≡ false) where
     -- a lookup line continues one
-    pub lookup-continues : given (readLookup l) ≡ true → readRole Entries l ≡ some false
+    pub lookup-continues : isSome (readLookup l) ≡ true → readRole Entries l ≡ some false
     unfolding readItem orElse
     lookup-continues e = let (x, q) = given-some (readLookup l) e in rw (given-none (readEntryLine l) n, q) refl
 
     -- every other line is neither
-    pub other-outside : given (readLookup l) ≡ false → readRole Entries l ≡ none
+    pub other-outside : isSome (readLookup l) ≡ false → readRole Entries l ≡ none
     unfolding readItem orElse
     other-outside e = rw (given-none (readEntryLine l) n, given-none (readLookup l) e) refl
 
--- ---- the line at a place
+-- ---- the line at an offset
 
--- a role that was told, with the place after the line
+-- a role that was told, with the offset after the line
 pub role-told : (r : RoleFrom) (k : Role) → r .role ≡ k → roleFromOf r ≡ Option·map (followedBy (r .next)) (roleOf k)
 role-told r k e = ap (λ (i : Role). Option·map (followedBy (r .next)) (roleOf i)) e
 
@@ -150,7 +154,8 @@ count-none Ends = refl
 
 -- ---- a section, line by line
 
--- the lines from a place to another all belong to a section, which has so many elements up to there
+-- the lines from an offset to another all belong to a section, which has so many elements up to
+-- there
 pub record Running (sort : Sort) (s : Bytes) (from at count : ℕ) : Type 0 where
   pub lines : List Bytes
   pub elements : List (Element sort)

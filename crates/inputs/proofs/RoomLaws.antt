@@ -1,4 +1,5 @@
--- Laws of an array that a list fills from its front, with zeros in the unused room (specs/State.antt).
+-- Laws of an array that a list fills from its front, with zeros in the unused room
+-- (specs/State.antt).
 use mathlib.Core.Path.{_≡_, refl, ap, ap₂}
 use mathlib.Core.Bool.{Bool, true, false}
 use mathlib.Core.List.{List, [], _∷_, _++_, flatten, List·Memᴰ}
@@ -15,7 +16,7 @@ use Rattle.hash.specs.Bytes.{padded}
 use Rattle.tree.proofs.RunLaws.{runs-joined, runs-sized}
 use Rattle.inputs.specs.State.{zerosFrom}
 
--- ---- a test of all elements from a place on
+-- ---- a test of all elements from an offset on
 
 module _ (f : ℕ → Bool) (s : List ℕ) (i : ℕ) where
   -- past an element of which it holds, those after it decide
@@ -33,7 +34,7 @@ module _ (f : ℕ → Bool) (s : List ℕ) (i : ℕ) where
   unfolding all
   all-ends h = rw (drop-of-length-le s h) refl
 
--- ---- zeros from a place on
+-- ---- zeros from an offset on
 
 module _ (i : ℕ) (s : List ℕ) where
   -- past a zero, those after it decide
@@ -67,7 +68,7 @@ pub padded-room : (n k : ℕ) (s : List ℕ) → length s ≡ k → zerosFrom k 
 unfolding zerosFrom padded
 padded-room n k s h = rw (drop-at s (replicate (n - length s) 0) k h) (zeros-zero (n - length s))
 
--- a list that is zero from a place on is what stands before it, filled up
+-- a list that is zero from an offset on is what stands before it, filled up
 pub room-padded : (n k : ℕ) (s : List ℕ) → length s ≡ n → k ≤ n → zerosFrom k s ≡ true → padded n (take k s) ≡ s
 unfolding zerosFrom padded
 room-padded n k s h l e =

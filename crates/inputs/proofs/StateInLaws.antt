@@ -1,5 +1,6 @@
--- Laws of the state that a text says (rules/specs/StateText.antt, readState), as `state_in` gives it: what was read without a refusal
--- stands for it, and a refusal says that there is none. A text that says a state is never too long, so both hold of every text.
+-- Laws of the state that a text says (rules/specs/StateText.antt, readState), as `state_in` gives
+-- it: what was read without a refusal stands for it, and a refusal says that there is none. A text
+-- that says a state is never too long, so both hold of every text.
 use mathlib.Core.Path.{_≡_, refl, sym, ap, _∙_}
 use mathlib.Core.Bool.{Bool, true, false}
 use mathlib.Core.Option.{Option, none, some, Option·elim, Option·none-ne-some}
@@ -22,9 +23,9 @@ use Rattle.inputs.proofs.StateBlockLaws.{block-state}
 use Rattle.inputs.proofs.StateReaderLaws.{text-read}
 
 -- a struct whose label is too long stands for no state
-pub label-over : (b : StateBlock) → labelLimit < b .length → stateOf b ≡ none
+pub label-over : (b : StateBlock) → labelLimit < b .label .length → stateOf b ≡ none
 unfolding stateOf roomIsZero every provided
-label-over b h = rw (lt-leb (b .length) labelLimit h) refl
+label-over b h = rw (lt-leb (b .label .length) labelLimit h) refl
 
 -- a text that says a state is not too long
 pub said-short : (text : Bytes) (s : State) → readState text ≡ some s → length text ≤ stateTextLimit

@@ -1,4 +1,5 @@
--- Laws of the single lines of a state's text, read field by field (specs/StateReader.antt): one law for each way in which a reading ends.
+-- Laws of the single lines of a state's text, read field by field (specs/StateReader.antt): one law
+-- for each way in which a reading ends.
 use mathlib.Core.Path.{_≡_, refl, _∙_, ap}
 use mathlib.Core.Bool.{true}
 use mathlib.Core.List.{List, [], _∷_}
@@ -12,7 +13,7 @@ use Rattle.lists.specs.Choice.{provided}
 use Rattle.lists.specs.Lists.{Bytes}
 use Rattle.hash.specs.Bytes.{padded}
 use Rattle.lines.specs.Number.{ascii, readNumber}
-use Rattle.lines.specs.Hex.{readHex, spelledLength}
+use Rattle.lines.specs.Hex.{readHex, decodedLength}
 use Rattle.lines.specs.Field.{Field, number, exactly, upTo, Value, Values, readField, readFields}
 use Rattle.lines.specs.Line.{readLine}
 use Rattle.lines.specs.Cursor.{fieldAt, fieldsFrom, readAt, wordAt}
@@ -20,9 +21,11 @@ use Rattle.lines.specs.Readings.{asDigest, digestIn}
 use Rattle.lines.specs.Writing.{putAny}
 use Rattle.lines.proofs.NumberLaws.{decimal-read}
 use Rattle.lines.proofs.CursorLaws.{read-beyond, read-some}
-use Rattle.lines.proofs.FormLaws.{withRest, here-read, read-not, read-ended, read-number-on, bytes-fit, bytes-unfit, bytes-none, line-on, line-off, field-on, field-off}
+use Rattle.lines.proofs.FormLaws.{withRest, here-read, read-not, read-ended, read-number-on, bytes-fit}
+use Rattle.lines.proofs.FormLaws.{bytes-unfit, bytes-none, line-on, line-off, field-on, field-off}
 use Rattle.rules.specs.Limits.{labelLimit, hashLength, numberBound, versionBound}
 use Rattle.rules.specs.StateText.{sizeForm, keepForm, pairForm, readKeep, readPair}
+use Rattle.inputs.specs.State.{labelBlock}
 use Rattle.inputs.specs.StateReader.{labelled, asSize}
 use Rattle.inputs.proofs.FrontLaws.{put-first}
 
@@ -86,9 +89,9 @@ module _ (l : Bytes) where
           line-on l (ascii "size") (sizeForm .fields) a ea ∙ field-on l (number numberBound) timeFields a m b (read-number-on l numberBound a ∙ eb)
 
       -- without a time there is none
-      pub size-no-time : readAt (readNumber numberBound) l b ≡ none → readLine sizeForm l ≡ none
+      pub size-no-timestamp : readAt (readNumber numberBound) l b ≡ none → readLine sizeForm l ≡ none
       unfolding bind
-      size-no-time e = size-then ∙ rw (field-off l (number numberBound) labelFields b (read-number-on l numberBound b ∙ e)) refl
+      size-no-timestamp e = size-then ∙ rw (field-off l (number numberBound) labelFields b (read-number-on l numberBound b ∙ e)) refl
 
       -- what it says is said once the label is read where the time ends
       pub size-labelled : (t d : ℕ) → readAt (readNumber numberBound) l b ≡ some (t, d)
@@ -106,12 +109,12 @@ module _ (l : Bytes) where
 -- ---- its label
 
 module _ (l : Bytes) (at m t : ℕ) where
-  -- where the field spells nothing, nothing is said
-  pub label-none : readAt spelledLength l at ≡ none → asSize none ≡ labelled m t (readFields labelFields (fieldsFrom l at))
+  -- where the field encodes nothing, nothing is said
+  pub label-none : readAt decodedLength l at ≡ none → asSize none ≡ labelled m t (readFields labelFields (fieldsFrom l at))
   unfolding asSize labelled
   label-none e = rw (field-off l (upTo labelLimit) [] at (bytes-none l (λ (n : ℕ). leb n labelLimit) at e)) refl
 
-  module _ (n next : ℕ) (e : readAt spelledLength l at ≡ some (n, next)) where
+  module _ (n next : ℕ) (e : readAt decodedLength l at ≡ some (n, next)) where
     -- nor where the label is too long
     pub label-long : labelLimit < n → asSize none ≡ labelled m t (readFields labelFields (fieldsFrom l at))
     unfolding asSize labelled
@@ -125,10 +128,10 @@ module _ (l : Bytes) (at m t : ℕ) where
         let (b, r, k, f) = bytes-fit l (λ (k : ℕ). leb k labelLimit) at n next e (le-leb n labelLimit h) in
         rw (last-more l at (upTo labelLimit) b next f w) refl
 
-    -- else the label is what the field spells, with zeros after it
+    -- else the label is what the field encodes, with zeros after it
     pub label-read : (s d : Bytes) → n ≤ labelLimit → length l < next → s ≡ fieldAt l at → d ≡ putAny (replicate labelLimit 0) 0 (readHex s)
-        → record { found = true; size = m; time = t; label = d; length = n } ≡ labelled m t (readFields labelFields (fieldsFrom l at))
-    unfolding labelled
+        → record { found = true; size = m; timestamp = t; label = record { bytes = d; length = n } } ≡ labelled m t (readFields labelFields (fieldsFrom l at))
+    unfolding labelled labelBlock
     label-read s d h w es ed =
         let (b, r, k, f) = bytes-fit l (λ (k : ℕ). leb k labelLimit) at n next e (le-leb n labelLimit h) in
         let p : d ≡ padded labelLimit b = ed ∙ put-first labelLimit (readHex s) b (ap readHex es ∙ r) (omega arith) in
@@ -157,7 +160,7 @@ module _ (l : Bytes) where
     unfolding readKeep bind
     keep-more s e h w = rw (keep-form ∙ ends-not (exactly hashLength) l a h (rw (← e) w)) refl
 
-    -- else its value is what the field spells
+    -- else its value is what the field encodes
     pub keep-read : (s : Bytes) → s ≡ fieldAt l a → a ≤ length l → length l - a ≤ length s → digestIn s ≡ asDigest (readKeep l)
     unfolding readKeep bind digestIn
     keep-read s e h w =
@@ -169,7 +172,7 @@ module _ (l : Bytes) where
 
 -- ---- the `pair` line
 
--- a number that is read at a place is not above the bound
+-- a number that is read at an offset is not above the bound
 pub number-within : (bound : ℕ) (l : Bytes) (at n next : ℕ) → readAt (readNumber bound) l at ≡ some (n, next) → n ≤ bound
 number-within bound l at n next e = decimal-read bound (fieldAt l at) n (here-read l (readNumber bound) at n next e .1) .1
 

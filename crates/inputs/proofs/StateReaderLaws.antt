@@ -1,5 +1,5 @@
--- Laws of a state's text (specs/StateReader.antt): what was read fills the struct of the state that the rules read of the text, and is refused where
--- they read none.
+-- Laws of a state's text (specs/StateReader.antt): what was read fills the struct of the state that
+-- the rules read of the text, and is refused where they read none.
 use mathlib.Core.Path.{_≡_, refl, sym, _∙_, ap}
 use mathlib.Core.Bool.{Bool, true, false, false≢true}
 use mathlib.Core.List.{List, [], _∷_, flatten, List·Memᴰ}
@@ -10,7 +10,7 @@ use lib.Dec.{eqb, leb}
 use lib.Count.{ones}
 use lib.ListN.{length, take, drop, length-map}
 use borrow.Author.Tests.{le-leb, lt-leb}
-use Rattle.lists.specs.Choice.{provided, _>>_, given}
+use Rattle.lists.specs.Choice.{provided, _>>_, isSome}
 use Rattle.lists.specs.Lists.{Bytes, same}
 use Rattle.lists.proofs.ChoiceLaws.{provided-then, test-then, test-none, choose-true, choose-false}
 use Rattle.lists.proofs.ListLaws.{none-left, same-true}
@@ -21,7 +21,8 @@ use Rattle.lines.proofs.LineLaws.{leading-each}
 use Rattle.lines.proofs.SectionLaws.{LineHere, line-none, line-end, line-more}
 use Rattle.tree.specs.LogHead.{levelLimit}
 use Rattle.rules.specs.Limits.{labelLimit, hashLength, mapLimit, valuesBlockLength, stateTextLimit}
-use Rattle.rules.specs.State.{MapEntry, State, positions, versions, isValid, emptyState, NumberedState, newState}
+use Rattle.rules.specs.State.{MapEntry, State, positions, versions, isValid, emptyState, NumberedState}
+use Rattle.rules.specs.State.{newState}
 use Rattle.rules.specs.Refusals.{validState}
 use Rattle.rules.specs.StateText.{sizeForm, readKeep, readPair, readStateLines, readState, readStateText}
 use Rattle.rules.proofs.StateLaws.{valid-was, values-few}
@@ -31,8 +32,9 @@ use Rattle.inputs.specs.declared.state.State.{State as StateBlock}
 use Rattle.inputs.specs.declared.state_reader.SizeLine.{SizeLine}
 use Rattle.inputs.specs.declared.state_reader.Keeps.{Keeps}
 use Rattle.inputs.specs.declared.state_reader.Pairs.{Pairs}
-use Rattle.inputs.specs.State.{blockOf, roomIsZero, stateOf, numberedBlock}
-use Rattle.inputs.specs.StateReader.{labelled, asSize, KeepsFrom, PairsFrom, ReadAs, gathered, ifValid, readAfterSize, refusedBy, orRefused}
+use Rattle.inputs.specs.State.{logBlock, mapBlock, blockOf, roomIsZero, stateOf, numberedBlock}
+use Rattle.inputs.specs.StateReader.{labelled, asSize, KeepsFrom, PairsFrom, ReadAs, gathered, ifValid}
+use Rattle.inputs.specs.StateReader.{readAfterSize, refusedBy, orRefused}
 use Rattle.inputs.proofs.StateBlockLaws.{block-contents, block-stands}
 use Rattle.inputs.proofs.FrontLaws.{front-whole}
 use Rattle.inputs.proofs.StateRunLaws.{keep-length}
@@ -41,19 +43,20 @@ use Rattle.inputs.proofs.StateRunLaws.{keep-length}
 
 -- a state that has as many values as its size tells, each of its length
 record Filling (st : State) : Type 0 where
-  valueCount : length (st .values) ≡ ones (st .size)
-  valueLength : (v : Bytes) → List·Memᴰ v (st .values) → length v ≡ hashLength
+  valueCount : length (st .log .values) ≡ ones (st .log .size)
+  valueLength : (v : Bytes) → List·Memᴰ v (st .log .values) → length v ≡ hashLength
 
--- its struct is valid where it is: of a valid state that is known, and any other is not valid in a struct either
-block-test : (st : State) → Filling st → given (validState (stateOf (blockOf st))) ≡ isValid st
-unfolding given validState stateOf provided
+-- its struct is valid where it is: of a valid state that is known, and any other is not valid in a
+-- struct either
+block-test : (st : State) → Filling st → isSome (validState (stateOf (blockOf st))) ≡ isValid st
+unfolding isSome validState stateOf provided
 block-test st f = go (isValid st) refl
   where
-    other : (t : Bool) → isValid st ≡ false → given (validState (provided t st)) ≡ false
+    other : (t : Bool) → isValid st ≡ false → isSome (validState (provided t st)) ≡ false
     other true e = rw e refl
     other false e = refl
 
-    go : (t : Bool) → isValid st ≡ t → given (validState (stateOf (blockOf st))) ≡ t
+    go : (t : Bool) → isValid st ≡ t → isSome (validState (stateOf (blockOf st))) ≡ t
     go true e = rw (block-stands st e) refl
     go false e = rw (block-contents st (f .valueCount) (f .valueLength)) (other (roomIsZero (blockOf st)) e)
 
@@ -78,55 +81,50 @@ abbrev blockRead : SizeLine → Keeps → Pairs → StateBlock
 blockRead first keeps pairs =
     record {
       label = first .label;
-      length = first .length;
-      size = first .size;
-      time = first .time;
-      values = keeps .values;
-      positions = pairs .positions;
-      versions = pairs .versions;
-      pairs = pairs .count;
+      log = record { size = first .size; timestamp = first .timestamp; values = keeps .values };
+      map = pairs .map;
     }
 
 module _ (first : SizeLine) (keeps : Keeps) (pairs : Pairs) (st : State) (g : ReadAs first keeps pairs st) where
   -- with another number of values than the size tells it is refused
   pub refused-count : (keeps .count ≡ ones (first .size) → ⊥) → refusedBy 3 ≡ orRefused (ifValid st)
-  refused-count h = refused-not st (λ e. h (g .valueCount ∙ valid-was st e .valuesCount ∙ full-length (st .size) ∙ ap ones (sym (g .size))))
+  refused-count h = refused-not st (λ e. h (g .valueCount ∙ valid-was st e .valuesCount ∙ full-length (st .log .size) ∙ ap ones (sym (g .size))))
 
   -- with too many values too
   pub refused-values : levelLimit < keeps .count → refusedBy 3 ≡ orRefused (ifValid st)
   refused-values h = refused-not st (λ e. let n = g .valueCount in let w = values-few st (valid-was st e) in omega arith)
 
   -- and with too many pairs
-  pub refused-pairs : mapLimit < pairs .count → refusedBy 3 ≡ orRefused (ifValid st)
+  pub refused-pairs : mapLimit < pairs .map .count → refusedBy 3 ≡ orRefused (ifValid st)
   refused-pairs h = refused-not st (λ e. let n = g .pairCount in let w = valid-was st e .mapFits in omega arith)
 
-  module _ (count : keeps .count ≡ ones (first .size)) (few : keeps .count ≤ levelLimit) (room : pairs .count ≤ mapLimit) where
+  module _ (count : keeps .count ≡ ones (first .size)) (few : keeps .count ≤ levelLimit) (room : pairs .map .count ≤ mapLimit) where
     -- else what was read fills the struct of the state
     block-read : blockRead first keeps pairs ≡ blockOf st
-    unfolding blockOf
+    unfolding blockOf logBlock mapBlock
     block-read =
         let c = g .valueCount in
         let n = g .pairCount in
-        let vs : keeps .values ≡ padded valuesBlockLength (flatten (st .values)) =
-        g .values ∙ front-whole valuesBlockLength (flatten (st .values)) (omega (arith, length-joined hashLength (st .values) (g .valueLength))) in
-        let ps : pairs .positions ≡ padded mapLimit (positions (st .monitoringMap)) =
+        let vs : keeps .values ≡ padded valuesBlockLength (flatten (st .log .values)) =
+        g .values ∙ front-whole valuesBlockLength (flatten (st .log .values)) (omega (arith, length-joined hashLength (st .log .values) (g .valueLength))) in
+        let ps : pairs .map .positions ≡ padded mapLimit (positions (st .monitoringMap)) =
         g .firsts ∙ front-whole mapLimit (positions (st .monitoringMap)) (omega (arith, length-map (st .monitoringMap) (λ (e : MapEntry). e .position))) in
-        let qs : pairs .versions ≡ padded mapLimit (versions (st .monitoringMap)) =
+        let qs : pairs .map .versions ≡ padded mapLimit (versions (st .monitoringMap)) =
         g .seconds ∙ front-whole mapLimit (versions (st .monitoringMap)) (omega (arith, length-map (st .monitoringMap) (λ (e : MapEntry). e .version))) in
-        rw (g .label, g .labelLength, g .size, g .time, vs, ps, qs, n) refl
+        rw (g .label, g .size, g .timestamp, vs, ps, qs, n) refl
 
     -- which is valid where the state is
-    valid-read : given (validState (stateOf (blockRead first keeps pairs))) ≡ isValid st
+    valid-read : isSome (validState (stateOf (blockRead first keeps pairs))) ≡ isValid st
     valid-read = rw block-read (block-test st (record { valueCount = sym (g .valueCount) ∙ count ∙ ap ones (g .size); valueLength = g .valueLength }))
 
     -- then it is the state that was read
-    pub accepted : given (validState (stateOf (blockRead first keeps pairs))) ≡ true
+    pub accepted : isSome (validState (stateOf (blockRead first keeps pairs))) ≡ true
         → record { number = 0; state = blockRead first keeps pairs } ≡ numberedBlock (orRefused (ifValid st))
     unfolding numberedBlock orRefused ifValid _>>_ Option·elim
     accepted e = rw (sym valid-read ∙ e, block-read) refl
 
     -- and is refused where it is not
-    pub refused-invalid : given (validState (stateOf (blockRead first keeps pairs))) ≡ false → refusedBy 3 ≡ orRefused (ifValid st)
+    pub refused-invalid : isSome (validState (stateOf (blockRead first keeps pairs))) ≡ false → refusedBy 3 ≡ orRefused (ifValid st)
     refused-invalid e = refused-not st (λ v. false≢true (sym e ∙ valid-read ∙ v))
 
 -- ---- the text after the `size` line
@@ -162,9 +160,8 @@ module _ (s : Bytes) (from : ℕ) (keeps : Keeps) (pairs : Pairs) (k : KeepsFrom
   after-read first e =
       record {
         label = ap (λ (f : SizeLine). f .label) e;
-        labelLength = ap (λ (f : SizeLine). f .length) e;
         size = ap (λ (f : SizeLine). f .size) e;
-        time = ap (λ (f : SizeLine). f .time) e;
+        timestamp = ap (λ (f : SizeLine). f .timestamp) e;
         valueCount = k .counted;
         values = k .stored;
         valueLength = λ v m. leading-each readKeep (λ (w : Bytes). length w ≡ hashLength) keep-length (endedLines (drop from s)) v (rw (k .lines) m);

@@ -1,4 +1,5 @@
--- Reading and writing a state's text undo each other, as the two functions do it (specs/State.antt, specs/StateWriter.antt).
+-- Reading and writing a state's text undo each other, as the two functions do it (specs/State.antt,
+-- specs/StateWriter.antt).
 use mathlib.Core.Path.{_≡_, refl, _∙_}
 use mathlib.Core.Option.{some, Option·elim}
 use Prim.Native.Nat.{_≤_}

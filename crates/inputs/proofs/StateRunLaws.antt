@@ -1,5 +1,6 @@
--- Laws of lines of one kind that follow each other in a state's text (specs/StateReader.antt). While they are read, the values so far and those of the lines from
--- the place on are together the values of all that lead; where no further line leads, the values so far are all.
+-- Laws of lines of one kind that follow each other in a state's text (specs/StateReader.antt).
+-- While they are read, the values so far and those of the lines from the offset on are together the
+-- values of all that lead; where no further line leads, the values so far are all.
 use mathlib.Core.Path.{_≡_, refl, sym, _∙_, ap}
 use mathlib.Core.Logic.{_⊎_, inl, inr}
 use mathlib.Core.Bool.{true, false, false≢true}
@@ -29,16 +30,16 @@ use Rattle.inputs.proofs.FrontLaws.{front-nil, length-front, front-set,
 -- ---- leading lines
 
 module _ {A : Type 0} (read : Bytes → Option A) (s : Bytes) where
-  -- from one place to another stand leading lines, which give these values
+  -- from one offset to another stand leading lines, which give these values
   pub record Led (from at : ℕ) (xs : List A) : Type 0 where
     pub lines : leading read (endedLines (drop from s)) ≡ (xs ++ leading read (endedLines (drop at s)) .0, leading read (endedLines (drop at s)) .1)
     pub rest : openRest (drop from s) ≡ openRest (drop at s)
 
-  -- at a place none leads
+  -- at an offset none leads
   abbrev pub NoneLeads : ℕ → Type 0
   NoneLeads at = leading read (endedLines (drop at s)) ≡ ([], endedLines (drop at s))
 
-  -- none stand from a place to itself
+  -- none stand from an offset to itself
   led-start : (from : ℕ) → Led from from []
   led-start from = record { lines = refl; rest = refl }
 
@@ -101,7 +102,8 @@ unfolding flatten
 flatten-snoc [] v = append-nil v
 flatten-snoc (u ∷ vs) v = ap (λ (t : Bytes). u ++ t) (flatten-snoc vs v) ∙ sym (append-assoc u (flatten vs) v)
 
--- the `keep` lines from a place to another: their number, and the block of the first of their values
+-- the `keep` lines from an offset to another: their number, and the block of the first of their
+-- values
 pub record KeepsTo (s : Bytes) (from at count : ℕ) (values : List ℕ) : Type 0 where
   pub taken : List Bytes
   pub led : Led readKeep s from at taken
@@ -164,7 +166,8 @@ module _ (s : Bytes) (from : ℕ) where
 
 -- ---- the `pair` lines
 
--- the `pair` lines from a place to another: their number, and the first of their positions and versions
+-- the `pair` lines from an offset to another: their number, and the first of their positions and
+-- versions
 pub record PairsTo (s : Bytes) (from at count : ℕ) (ps vs : List ℕ) : Type 0 where
   pub taken : List MapEntry
   pub led : Led readPair s from at taken
@@ -202,7 +205,8 @@ module _ (s : Bytes) (from : ℕ) where
         }
 
     -- where none leads, they are all
-    pub pairs-stop : at ≤ length s → NoneLeads readPair s at → PairsFrom s from (record { count = count; next = at; positions = ps; versions = vs })
+    pub pairs-stop : at ≤ length s → NoneLeads readPair s at
+        → PairsFrom s from (record { map = record { positions = ps; versions = vs; count = count }; next = at })
     pairs-stop w n =
         record {
           taken = k .taken;

@@ -1,5 +1,6 @@
--- Laws of writing a state's text (specs/StateWriter.antt): texts written one after the other, the pieces of which each line is made, a line for each element
--- of a list, and the room that a valid state's struct and text have.
+-- Laws of writing a state's text (specs/StateWriter.antt): texts written one after the other, the
+-- pieces of which each line is made, a line for each element of a list, and the room that a valid
+-- state's struct and text have.
 use mathlib.Core.Path.{_≡_, refl, sym, _∙_, ap}
 use mathlib.Core.Bool.{true, false}
 use mathlib.Core.List.{List, [], _∷_, _++_, flatMap, append-assoc, append-nil}
@@ -12,15 +13,16 @@ use lib.Dec.{leb}
 use lib.ListN.{length, take, drop, getD, length-append, take-append-drop}
 use lib.Seq.{take-all, take-suc}
 use borrow.Author.Tests.{le-leb, lt-leb, leb-true}
-use Rattle.lists.specs.Choice.{given}
+use Rattle.lists.specs.Choice.{isSome}
 use Rattle.lists.specs.Lists.{Bytes, runs, written}
-use Rattle.lists.proofs.ChoiceLaws.{choose-true, choose-false, choose-by, provided-some, given-some, given-none}
+use Rattle.lists.proofs.ChoiceLaws.{choose-true, choose-false, choose-by, provided-some, given-some}
+use Rattle.lists.proofs.ChoiceLaws.{given-none}
 use Rattle.lists.proofs.ListLaws.{every-cons}
 use Rattle.lines.specs.Number.{ascii, decimal}
 use Rattle.lines.specs.Hex.{hexField}
 use Rattle.lines.specs.Field.{writeField, writeFields}
 use Rattle.lines.specs.Line.{tab, newline, joined, line, writeLine}
-use Rattle.lines.specs.Writing.{placeAfter, putAt}
+use Rattle.lines.specs.Writing.{offsetAfter, putAt}
 use Rattle.lines.proofs.WritingLaws.{length-written, written-append, written-nil, put-fits}
 use Rattle.rules.specs.Limits.{labelLimit, mapLimit, hashLength, valuesBlockLength, stateTextLimit}
 use Rattle.rules.specs.State.{MapEntry, isValid}
@@ -32,21 +34,21 @@ use Rattle.rules.proofs.StateTextLaws.{state-short}
 use Rattle.rules.proofs.RefusalLaws.{valid-some}
 use Rattle.tree.proofs.RunLaws.{length-runs, runs-at}
 use Rattle.inputs.specs.declared.state.State.{State as StateBlock}
-use Rattle.inputs.specs.State.{mapOf, contents, roomIsZero, stateOf}
+use Rattle.inputs.specs.State.{mapOf, labelIn, logIn, mapIn, contents, roomIsZero, stateOf}
 use Rattle.inputs.specs.StateWriter.{textFor, Wrote}
 
 -- ---- one text after the other
 
 -- a text that is put where it fits is written
 pub wrote-put : {s : Bytes} {at : ℕ} (t : Bytes) {n : ℕ} {s′ : Bytes} (o : Option ℕ) → at + length t ≤ length s
-    → (o ≡ placeAfter s at t) × (s′ ≡ putAt s at t) → n ≡ Option·getD o at → Wrote s at t n s′
+    → (o ≡ offsetAfter s at t) × (s′ ≡ putAt s at t) → n ≡ Option·getD o at → Wrote s at t n s′
 wrote-put {s} {at} t {n} {s′} o h (p, b) e =
     let (q, d) = put-fits s at t h in
-    record { room = h; place = e ∙ ap (λ (o : Option ℕ). Option·getD o at) (p ∙ q); bytes = b ∙ d }
+    record { room = h; offset = e ∙ ap (λ (o : Option ℕ). Option·getD o at) (p ∙ q); bytes = b ∙ d }
 
 -- the empty text is written where nothing is done
 wrote-nothing : (s : Bytes) (at : ℕ) → at ≤ length s → Wrote s at [] at s
-wrote-nothing s at h = record { room = omega arith; place = omega arith; bytes = sym (written-nil s at h) }
+wrote-nothing s at h = record { room = omega arith; offset = omega arith; bytes = sym (written-nil s at h) }
 
 -- where there is room for two texts, there is room for the first
 pub room-first : (t u : Bytes) (at k : ℕ) → at + length (t ++ u) ≤ k → at + length t ≤ k
@@ -59,25 +61,25 @@ wrote-length {s} {at} {t} {n} {s′} w = ap length (w .bytes) ∙ length-written
 module _ {s : Bytes} {at : ℕ} {t : Bytes} {n : ℕ} {s′ : Bytes} (u : Bytes) (w : Wrote s at t n s′) where
   -- where there is room for two texts, there is room for the second after the first
   pub room-then : at + length (t ++ u) ≤ length s → n + length u ≤ length s′
-  room-then h = omega (arith, length-append t u, wrote-length w, w .place)
+  room-then h = omega (arith, length-append t u, wrote-length w, w .offset)
 
   -- the second written after the first is both written as one
   pub wrote-then : {m : ℕ} {s″ : Bytes} → Wrote s′ n u m s″ → Wrote s at (t ++ u) m s″
   wrote-then {m} {s″} v =
       let l = length-append t u in
-      let h : at + length t + length u ≤ length s = omega (arith, wrote-length w, w .place, v .room) in
-      let e : written s′ n u ≡ written (written s at t) (at + length t) u = rw (w .bytes, w .place) refl in
-      record { room = omega arith; place = omega (arith, w .place, v .place); bytes = v .bytes ∙ e ∙ written-append s at t u h }
+      let h : at + length t + length u ≤ length s = omega (arith, wrote-length w, w .offset, v .room) in
+      let e : written s′ n u ≡ written (written s at t) (at + length t) u = rw (w .bytes, w .offset) refl in
+      record { room = omega arith; offset = omega (arith, w .offset, v .offset); bytes = v .bytes ∙ e ∙ written-append s at t u h }
 
   -- the second put after the first, where there is room for both, is written with it
-  pub then-put : (o : Option ℕ) → at + length (t ++ u) ≤ length s → {m : ℕ} {s″ : Bytes} → (o ≡ placeAfter s′ n u) × (s″ ≡ putAt s′ n u)
+  pub then-put : (o : Option ℕ) → at + length (t ++ u) ≤ length s → {m : ℕ} {s″ : Bytes} → (o ≡ offsetAfter s′ n u) × (s″ ≡ putAt s′ n u)
       → m ≡ Option·getD o n → Wrote s at (t ++ u) m s″
   then-put o h b f = wrote-then (wrote-put u o (room-then h) b f)
 
 -- two texts that are put one after the other, where there is room for both, are written
 pub both-put : {s : Bytes} {at : ℕ} (t u : Bytes) (o p : Option ℕ) → at + length (t ++ u) ≤ length s → {n : ℕ} {s′ : Bytes}
-    → (o ≡ placeAfter s at t) × (s′ ≡ putAt s at t) → n ≡ Option·getD o at → {m : ℕ} {s″ : Bytes}
-    → (p ≡ placeAfter s′ n u) × (s″ ≡ putAt s′ n u) → m ≡ Option·getD p n → Wrote s at (t ++ u) m s″
+    → (o ≡ offsetAfter s at t) × (s′ ≡ putAt s at t) → n ≡ Option·getD o at → {m : ℕ} {s″ : Bytes}
+    → (p ≡ offsetAfter s′ n u) × (s″ ≡ putAt s′ n u) → m ≡ Option·getD p n → Wrote s at (t ++ u) m s″
 both-put {s} {at} t u o p h a e b f = then-put u (wrote-put t o (room-first t u at (length s) h) a e) p h b f
 
 -- ---- lines
@@ -147,28 +149,26 @@ module _ {A : Type 0} (f : A → Bytes) where
 
 -- ---- values
 
--- a value of a block stands between its place and that of the next
+-- a value of a block stands between its offset and that of the next
 pub value-at : (count : ℕ) (block : Bytes) (i : ℕ) → i < count
     → getD (runs count hashLength block) i [] ≡ take (hashLength * i + hashLength - hashLength * i) (drop (hashLength * i) block)
 value-at count block i h =
     let e : hashLength * i + hashLength - hashLength * i ≡ hashLength = omega arith in
     rw e (runs-at count hashLength block i [] h)
 
--- ---- pairs
-
 -- ---- a valid state
 
 -- what is known of the struct of a valid state
 pub record Fitting (b : StateBlock) : Type 0 where
   pub stands : validState (stateOf b) ≡ some (contents b)
-  pub label : b .length ≤ labelLimit
-  pub values : hashLength * ones (b .size) ≤ valuesBlockLength
-  pub pairs : b .pairs ≤ mapLimit
+  pub label : b .label .length ≤ labelLimit
+  pub values : hashLength * ones (b .log .size) ≤ valuesBlockLength
+  pub pairs : b .map .count ≤ mapLimit
   pub text : length (writeState (contents b)) ≤ stateTextLimit
 
 -- it stands for what fills it, and all of that has room
-pub valid-fits : (b : StateBlock) → given (validState (stateOf b)) ≡ true → Fitting b
-unfolding stateOf roomIsZero contents
+pub valid-fits : (b : StateBlock) → isSome (validState (stateOf b)) ≡ true → Fitting b
+unfolding stateOf roomIsZero contents logIn
 valid-fits b e =
     let (s, q) = given-some (validState (stateOf b)) e in
     let (o, v) = valid-some (stateOf b) s q in
@@ -179,24 +179,24 @@ valid-fits b e =
     record {
       stands = q ∙ ap some (sym i);
       label = leb-true _ _ l;
-      values = rw (length-runs (ones (b .size)) hashLength (b .values)) at (values-fit (contents b) (valid-was (contents b) w));
+      values = rw (length-runs (ones (b .log .size)) hashLength (b .log .values)) at (values-fit (contents b) (valid-was (contents b) w));
       pairs = leb-true _ _ p;
       text = state-short (contents b) w;
     }
 
 -- the parts of its text: the `size` line, the `keep` lines, the `pair` lines
 abbrev pub sizePart : StateBlock → Bytes
-sizePart b = writeLine sizeForm (b .size, (b .time, (take (b .length) (b .label), tt)))
+sizePart b = writeLine sizeForm (b .log .size, (b .log .timestamp, (take (b .label .length) (b .label .bytes), tt)))
 
 abbrev pub keepPart : StateBlock → Bytes
-keepPart b = flatMap writeKeep (runs (ones (b .size)) hashLength (b .values))
+keepPart b = flatMap writeKeep (runs (ones (b .log .size)) hashLength (b .log .values))
 
 abbrev pub pairPart : StateBlock → Bytes
-pairPart b = flatMap writePair (mapOf (take (b .pairs) (b .positions)) (take (b .pairs) (b .versions)))
+pairPart b = flatMap writePair (mapOf (take (b .map .count) (b .map .positions)) (take (b .map .count) (b .map .versions)))
 
 -- its text is these parts
 pub state-parts : (b : StateBlock) → writeState (contents b) ≡ sizePart b ++ keepPart b ++ pairPart b
-unfolding writeState contents
+unfolding writeState contents labelIn logIn mapIn
 state-parts b = refl
 
 -- ---- the text to write
@@ -207,14 +207,14 @@ unfolding textFor
 text-no-room b lent h = choose-false (leb stateTextLimit (length lent)) _ _ (lt-leb stateTextLimit (length lent) h)
 
 -- none of a state that is not valid
-pub text-invalid : (b : StateBlock) (lent : Bytes) → given (validState (stateOf b)) ≡ false → textFor b lent ≡ none
+pub text-invalid : (b : StateBlock) (lent : Bytes) → isSome (validState (stateOf b)) ≡ false → textFor b lent ≡ none
 unfolding textFor
 text-invalid b lent e =
     let n = ap (Option·map writeState) (given-none (validState (stateOf b)) e) in
     choose-by (λ (o : Option Bytes). o ≡ none) (leb stateTextLimit (length lent)) _ _ (λ _. n) (λ _. refl)
 
 -- that of a valid state where enough bytes are lent
-pub text-valid : (b : StateBlock) (lent : Bytes) → given (validState (stateOf b)) ≡ true → stateTextLimit ≤ length lent
+pub text-valid : (b : StateBlock) (lent : Bytes) → isSome (validState (stateOf b)) ≡ true → stateTextLimit ≤ length lent
     → textFor b lent ≡ some (writeState (contents b))
 unfolding textFor
 text-valid b lent e h =
@@ -229,4 +229,4 @@ none-written s o e = (rw e refl, rw e refl)
 pub first-written : {s : Bytes} {n : ℕ} {s′ : Bytes} (o : Option Bytes) (t : Bytes) → o ≡ some t → Wrote s 0 t n s′
     → (n ≡ length (Option·getD o [])) × (s′ ≡ writtenFirst s o)
 unfolding writtenFirst Option·elim
-first-written o t e w = (rw e (omega (arith, w .place)), rw e (w .bytes))
+first-written o t e w = (rw e (omega (arith, w .offset)), rw e (w .bytes))

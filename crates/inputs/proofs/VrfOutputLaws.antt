@@ -1,8 +1,10 @@
--- Laws of the VRF outputs: records by their numbers (specs/VrfOutputs.antt), whether versions rise, and the search for a version by halving.
+-- Laws of the VRF outputs: records by their numbers (specs/VrfOutputs.antt), whether versions rise,
+-- and the search for a version by halving.
 use mathlib.Core.Path.{_≡_, refl, sym, _∙_, ap, ap₂, subst}
 use mathlib.Core.Logic.{_⊎_, inl, inr, ⊎-elim}
 use mathlib.Core.Bool.{Bool, true, false, _&&_, false≢true}
-use mathlib.Core.List.{List, [], _∷_, map, List·Memᴰ, List·Memᴰ·head, List·Memᴰ·tail, List·Memᴰ·cases-cons, List·Memᴰ·not-nil}
+use mathlib.Core.List.{List, [], _∷_, map, List·Memᴰ, List·Memᴰ·head, List·Memᴰ·tail, List·Memᴰ·cases-cons}
+use mathlib.Core.List.{List·Memᴰ·not-nil}
 use mathlib.Core.Option.{Option, Option·elim, none, some}
 use Prim.Native.Nat.{ℕ, zero, suc, _+_, _*_, _/_, _%_, _≤_, _<_}
 use native.Mathlib.Omega.{arith}
@@ -10,19 +12,21 @@ use lib.Dec.{eqb, ltb}
 use lib.ListN.{length, take, drop, getD, length-map, length-drop, List·getD-map}
 use lib.Seq.{drop-drop, take-take}
 use borrow.Author.Tests.{eq-eqb, ne-eqb, eqb-true, lt-ltb, le-ltb, ltb-true}
-use Rattle.lists.specs.Choice.{given}
+use Rattle.lists.specs.Choice.{isSome}
 use Rattle.lists.specs.Lists.{Bytes, select, first, rising, runs}
 use Rattle.lists.proofs.ChoiceLaws.{given-first, given-provided, provided-some, and-holds}
 use Rattle.lists.proofs.ListLaws.{at-member, member-at, first-here, first-later, mapped-at, any-at}
 use Rattle.lists.proofs.ListLaws.{select-here, select-later, select-fewer}
 use Rattle.lists.proofs.RisingLaws.{rising-at, rising-two, short-rises, rising-first, rising-tail}
-use Rattle.lines.proofs.PlaceLaws.{at-cons}
+use Rattle.lines.proofs.OffsetLaws.{at-cons}
 use Rattle.rules.specs.Limits.{vrfOutputLength}
 use Rattle.rules.specs.Encoding.{uint, bytesAfter}
-use Rattle.rules.specs.VrfOutputs.{VrfOutput, recordLength, readRecord, readRecords, readOutputs, hasOutput, outputOf}
+use Rattle.rules.specs.VrfOutputs.{VrfOutput, recordLength, readRecord, readRecords, readOutputs, hasOutput}
+use Rattle.rules.specs.VrfOutputs.{outputOf}
 use Rattle.tree.proofs.DigitLaws.{by-order}
 use Rattle.tree.proofs.RunLaws.{length-runs, mapped-run, drop-take}
-use Rattle.inputs.specs.VrfOutputs.{recordAt, foundOutput, recordOf, recordsBelow, IsRecordOf, IsOfSomeRecord}
+use Rattle.inputs.specs.VrfOutputs.{recordAt, foundOutput, recordOf, recordsBelow, IsRecordOf}
+use Rattle.inputs.specs.VrfOutputs.{IsOfSomeRecord}
 use Rattle.inputs.specs.declared.vrf_outputs.FoundOutput.{FoundOutput}
 
 -- ---- the records
@@ -40,19 +44,19 @@ length-records : (s : Bytes) → length (readRecords s) ≡ length s / recordLen
 unfolding readRecords
 length-records s = length-map (runs (length s / recordLength) recordLength s) readRecord ∙ length-runs (length s / recordLength) recordLength s
 
--- the record with a number below theirs is the one at its place
+-- the record with a number below theirs is the one at its offset
 record-at : (s : Bytes) (i : ℕ) (d : VrfOutput) → i < length s / recordLength → getD (readRecords s) i d ≡ recordAt s i
 unfolding readRecords recordAt
 record-at s i d h = mapped-run readRecord (length s / recordLength) recordLength s i d h
 
--- four bytes from a place on
+-- four bytes from an offset on
 four-bytes : (s : Bytes) (a : ℕ) → a + 4 ≤ length s → take 4 (drop a s) ≡ getD s a 0 ∷ getD s (a + 1) 0 ∷ getD s (a + 2) 0 ∷ getD s (a + 3) 0 ∷ []
 four-bytes s a h =
     let e : a + 1 + 1 ≡ a + 2 = omega arith in
     let f : a + 2 + 1 ≡ a + 3 = omega arith in
     rw (at-cons s a (omega arith), at-cons s (a + 1) (omega arith), e, at-cons s (a + 2) (omega arith), f, at-cons s (a + 3) (omega arith))
 
--- the version of a record is spelled by its first four bytes
+-- the version of a record is encoded by its first four bytes
 pub version-bytes : (s : Bytes) (i : ℕ) → i < length s / recordLength
     → recordAt s i .version
     ≡ ((getD s (recordLength * i) 0 * 256 + getD s (recordLength * i + 1) 0) * 256 + getD s (recordLength * i + 2) 0) * 256 + getD s (recordLength * i + 3) 0
@@ -96,16 +100,16 @@ version-at s i h =
     List·getD-map versionIn (readRecords s) i d ∙ ap versionIn (record-at s i d h)
 
 -- outputs are read where they are whole records whose versions rise
-outputs-given : (s : Bytes) → given (readOutputs s) ≡ (eqb (length s % recordLength) 0 && rising (versions s))
+outputs-given : (s : Bytes) → isSome (readOutputs s) ≡ (eqb (length s % recordLength) 0 && rising (versions s))
 unfolding readOutputs versions
 outputs-given s = given-provided (eqb (length s % recordLength) 0 && rising (map versionIn (readRecords s))) (readRecords s)
 
 -- so whole records are read where their versions rise
-pub given-rises : (s : Bytes) → length s % recordLength ≡ 0 → given (readOutputs s) ≡ rising (versions s)
+pub given-rises : (s : Bytes) → length s % recordLength ≡ 0 → isSome (readOutputs s) ≡ rising (versions s)
 given-rises s e = outputs-given s ∙ ap (λ (t : Bool). t && rising (versions s)) (eq-eqb (length s % recordLength) 0 e)
 
 -- and nothing is read where the last record is not whole
-pub given-broken : (s : Bytes) → (length s % recordLength ≡ 0 → ⊥) → given (readOutputs s) ≡ false
+pub given-broken : (s : Bytes) → (length s % recordLength ≡ 0 → ⊥) → isSome (readOutputs s) ≡ false
 given-broken s h = outputs-given s ∙ ap (λ (t : Bool). t && rising (versions s)) (ne-eqb (length s % recordLength) 0 h)
 
 -- ---- whether they rise
@@ -275,19 +279,19 @@ found-nothing s v low high r b l q = (λ xs p. q ∙ sym (ap (foundOutput (recor
 
 -- a record is found where the version has an output
 pub found-has : (xs : List VrfOutput) (i v : ℕ) → foundOutput i (recordOf xs v) .found ≡ hasOutput xs v
-unfolding hasOutput recordOf foundOutput given
+unfolding hasOutput recordOf foundOutput isSome
 found-has xs i v = found-given (recordOf xs v) ∙ given-first (λ (x : VrfOutput). eqb (x .version) v) xs
   where
-    found-given : (o : Option VrfOutput) → foundOutput i o .found ≡ given o
+    found-given : (o : Option VrfOutput) → foundOutput i o .found ≡ isSome o
     found-given none = refl
     found-given (some x) = refl
 
 -- and it holds that output
 pub found-output : (xs : List VrfOutput) (i v : ℕ) → hasOutput xs v ≡ true → foundOutput i (recordOf xs v) .output ≡ outputOf xs v
-unfolding outputOf recordOf hasOutput foundOutput given Option·elim
+unfolding outputOf recordOf hasOutput foundOutput isSome Option·elim
 found-output xs i v h = held (recordOf xs v) (given-first (λ (x : VrfOutput). eqb (x .version) v) xs ∙ h)
   where
-    held : (o : Option VrfOutput) → given o ≡ true → foundOutput i o .output ≡ Option·elim o [] (λ x. x .output)
+    held : (o : Option VrfOutput) → isSome o ≡ true → foundOutput i o .output ≡ Option·elim o [] (λ x. x .output)
     held none e = absurd (false≢true e)
     held (some x) e = refl
 

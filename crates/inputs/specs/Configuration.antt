@@ -10,17 +10,18 @@ use Rattle.inputs.specs.declared.configuration.Lifetime.{Lifetime}
 use Rattle.inputs.specs.declared.configuration.Lifetime.the-variants.{Limited, Unlimited}
 use Rattle.inputs.specs.declared.configuration.Configuration.{Configuration as ConfigurationParts}
 use Rattle.inputs.specs.declared.configuration.ReadConfiguration.{ReadConfiguration}
-use Rattle.inputs.specs.declared.configuration.ReadConfiguration.the-variants.{Read, Broken}
+use Rattle.inputs.specs.declared.configuration.ReadConfiguration.the-variants.{Read, Unread}
 use Rattle.inputs.specs.declared.configuration.Uint.{Uint}
-use Rattle.inputs.specs.declared.configuration.Uint.the-variants.{Value as NumberAt, Missing as NoNumber}
+use Rattle.inputs.specs.declared.configuration.Uint.the-variants.{Value as NumberAt, Unread as NoNumber}
 use Rattle.inputs.specs.declared.configuration.Opaque.{Opaque}
-use Rattle.inputs.specs.declared.configuration.Opaque.the-variants.{Key as KeyAt, Missing as NoKey}
+use Rattle.inputs.specs.declared.configuration.Opaque.the-variants.{Key as KeyAt, Unread as NoKey}
 use Rattle.inputs.specs.declared.configuration.Optional.{Optional}
-use Rattle.inputs.specs.declared.configuration.Optional.the-variants.{Value as LifetimeAt, Missing as NoLifetime}
+use Rattle.inputs.specs.declared.configuration.Optional.the-variants.{Value as LifetimeAt}
+use Rattle.inputs.specs.declared.configuration.Optional.the-variants.{Unread as NoLifetime}
 use Rattle.inputs.specs.declared.configuration.Front.{Front}
-use Rattle.inputs.specs.declared.configuration.Front.the-variants.{Fields as FrontAt, Missing as NoFront}
+use Rattle.inputs.specs.declared.configuration.Front.the-variants.{Fields as FrontAt, Unread as NoFront}
 use Rattle.inputs.specs.declared.configuration.Times.{Times}
-use Rattle.inputs.specs.declared.configuration.Times.the-variants.{Fields as TimesAt, Missing as NoTimes}
+use Rattle.inputs.specs.declared.configuration.Times.the-variants.{Fields as TimesAt, Unread as NoTimes}
 
 -- an optional number
 abbrev pub lifetimeOf : Lifetime → Option ℕ
@@ -44,7 +45,7 @@ configurationIn s c =
 -- what was read; bytes that do not read are refused with 2
 abbrev pub configurationOf : Bytes → ReadConfiguration → Option Configuration
 configurationOf s (Read c) = some (configurationIn s c)
-configurationOf s Broken = none
+configurationOf s Unread = none
 
 -- ==== for contracts of private functions alone
 
@@ -65,7 +66,7 @@ abbrev pub uintIn : Bytes → Uint → Option (ℕ × Bytes)
 uintIn s (NumberAt n next) = some (n, drop next s)
 uintIn s NoNumber = none
 
--- the place after a number
+-- the offset after a number
 abbrev pub afterUint : Uint → ℕ
 afterUint (NumberAt n next) = next
 afterUint NoNumber = 0
@@ -93,7 +94,8 @@ readFront s = do
 
 -- what was read of them, if it could be
 abbrev pub frontIn : Bytes → Front → Option (ℕ × ℕ × Bytes × Bytes × Bytes)
-frontIn s (FrontAt suite mode signature vrf next) = some (suite, mode, partOf s signature, partOf s vrf, drop next s)
+frontIn s (FrontAt suite mode signature vrf next) =
+    some (suite, mode, partOf s signature, partOf s vrf, drop next s)
 frontIn s NoFront = none
 
 -- the time ahead and behind, the monitoring window, the maximum lifetime
@@ -107,5 +109,6 @@ readTimes s = do
 
 -- what was read of them, if it could be
 abbrev pub timesIn : Bytes → Times → Option (ℕ × ℕ × ℕ × Option ℕ × Bytes)
-timesIn s (TimesAt ahead behind window lifetime next) = some (ahead, behind, window, lifetimeOf lifetime, drop next s)
+timesIn s (TimesAt ahead behind window lifetime next) =
+    some (ahead, behind, window, lifetimeOf lifetime, drop next s)
 timesIn s NoTimes = none

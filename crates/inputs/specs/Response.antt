@@ -1,4 +1,4 @@
--- How the places of a response that was read stand for its parts of the rules.
+-- How the offsets of a response that was read stand for its parts of the rules.
 use mathlib.Core.Path.{_≡_}
 use mathlib.Core.List.{List, []}
 use mathlib.Core.Option.{Option, none, some}
@@ -13,10 +13,10 @@ use Rattle.rules.specs.ResponseText.{readItem, grouped}
 use Rattle.inputs.specs.declared.response_lines.Kind.{Kind}
 use Rattle.inputs.specs.declared.response_lines.Kind.the-variants.{Search, Monitor}
 use Rattle.inputs.specs.declared.response_lines.Target.{Target}
-use Rattle.inputs.specs.ResponseLines.{spelled, Spells}
+use Rattle.inputs.specs.ResponseLines.{decoded, Decodes}
 use Rattle.inputs.specs.declared.response.Response.{Response}
 use Rattle.inputs.specs.declared.response.ReadResponse.{ReadResponse}
-use Rattle.inputs.specs.declared.response.ReadResponse.the-variants.{Read, Broken}
+use Rattle.inputs.specs.declared.response.ReadResponse.the-variants.{Read, Unread}
 
 -- ---- the sections of a response, from the text that they fill
 
@@ -37,16 +37,21 @@ nodesIn s = leading readNode (endedLines s) .0
 
 -- the kind, with the target of a search
 unfoldable pub findingIn : Bytes → Kind → Target → Finding
-findingIn s Search t = searched (record { version = t .version; opening = spelled (partOf s (t .opening)); value = spelled (partOf s (t .value)) })
+findingIn s Search t =
+    searched (record {
+      version = t .version;
+      opening = decoded (partOf s (t .opening));
+      value = decoded (partOf s (t .value));
+    })
 findingIn s Monitor t = monitored
 
 -- each field and each section is what its part of the text says
 unfoldable pub partsIn : Bytes → Response → Parts
 partsIn s r =
     record {
-      identifier = spelled (partOf s (r .identifier));
-      label = spelled (partOf s (r .label));
-      size = r .size;
+      identifier = decoded (partOf s (r .identifier));
+      label = decoded (partOf s (r .label));
+      treeSize = r .«tree_size»;
       finding = findingIn s (r .kind) (r .target);
       steps = stepsIn (partOf s (r .steps .part));
       entries = entriesIn (partOf s (r .entries .part));
@@ -56,7 +61,7 @@ partsIn s r =
 -- what was read; bytes that do not read are refused with 5
 abbrev pub partsOf : Bytes → ReadResponse → Option Parts
 partsOf s (Read r) = some (partsIn s r)
-partsOf s Broken = none
+partsOf s Unread = none
 
 -- the counts of the sections are right
 pub record Counted (s : Bytes) (r : Response) : Type 0 where
@@ -84,18 +89,18 @@ pub record Filled (s : Bytes) (r : Response) : Type 0 where
   pub noneLoose : looseIn (partOf s (r .entries .part)) ≡ []
   pub nodes : AllRead readNode (partOf s (r .nodes .part))
 
--- opening and value of a search are parts that spell byte strings
-abbrev pub TargetSpells : Bytes → Kind → Target → Type 0
-TargetSpells s Search t = Spells s (t .opening) × Spells s (t .value)
-TargetSpells s Monitor t = Unit {0}
+-- opening and value of a search are parts that encode byte strings
+abbrev pub TargetDecodes : Bytes → Kind → Target → Type 0
+TargetDecodes s Search t = Decodes s (t .opening) × Decodes s (t .value)
+TargetDecodes s Monitor t = Unit {0}
 
 -- and so are all parts that are handed on
 pub record Fields (s : Bytes) (r : Response) : Type 0 where
-  pub identifier : Spells s (r .identifier)
-  pub label : Spells s (r .label)
-  pub target : TargetSpells s (r .kind) (r .target)
+  pub identifier : Decodes s (r .identifier)
+  pub label : Decodes s (r .label)
+  pub target : TargetDecodes s (r .kind) (r .target)
 
--- what is promised of the places
-abbrev pub Places : Bytes → ReadResponse → Type 0
-Places s (Read r) = Fields s r × Counted s r × Ordered s r × Filled s r
-Places s Broken = Unit {0}
+-- what is promised of the offsets
+abbrev pub Offsets : Bytes → ReadResponse → Type 0
+Offsets s (Read r) = Fields s r × Counted s r × Ordered s r × Filled s r
+Offsets s Unread = Unit {0}

@@ -1,4 +1,5 @@
--- What the readers of a response's sections give back, from what is read: for contracts of private functions alone.
+-- What the readers of a response's sections give back, from what is read: for contracts of private
+-- functions alone.
 use mathlib.Core.Path.{_≡_}
 use mathlib.Core.Bool.{Bool, true, false}
 use mathlib.Core.List.{List}
@@ -51,7 +52,7 @@ roleOf Begins = some true
 roleOf Continues = some false
 roleOf Outside = none
 
--- the same with the place after the line
+-- the same with the offset after the line
 abbrev pub roleFromOf : RoleFrom → Option (Bool × ℕ)
 roleFromOf r = Option·map (λ b. (b, r .next)) (roleOf (r .role))
 
@@ -62,7 +63,7 @@ countOf Entries xs = length (grouped xs .1)
 countOf Nodes xs = length xs
 countOf Ends xs = length xs
 
--- the section at a place has all lines of its sort that lead there
+-- the section at an offset has all lines of its sort that lead there
 pub record SectionOf (sort : Sort) (s : Bytes) (from : ℕ) (r : Section) : Type 0 where
   pub starts : r .part .start ≡ from
   pub forward : from ≤ r .part .stop

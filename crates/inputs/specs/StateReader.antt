@@ -1,11 +1,12 @@
--- What the readers of a state's text give back, from what is read (paper 01, What a call is given): for contracts of private functions alone.
+-- What the readers of a state's text give back, from what is read (paper 01, What a call is given):
+-- for contracts of private functions alone.
 use mathlib.Core.Path.{_≡_}
 use mathlib.Core.Bool.{true, false}
 use mathlib.Core.List.{List, [], _∷_, flatten, List·Memᴰ}
 use mathlib.Core.Option.{Option, none, some, Option·elim, bind as _>>=_}
 use Prim.Native.Nat.{ℕ, _≤_}
 use lib.Dec.{eqb}
-use lib.ListN.{length, take, drop, replicate}
+use lib.ListN.{length, take, drop}
 use Rattle.lists.specs.Choice.{_>>_}
 use Rattle.lists.specs.Lists.{Bytes}
 use Rattle.hash.specs.Bytes.{padded}
@@ -16,16 +17,17 @@ use Rattle.rules.specs.State.{MapEntry, State, positions, versions, isValid, em
 use Rattle.rules.specs.StateText.{sizeForm, readKeep, readPair}
 use Rattle.inputs.specs.declared.state_reader.SizeLine.{SizeLine}
 use Rattle.inputs.specs.declared.state_reader.PairLine.{PairLine}
-use Rattle.inputs.specs.declared.state_reader.PairLine.the-variants.{Pair, NoPair}
+use Rattle.inputs.specs.declared.state_reader.PairLine.the-variants.{Pair, Unread as NoPair}
 use Rattle.inputs.specs.declared.state_reader.Keeps.{Keeps}
 use Rattle.inputs.specs.declared.state_reader.Pairs.{Pairs}
+use Rattle.inputs.specs.State.{labelBlock}
 
 -- ---- single lines
 
 -- what a `size` line says, from its size, its time and what is read of its label
 unfoldable pub labelled : ℕ → ℕ → Option (Values (upTo labelLimit ∷ [])) → SizeLine
-labelled m t none = record { found = false; size = 0; time = 0; label = replicate labelLimit 0; length = 0 }
-labelled m t (some (b, _)) = record { found = true; size = m; time = t; label = padded labelLimit b; length = length b }
+labelled m t none = record { found = false; size = 0; timestamp = 0; label = labelBlock [] }
+labelled m t (some (b, _)) = record { found = true; size = m; timestamp = t; label = labelBlock b }
 
 -- what it says, or zeros where there is no such line
 unfoldable pub asSize : Option (Read sizeForm) → SizeLine
@@ -43,7 +45,8 @@ pairOf NoPair = none
 unfoldable pub front : ℕ → List ℕ → List ℕ
 front n s = padded n (take n s)
 
--- the `keep` lines from a place on: their number, the block of the first of their values, and the place of the lines after them
+-- the `keep` lines from an offset on: their number, the block of the first of their values, and the
+-- offset of the lines after them
 pub record KeepsFrom (s : Bytes) (from : ℕ) (r : Keeps) : Type 0 where
   pub taken : List Bytes
   pub lines : leading readKeep (endedLines (drop from s)) ≡ (taken, endedLines (drop (r .next) s))
@@ -52,34 +55,38 @@ pub record KeepsFrom (s : Bytes) (from : ℕ) (r : Keeps) : Type 0 where
   pub counted : r .count ≡ length taken
   pub stored : r .values ≡ front valuesBlockLength (flatten taken)
 
--- the `pair` lines from a place on, in the same way
+-- the `pair` lines from an offset on, in the same way
 pub record PairsFrom (s : Bytes) (from : ℕ) (r : Pairs) : Type 0 where
   pub taken : List MapEntry
   pub lines : leading readPair (endedLines (drop from s)) ≡ (taken, endedLines (drop (r .next) s))
   pub rest : openRest (drop from s) ≡ openRest (drop (r .next) s)
   pub within : r .next ≤ length s
-  pub counted : r .count ≡ length taken
-  pub firsts : r .positions ≡ front mapLimit (positions taken)
-  pub seconds : r .versions ≡ front mapLimit (versions taken)
+  pub counted : r .map .count ≡ length taken
+  pub firsts : r .map .positions ≡ front mapLimit (positions taken)
+  pub seconds : r .map .versions ≡ front mapLimit (versions taken)
 
 -- ---- the state
 
 -- what was read stands for a state, the values and pairs for which there is no room apart
 pub record ReadAs (first : SizeLine) (keeps : Keeps) (pairs : Pairs) (st : State) : Type 0 where
-  pub label : first .label ≡ padded labelLimit (st .label)
-  pub labelLength : first .length ≡ length (st .label)
-  pub size : first .size ≡ st .size
-  pub time : first .time ≡ st .time
-  pub valueCount : keeps .count ≡ length (st .values)
-  pub values : keeps .values ≡ front valuesBlockLength (flatten (st .values))
-  pub valueLength : (v : Bytes) → List·Memᴰ v (st .values) → length v ≡ hashLength
-  pub pairCount : pairs .count ≡ length (st .monitoringMap)
-  pub firsts : pairs .positions ≡ front mapLimit (positions (st .monitoringMap))
-  pub seconds : pairs .versions ≡ front mapLimit (versions (st .monitoringMap))
+  pub label : first .label ≡ labelBlock (st .label)
+  pub size : first .size ≡ st .log .size
+  pub timestamp : first .timestamp ≡ st .log .timestamp
+  pub valueCount : keeps .count ≡ length (st .log .values)
+  pub values : keeps .values ≡ front valuesBlockLength (flatten (st .log .values))
+  pub valueLength : (v : Bytes) → List·Memᴰ v (st .log .values) → length v ≡ hashLength
+  pub pairCount : pairs .map .count ≡ length (st .monitoringMap)
+  pub firsts : pairs .map .positions ≡ front mapLimit (positions (st .monitoringMap))
+  pub seconds : pairs .map .versions ≡ front mapLimit (versions (st .monitoringMap))
 
 -- what was read, as a state
 abbrev pub gathered : Read sizeForm → List Bytes → List MapEntry → State
-gathered (m, (t, (label, _))) values entries = record { label = label; size = m; time = t; values = values; monitoringMap = entries }
+gathered (m, (t, (label, _))) values entries =
+    record {
+      label = label;
+      log = record { size = m; timestamp = t; values = values };
+      monitoringMap = entries;
+    }
 
 -- a state, if it is valid
 unfoldable pub ifValid : State → Option State

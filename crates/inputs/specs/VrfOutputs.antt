@@ -26,7 +26,8 @@ recordsBelow outputs v = length (select (λ (x : VrfOutput). ltb (x .version) v)
 
 -- of outputs that read, what is found is the record of the version
 abbrev pub IsRecordOf : Bytes → ℕ → FoundOutput → Type 0
-IsRecordOf s v r = (xs : List VrfOutput) → readOutputs s ≡ some xs → r ≡ foundOutput (recordsBelow xs v) (recordOf xs v)
+IsRecordOf s v r =
+    (xs : List VrfOutput) → readOutputs s ≡ some xs → r ≡ foundOutput (recordsBelow xs v) (recordOf xs v)
 
 -- the record with a number, counted from 0
 unfoldable pub recordAt : Bytes → ℕ → VrfOutput
@@ -35,4 +36,6 @@ recordAt s i = readRecord (take recordLength (drop (recordLength * i) s))
 -- of any bytes, it is some record of the version, or none
 abbrev pub IsOfSomeRecord : Bytes → ℕ → FoundOutput → Type 0
 IsOfSomeRecord s v r =
-    (r ≡ foundOutput 0 none) ⊎ ((i : ℕ) × (i < length s / recordLength) × (recordAt s i .version ≡ v) × (r ≡ foundOutput i (some (recordAt s i))))
+    (r ≡ foundOutput 0 none)
+    ⊎ ((i : ℕ) × (i < length s / recordLength) × (recordAt s i .version ≡ v)
+    × (r ≡ foundOutput i (some (recordAt s i))))

@@ -4,7 +4,8 @@ ghost use Prim.Native.Nat.{_≤_, _<_};
 ghost use lib.ListN.{length, drop};
 ghost use Rattle.rules.specs.Encoding.{uint, readUint, readOpaque};
 ghost use Rattle.rules.specs.Configuration.{readOptional, readConfiguration};
-ghost use Rattle.inputs.specs.Configuration.{uint16, uint64, uintIn, afterUint, opaqueIn, optionalIn, readFront, frontIn, readTimes, timesIn, configurationOf};
+ghost use Rattle.inputs.specs.Configuration.{uint16, uint64, uintIn, afterUint, opaqueIn, optionalIn};
+ghost use Rattle.inputs.specs.Configuration.{readFront, frontIn, readTimes, timesIn, configurationOf};
 use lines::part::Part;
 
 // The maximum lifetime, in milliseconds, where there is one.
@@ -13,8 +14,9 @@ pub enum Lifetime {
     Unlimited,
 }
 
-// The fields in the order of the encoding: suite and mode; the public keys, each the part of the encoded configuration that it fills; how far the log's
-// time may be ahead of the clock and behind it; the monitoring window; the maximum lifetime.
+// The fields in the order of the encoding: suite and mode; the public keys, each the part of the
+// encoded configuration that it fills; how far the log's time may be ahead of the clock and behind
+// it; the monitoring window; the maximum lifetime.
 pub struct Configuration {
     pub suite: u16,
     pub mode: u8,
@@ -28,7 +30,7 @@ pub struct Configuration {
 
 pub enum ReadConfiguration {
     Read(Configuration),
-    Broken,
+    Unread,
 }
 
 // The bytes of a number of each width (RFC 8446, 3.3).
@@ -48,25 +50,25 @@ const ABSENT: u64 = 0;
 
 const PRESENT: u64 = 1;
 
-// A number and the place after it.
+// A number and the offset after it.
 enum Uint {
     Value { value: u64, next: usize },
-    Missing,
+    Unread,
 }
 
-// A byte string and the place after it.
+// A byte string and the offset after it.
 enum Opaque {
     Key { key: Part, next: usize },
-    Missing,
+    Unread,
 }
 
-// An optional number and the place after it.
+// An optional number and the offset after it.
 enum Optional {
     Value { lifetime: Lifetime, next: usize },
-    Missing,
+    Unread,
 }
 
-// Suite, mode and keys, and the place after them.
+// Suite, mode and keys, and the offset after them.
 enum Front {
     Fields {
         suite: u64,
@@ -75,10 +77,10 @@ enum Front {
         vrf: Part,
         next: usize,
     },
-    Missing,
+    Unread,
 }
 
-// The times, and the place after them.
+// The times, and the offset after them.
 enum Times {
     Fields {
         ahead: u64,
@@ -87,7 +89,7 @@ enum Times {
         lifetime: Lifetime,
         next: usize,
     },
-    Missing,
+    Unread,
 }
 
 // The configuration that bytes encode exactly, of the one suite and mode that are taken.
@@ -102,7 +104,7 @@ pub fn read_configuration(s: &[u8]) -> ReadConfiguration
         next,
     } = front_of(s)
     else {
-        return ReadConfiguration::Broken;
+        return ReadConfiguration::Unread;
     };
     let Times::Fields {
         ahead,
@@ -112,16 +114,16 @@ pub fn read_configuration(s: &[u8]) -> ReadConfiguration
         next: end,
     } = times_at(s, next)
     else {
-        return ReadConfiguration::Broken;
+        return ReadConfiguration::Unread;
     };
     if end < s.len() {
-        return ReadConfiguration::Broken;
+        return ReadConfiguration::Unread;
     }
     if suite != P256_SUITE {
-        return ReadConfiguration::Broken;
+        return ReadConfiguration::Unread;
     }
     if mode != CONTACT_MONITORING {
-        return ReadConfiguration::Broken;
+        return ReadConfiguration::Unread;
     }
     ReadConfiguration::Read(Configuration {
         suite: suite as u16,
@@ -144,24 +146,24 @@ fn front_of(s: &[u8]) -> Front
         next: mode_at,
     } = uint_at(s, 0, UINT16)
     else {
-        return Front::Missing;
+        return Front::Unread;
     };
     let Uint::Value {
         value: mode,
         next: signature_at,
     } = uint_at(s, mode_at, UINT8)
     else {
-        return Front::Missing;
+        return Front::Unread;
     };
     let Opaque::Key {
         key: signature,
         next: vrf_at,
     } = opaque_at(s, signature_at)
     else {
-        return Front::Missing;
+        return Front::Unread;
     };
     let Opaque::Key { key: vrf, next } = opaque_at(s, vrf_at) else {
-        return Front::Missing;
+        return Front::Unread;
     };
     Front::Fields {
         suite,
@@ -172,7 +174,8 @@ fn front_of(s: &[u8]) -> Front
     }
 }
 
-// The log's time ahead of the clock and behind it, the monitoring window and the maximum lifetime, from a place on.
+// The log's time ahead of the clock and behind it, the monitoring window and the maximum lifetime,
+// from an offset on.
 fn times_at(s: &[u8], at: usize) -> Times
     ensures { λ r. ⌜ timesIn (now (s .entry)) r ≡ readTimes (drop at (now (s .entry))) ⌝ }
 {
@@ -181,24 +184,24 @@ fn times_at(s: &[u8], at: usize) -> Times
         next: behind_at,
     } = uint_at(s, at, UINT64)
     else {
-        return Times::Missing;
+        return Times::Unread;
     };
     let Uint::Value {
         value: behind,
         next: window_at,
     } = uint_at(s, behind_at, UINT64)
     else {
-        return Times::Missing;
+        return Times::Unread;
     };
     let Uint::Value {
         value: window,
         next: lifetime_at,
     } = uint_at(s, window_at, UINT64)
     else {
-        return Times::Missing;
+        return Times::Unread;
     };
     let Optional::Value { lifetime, next } = optional_at(s, lifetime_at) else {
-        return Times::Missing;
+        return Times::Unread;
     };
     Times::Fields {
         ahead,
@@ -209,7 +212,7 @@ fn times_at(s: &[u8], at: usize) -> Times
     }
 }
 
-// The optional number at a place.
+// The optional number at an offset.
 fn optional_at(s: &[u8], at: usize) -> Optional
     ensures { λ r. ⌜ optionalIn (now (s .entry)) r ≡ readOptional (drop at (now (s .entry))) ⌝ }
 {
@@ -218,7 +221,7 @@ fn optional_at(s: &[u8], at: usize) -> Optional
         next: number_at,
     } = uint_at(s, at, UINT8)
     else {
-        return Optional::Missing;
+        return Optional::Unread;
     };
     if present == ABSENT {
         return Optional::Value {
@@ -227,10 +230,10 @@ fn optional_at(s: &[u8], at: usize) -> Optional
         };
     }
     if present != PRESENT {
-        return Optional::Missing;
+        return Optional::Unread;
     }
     let Uint::Value { value, next } = uint_at(s, number_at, UINT64) else {
-        return Optional::Missing;
+        return Optional::Unread;
     };
     Optional::Value {
         lifetime: Lifetime::Limited(value),
@@ -238,7 +241,7 @@ fn optional_at(s: &[u8], at: usize) -> Optional
     }
 }
 
-// The byte string at a place, after its length of two bytes.
+// The byte string at an offset, after its length of two bytes.
 fn opaque_at(s: &[u8], at: usize) -> Opaque
     ensures { λ r. ⌜ opaqueIn (now (s .entry)) r ≡ readOpaque uint16 (drop at (now (s .entry))) ⌝ }
 {
@@ -247,10 +250,10 @@ fn opaque_at(s: &[u8], at: usize) -> Opaque
         next: start,
     } = uint_at(s, at, UINT16)
     else {
-        return Opaque::Missing;
+        return Opaque::Unread;
     };
     if ((s.len() - start) as u64) < length {
-        return Opaque::Missing;
+        return Opaque::Unread;
     }
     let stop = start + length as usize;
     Opaque::Key {
@@ -259,24 +262,24 @@ fn opaque_at(s: &[u8], at: usize) -> Opaque
     }
 }
 
-// The number of a width at a place.
+// The number of a width at an offset.
 fn uint_at(s: &[u8], at: usize, width: usize) -> Uint
     requires { ⌜ (0 < width) × (width ≤ uint64) ⌝ }
     ensures { λ r. ⌜ uintIn (now (s .entry)) r ≡ readUint width (drop at (now (s .entry))) ⌝ }
     ensures within { λ r. ⌜ afterUint r ≤ length (now (s .entry)) ⌝ }
 {
     if s.len() < at {
-        return Uint::Missing;
+        return Uint::Unread;
     }
     if s.len() - at < width {
-        return Uint::Missing;
+        return Uint::Unread;
     }
     let next = at + width;
     let value = uint_of(&s[at..next]);
     Uint::Value { value, next }
 }
 
-// The number that bytes spell, the highest first.
+// The number that bytes encode, the highest first.
 fn uint_of(s: &[u8]) -> u64
     requires { ⌜ length (now s) ≤ uint64 ⌝ }
     ensures { λ r. ⌜ r ≡ uint (now (s .entry)) ⌝ }

@@ -1,11 +1,12 @@
-// A response, read once (paper 01, Response lines): where its fields and sections stand, and how many lines the sections have.
+// A response, read once (paper 01, Response lines): where its fields and sections stand, and how
+// many lines the sections have.
 ghost use mathlib.Core.Path.{_≡_};
 ghost use Prim.Native.Nat.{_≤_};
 ghost use lib.Dec.{ltb};
 ghost use lib.ListN.{length, drop};
 ghost use Rattle.rules.specs.ResponseText.{readResponse};
-ghost use Rattle.inputs.specs.ResponseHeader.{readFrom, partsAfter, HeaderSpells};
-ghost use Rattle.inputs.specs.Response.{partsOf, Places, looseIn};
+ghost use Rattle.inputs.specs.ResponseHeader.{readFrom, partsAfter, HeaderDecodes};
+ghost use Rattle.inputs.specs.Response.{partsOf, Offsets, looseIn};
 ghost use Rattle.inputs.specs.ResponseSections.{readRole, roleOf, roleFromOf, SectionOf};
 use crate::response_header::Header;
 use crate::response_header::ReadHeader;
@@ -27,12 +28,13 @@ pub struct Section {
     pub count: usize,
 }
 
-// The fields that spell identifier and label; n; the target of a search; the lines of steps, of entries with their lookups, and of nodes.
+// The fields that encode identifier and label; n; the target of a search; the lines of steps, of
+// entries with their lookups, and of nodes.
 pub struct Response {
     pub kind: Kind,
     pub identifier: Part,
     pub label: Part,
-    pub size: u64,
+    pub tree_size: u64,
     pub target: Target,
     pub steps: Section,
     pub entries: Section,
@@ -42,17 +44,17 @@ pub struct Response {
 // A response, or bytes that break the line rules or a field's length: refusal 5.
 pub enum ReadResponse {
     Read(Response),
-    Broken,
+    Unread,
 }
 
 // The response that a text is.
 pub fn read_response(text: &[u8]) -> ReadResponse
     ensures parts { λ r. ⌜ partsOf (now (text .entry)) r ≡ readResponse (now (text .entry)) ⌝ }
-    ensures places { λ r. ⌜ Places (now (text .entry)) r ⌝ }
+    ensures offsets { λ r. ⌜ Offsets (now (text .entry)) r ⌝ }
 {
     match read_header(text) {
-        ReadHeader::Headed(h) => read_body(text, h),
-        ReadHeader::Headless => ReadResponse::Broken,
+        ReadHeader::Read(h) => read_body(text, h),
+        ReadHeader::Unread => ReadResponse::Unread,
     }
 }
 
@@ -64,14 +66,15 @@ enum Sort {
     Ends,
 }
 
-// A line begins an element of a section, or continues one, as a lookup does an entry, or stands outside.
+// A line begins an element of a section, or continues one, as a lookup does an entry, or stands
+// outside.
 enum Role {
     Begins,
     Continues,
     Outside,
 }
 
-// What a line is in a section, and the place after it.
+// What a line is in a section, and the offset after it.
 struct RoleFrom {
     role: Role,
     next: usize,
@@ -80,22 +83,22 @@ struct RoleFrom {
 // The response that a header and the sections after it make, if nothing more stands in the text.
 fn read_body(text: &[u8], h: Header) -> ReadResponse
     requires within { ⌜ h .next ≤ length (now text) ⌝ }
-    requires spells { ⌜ HeaderSpells (now text) h ⌝ }
+    requires decodes { ⌜ HeaderDecodes (now text) h ⌝ }
     ensures parts { λ r. ⌜ partsOf (now (text .entry)) r ≡ partsAfter (now (text .entry)) h ⌝ }
-    ensures places { λ r. ⌜ Places (now (text .entry)) r ⌝ }
+    ensures offsets { λ r. ⌜ Offsets (now (text .entry)) r ⌝ }
 {
     let steps = section_from(text, Sort::Steps, h.next);
     let entries = section_from(text, Sort::Entries, steps.part.stop);
     let nodes = section_from(text, Sort::Nodes, entries.part.stop);
     let end = section_from(text, Sort::Ends, nodes.part.stop);
     if is_loose(text, steps.part.stop) {
-        return ReadResponse::Broken;
+        return ReadResponse::Unread;
     }
     if end.count != 1 {
-        return ReadResponse::Broken;
+        return ReadResponse::Unread;
     }
     if end.part.stop < text.len() {
-        return ReadResponse::Broken;
+        return ReadResponse::Unread;
     }
     let kind = h.kind;
     let identifier = h.identifier;
@@ -105,7 +108,7 @@ fn read_body(text: &[u8], h: Header) -> ReadResponse
         kind,
         identifier,
         label,
-        size: h.size,
+        tree_size: h.tree_size,
         target,
         steps,
         entries,
@@ -113,7 +116,7 @@ fn read_body(text: &[u8], h: Header) -> ReadResponse
     })
 }
 
-// Whether lookups that follow no entry stand at a place.
+// Whether lookups that follow no entry stand at an offset.
 fn is_loose(text: &[u8], at: usize) -> bool
     ensures { λ r. ⌜ r ≡ ltb 0 (length (looseIn (drop at (now (text .entry))))) ⌝ }
 {
@@ -125,7 +128,7 @@ fn is_loose(text: &[u8], at: usize) -> bool
     }
 }
 
-// The section that begins at a place, with all lines that belong to it.
+// The section that begins at an offset, with all lines that belong to it.
 fn section_from(text: &[u8], sort: Sort, from: usize) -> Section
     requires { ⌜ from ≤ length (now text) ⌝ }
     ensures { λ r. ⌜ SectionOf sort (now (text .entry)) from r ⌝ }
@@ -156,7 +159,7 @@ fn section_from(text: &[u8], sort: Sort, from: usize) -> Section
     }
 }
 
-// What the line at a place is in a section. Where no line is ended, nothing belongs to it.
+// What the line at an offset is in a section. Where no line is ended, nothing belongs to it.
 fn role_from(text: &[u8], sort: Sort, at: usize) -> RoleFrom
     ensures { λ r. ⌜ roleFromOf r ≡ readFrom (readRole sort) (now (text .entry)) at ⌝ }
 {
@@ -166,7 +169,7 @@ fn role_from(text: &[u8], sort: Sort, at: usize) -> RoleFrom
             role: role_in(sort, &text[at..stop]),
             next: next.at,
         },
-        NextLine::Open => RoleFrom {
+        NextLine::Unread => RoleFrom {
             role: Role::Outside,
             next: at,
         },

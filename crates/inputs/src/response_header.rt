@@ -1,10 +1,13 @@
-// The lines of a response before its sections (paper 01, Response lines): kind, identifier, label, n, and the target of a search.
+// The lines of a response before its sections (paper 01, Response lines): kind, identifier, label,
+// n, and the target of a search.
 ghost use mathlib.Core.Path.{_≡_};
 ghost use Rattle.lines.specs.Line.{readLine};
 ghost use Rattle.rules.specs.Response.{search};
 ghost use Rattle.rules.specs.ResponseText.{headForm, readResponse};
 ghost use Rattle.inputs.specs.ResponseLines.{kindOf};
-ghost use Rattle.inputs.specs.ResponseHeader.{readKt, readFrom, readFinding, openedOf, sizeOf, findingOf, headedOf, OpenedSpells, FoundSpells, HeaderStands};
+ghost use Rattle.inputs.specs.ResponseHeader.{readKt, readFrom, readFinding, openedOf, sizeOf};
+ghost use Rattle.inputs.specs.ResponseHeader.{findingOf, headedOf, OpenedDecodes, FoundDecodes};
+ghost use Rattle.inputs.specs.ResponseHeader.{HeaderStands};
 use crate::response_lines::HeadLine;
 use crate::response_lines::Kind;
 use crate::response_lines::KtLine;
@@ -17,43 +20,43 @@ use lines::cursor::Cursor;
 use lines::cursor::NextLine;
 use lines::part::Part;
 
-// What stands before the sections, and the place where these begin.
+// What stands before the sections, and the offset where these begin.
 pub(crate) struct Header {
     pub(crate) kind: Kind,
     pub(crate) identifier: Part,
     pub(crate) label: Part,
-    pub(crate) size: u64,
+    pub(crate) tree_size: u64,
     pub(crate) target: Target,
     pub(crate) next: usize,
 }
 
 // A header, or lines that begin no response.
 pub(crate) enum ReadHeader {
-    Headed(Header),
-    Headless,
+    Read(Header),
+    Unread,
 }
 
-// A first line, and the place after it.
+// A first line, and the offset after it.
 enum KtFrom {
-    Opened {
+    Read {
         kind: Kind,
         identifier: Part,
         label: Part,
         next: usize,
     },
-    Unopened,
+    Unread,
 }
 
-// A `head` line, with n, and the place after it.
-enum SizeFrom {
-    Sized { size: u64, next: usize },
-    Unsized,
+// A `head` line, with n, and the offset after it.
+enum HeadFrom {
+    Read { tree_size: u64, next: usize },
+    Unread,
 }
 
-// What a response of a kind found, and the place after it.
+// What a response of a kind found, and the offset after it.
 enum FindingFrom {
-    Found { target: Target, next: usize },
-    Unfound,
+    Read { target: Target, next: usize },
+    Unread,
 }
 
 // The lines before the sections, each where the one before it ends.
@@ -62,21 +65,21 @@ pub(crate) fn read_header(text: &[u8]) -> ReadHeader
     ensures stands { λ r. ⌜ HeaderStands (now (text .entry)) r ⌝ }
 {
     match kt_from(text) {
-        KtFrom::Unopened => ReadHeader::Headless,
-        KtFrom::Opened {
+        KtFrom::Unread => ReadHeader::Unread,
+        KtFrom::Read {
             kind,
             identifier,
             label,
             next,
-        } => match size_from(text, next) {
-            SizeFrom::Unsized => ReadHeader::Headless,
-            SizeFrom::Sized { size, next } => match finding_from(text, kind, next) {
-                FindingFrom::Unfound => ReadHeader::Headless,
-                FindingFrom::Found { target, next } => ReadHeader::Headed(Header {
+        } => match head_from(text, next) {
+            HeadFrom::Unread => ReadHeader::Unread,
+            HeadFrom::Read { tree_size, next } => match finding_from(text, kind, next) {
+                FindingFrom::Unread => ReadHeader::Unread,
+                FindingFrom::Read { target, next } => ReadHeader::Read(Header {
                     kind,
                     identifier,
                     label,
-                    size,
+                    tree_size,
                     target,
                     next,
                 }),
@@ -88,70 +91,73 @@ pub(crate) fn read_header(text: &[u8]) -> ReadHeader
 // The first line, with kind, identifier and label.
 fn kt_from(text: &[u8]) -> KtFrom
     ensures read { λ r. ⌜ openedOf (now (text .entry)) r ≡ readFrom readKt (now (text .entry)) 0 ⌝ }
-    ensures spells { λ r. ⌜ OpenedSpells (now (text .entry)) r ⌝ }
+    ensures decodes { λ r. ⌜ OpenedDecodes (now (text .entry)) r ⌝ }
 {
     let start = Cursor { at: 0 };
     match start.line(text) {
         NextLine::Ended { stop, next } => match kt_line(&text[0..stop]) {
-            KtLine::Kt {
+            KtLine::Read {
                 kind,
                 identifier,
                 label,
-            } => KtFrom::Opened {
+            } => KtFrom::Read {
                 kind,
                 identifier,
                 label,
                 next: next.at,
             },
-            KtLine::NoKt => KtFrom::Unopened,
+            KtLine::Unread => KtFrom::Unread,
         },
-        NextLine::Open => KtFrom::Unopened,
+        NextLine::Unread => KtFrom::Unread,
     }
 }
 
-// The `head` line at a place.
-fn size_from(text: &[u8], at: usize) -> SizeFrom
+// The `head` line at an offset.
+fn head_from(text: &[u8], at: usize) -> HeadFrom
     ensures { λ r. ⌜ sizeOf r ≡ readFrom (readLine headForm) (now (text .entry)) at ⌝ }
 {
     let start = Cursor { at };
     match start.line(text) {
         NextLine::Ended { stop, next } => match head_line(&text[at..stop]) {
-            HeadLine::Head(size) => SizeFrom::Sized {
-                size,
+            HeadLine::Read(tree_size) => HeadFrom::Read {
+                tree_size,
                 next: next.at,
             },
-            HeadLine::NoHead => SizeFrom::Unsized,
+            HeadLine::Unread => HeadFrom::Unread,
         },
-        NextLine::Open => SizeFrom::Unsized,
+        NextLine::Unread => HeadFrom::Unread,
     }
 }
 
-// What stands at a place after the `head` line: for a search its `target` line, for monitoring no line.
+// What stands at an offset after the `head` line: for a search its `target` line, for monitoring no
+// line.
 fn finding_from(text: &[u8], kind: Kind, at: usize) -> FindingFrom
-    ensures read { λ r. ⌜ findingOf (now (text .entry)) kind r ≡ readFinding (kindOf kind) (now (text .entry)) at ⌝ }
-    ensures spells { λ r. ⌜ FoundSpells (now (text .entry)) kind r ⌝ }
+    ensures read { λ r. ⌜ findingOf (now (text .entry)) kind r
+        ≡ readFinding (kindOf kind) (now (text .entry)) at ⌝ }
+    ensures decodes { λ r. ⌜ FoundDecodes (now (text .entry)) kind r ⌝ }
 {
     match kind {
         Kind::Search => target_from(text, at),
-        Kind::Monitor => FindingFrom::Found {
+        Kind::Monitor => FindingFrom::Read {
             target: no_target(),
             next: at,
         },
     }
 }
 
-// The `target` line at a place, its fields as parts of the text.
+// The `target` line at an offset, its fields as parts of the text.
 fn target_from(text: &[u8], at: usize) -> FindingFrom
-    ensures read { λ r. ⌜ findingOf (now (text .entry)) Kind.Search r ≡ readFinding search (now (text .entry)) at ⌝ }
-    ensures spells { λ r. ⌜ FoundSpells (now (text .entry)) Kind.Search r ⌝ }
+    ensures read { λ r. ⌜ findingOf (now (text .entry)) Kind.Search r
+        ≡ readFinding search (now (text .entry)) at ⌝ }
+    ensures decodes { λ r. ⌜ FoundDecodes (now (text .entry)) Kind.Search r ⌝ }
 {
     let start = Cursor { at };
     match start.line(text) {
         NextLine::Ended { stop, next } => match target_line(&text[at..stop]) {
-            TargetLine::Sought(t) => {
+            TargetLine::Read(t) => {
                 let opening = t.opening;
                 let value = t.value;
-                FindingFrom::Found {
+                FindingFrom::Read {
                     target: Target {
                         version: t.version,
                         opening: Part {
@@ -166,9 +172,9 @@ fn target_from(text: &[u8], at: usize) -> FindingFrom
                     next: next.at,
                 }
             }
-            TargetLine::NoTarget => FindingFrom::Unfound,
+            TargetLine::Unread => FindingFrom::Unread,
         },
-        NextLine::Open => FindingFrom::Unfound,
+        NextLine::Unread => FindingFrom::Unread,
     }
 }
 

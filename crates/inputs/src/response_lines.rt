@@ -1,23 +1,28 @@
-// The lines of a response, one at a time (paper 01, Response lines). Places are counted from the line's start.
+// The lines of a response, one at a time (paper 01, Response lines). Offsets are counted from the
+// line's start.
 ghost use mathlib.Core.Bool.{Bool};
 ghost use mathlib.Core.List.{[], _∷_};
 ghost use mathlib.Core.Path.{_≡_};
 ghost use Prim.Native.Nat.{ℕ};
-ghost use Rattle.lists.specs.Choice.{given, orElse};
+ghost use Rattle.lists.specs.Choice.{isSome, orElse};
 ghost use Rattle.lines.specs.Field.{bytes, exactly, upTo, readField, readFields};
 ghost use Rattle.lines.specs.Line.{readLine};
 ghost use Rattle.lines.specs.Cursor.{fieldsFrom, readAt};
 ghost use Rattle.lines.specs.Readings.{nextNumberOf};
 ghost use Rattle.rules.specs.Response.{search, monitor};
 ghost use Rattle.rules.specs.ResponseText.{siblingsField, kindWord, headForm, targetForm, nlForm, endForm};
-ghost use Rattle.rules.specs.ResponseText.{readKindLine, readStep, readEntryLine, readIn, readNo, readNl, readNode};
-ghost use Rattle.inputs.specs.ResponseLines.{numberAfter, lookupForm, kindOf, ktOf, headOf, targetOf, nextPartOf, lastBytesOf, lastPartsOf};
-ghost use Rattle.inputs.specs.ResponseLines.{KtStands, TargetStands, NextPartStands, LastBytesStand, LastPartsStand};
+ghost use Rattle.rules.specs.ResponseText.{readKindLine, readStep, readEntryLine, readIn, readNo, readNl};
+ghost use Rattle.rules.specs.ResponseText.{readNode};
+ghost use Rattle.inputs.specs.ResponseLines.{numberAfter, lookupForm, kindOf, ktOf, headOf, targetOf};
+ghost use Rattle.inputs.specs.ResponseLines.{nextPartOf, lastBytesOf, lastPartsOf};
+ghost use Rattle.inputs.specs.ResponseLines.{KtStands, TargetStands, NextPartStands, LastBytesStand};
+ghost use Rattle.inputs.specs.ResponseLines.{LastPartsStand};
 use crate::state::State;
 use lines::cursor::Cursor;
 use lines::cursor::NextBytes;
 use lines::cursor::NextNumber;
 use lines::cursor::NextWord;
+use lines::layout::Word;
 use lines::part::Part;
 
 pub enum Kind {
@@ -25,33 +30,33 @@ pub enum Kind {
     Monitor,
 }
 
-// The version, and the fields that spell opening and value.
+// The version, and the fields that encode opening and value.
 pub struct Target {
     pub version: u32,
     pub opening: Part,
     pub value: Part,
 }
 
-// A first line: the kind, and the fields that spell identifier and label.
+// A first line: the kind, and the fields that encode identifier and label.
 pub enum KtLine {
-    Kt {
+    Read {
         kind: Kind,
         identifier: Part,
         label: Part,
     },
-    NoKt,
+    Unread,
 }
 
 // A `head` line, with n.
 pub enum HeadLine {
-    Head(u64),
-    NoHead,
+    Read(u64),
+    Unread,
 }
 
 // A `target` line.
 pub enum TargetLine {
-    Sought(Target),
-    NoTarget,
+    Read(Target),
+    Unread,
 }
 
 impl Target {
@@ -75,40 +80,43 @@ const VRF_OUTPUT: usize = 32;
 // The most siblings of a lookup.
 const SIBLINGS: usize = 255;
 
-// A field that spells a byte string of a certain length, by the part that it fills, or another.
+// A field that encodes a byte string of a certain length, by the part that it fills, or another.
 enum NextPart {
-    Fitting { part: Part, next: Cursor },
-    Unfitting,
+    Read { part: Part, next: Cursor },
+    Unread,
 }
 
-// A last field that spells a byte string, by that string's length and the part that the field fills, or another.
+// A last field that encodes a byte string, by that string's length and the part that the field
+// fills, or another.
 enum LastBytes {
-    Last { length: usize, part: Part },
-    NotLast,
+    Read { length: usize, part: Part },
+    Unread,
 }
 
-// The two last fields that spell byte strings of certain lengths, by the parts that they fill, or others.
+// The two last fields that encode byte strings of certain lengths, by the parts that they fill, or
+// others.
 enum LastParts {
-    Both { first: Part, second: Part },
-    NotBoth,
+    Read { first: Part, second: Part },
+    Unread,
 }
 
 // A first line, of a search or of monitoring.
 pub(crate) fn kt_line(l: &[u8]) -> KtLine
-    ensures read { λ r. ⌜ ktOf (now (l .entry)) r ≡ orElse (readKindLine search (now (l .entry))) (readKindLine monitor (now (l .entry))) ⌝ }
+    ensures read { λ r. ⌜ ktOf (now (l .entry)) r
+        ≡ orElse (readKindLine search (now (l .entry))) (readKindLine monitor (now (l .entry))) ⌝ }
     ensures stands { λ r. ⌜ KtStands (now (l .entry)) r ⌝ }
 {
-    match kind_line(l, Kind::Search, b"search") {
-        KtLine::Kt {
+    match kind_line(l, Kind::Search, &Word::SEARCH) {
+        KtLine::Read {
             kind,
             identifier,
             label,
-        } => KtLine::Kt {
+        } => KtLine::Read {
             kind,
             identifier,
             label,
         },
-        KtLine::NoKt => kind_line(l, Kind::Monitor, b"monitor"),
+        KtLine::Unread => kind_line(l, Kind::Monitor, &Word::MONITOR),
     }
 }
 
@@ -116,13 +124,13 @@ pub(crate) fn kt_line(l: &[u8]) -> KtLine
 pub(crate) fn head_line(l: &[u8]) -> HeadLine
     ensures { λ r. ⌜ headOf r ≡ readLine headForm (now (l .entry)) ⌝ }
 {
-    let NextNumber::Read { value, next } = number_after(l, b"head", u64::MAX) else {
-        return HeadLine::NoHead;
+    let NextNumber::Read { value, next } = number_after(l, &Word::HEAD, u64::MAX) else {
+        return HeadLine::Unread;
     };
     if l.len() < next.at {
-        return HeadLine::Head(value);
+        return HeadLine::Read(value);
     }
-    HeadLine::NoHead
+    HeadLine::Unread
 }
 
 // A `target` line.
@@ -130,27 +138,27 @@ pub(crate) fn target_line(l: &[u8]) -> TargetLine
     ensures read { λ r. ⌜ targetOf (now (l .entry)) r ≡ readLine targetForm (now (l .entry)) ⌝ }
     ensures stands { λ r. ⌜ TargetStands (now (l .entry)) r ⌝ }
 {
-    let NextNumber::Read { value, next } = number_after(l, b"target", u32::MAX as u64) else {
-        return TargetLine::NoTarget;
+    let NextNumber::Read { value, next } = number_after(l, &Word::TARGET, u32::MAX as u64) else {
+        return TargetLine::Unread;
     };
     match last_parts(l, next, Target::OPENING, Target::VALUE) {
-        LastParts::Both { first, second } => TargetLine::Sought(Target {
+        LastParts::Read { first, second } => TargetLine::Read(Target {
             version: value as u32,
             opening: first,
             value: second,
         }),
-        LastParts::NotBoth => TargetLine::NoTarget,
+        LastParts::Unread => TargetLine::Unread,
     }
 }
 
 // Whether a line is a `step` line.
 pub(crate) fn is_step(l: &[u8]) -> bool
-    ensures { λ r. ⌜ r ≡ given (readStep (now (l .entry))) ⌝ }
+    ensures { λ r. ⌜ r ≡ isSome (readStep (now (l .entry))) ⌝ }
 {
-    let NextNumber::Read { value: _, next } = number_after(l, b"step", u32::MAX as u64) else {
+    let NextNumber::Read { value: _, next } = number_after(l, &Word::STEP, u32::MAX as u64) else {
         return false;
     };
-    let LastBytes::Last { length, part: _ } = last_bytes(l, next) else {
+    let LastBytes::Read { length, part: _ } = last_bytes(l, next) else {
         return false;
     };
     if length == 0 {
@@ -161,15 +169,15 @@ pub(crate) fn is_step(l: &[u8]) -> bool
 
 // Whether it is an `entry` line.
 pub(crate) fn is_entry(l: &[u8]) -> bool
-    ensures { λ r. ⌜ r ≡ given (readEntryLine (now (l .entry))) ⌝ }
+    ensures { λ r. ⌜ r ≡ isSome (readEntryLine (now (l .entry))) ⌝ }
 {
-    let NextNumber::Read { value: _, next } = number_after(l, b"entry", u64::MAX) else {
+    let NextNumber::Read { value: _, next } = number_after(l, &Word::ENTRY, u64::MAX) else {
         return false;
     };
     let NextNumber::Read { value: _, next } = next.number(l, u64::MAX) else {
         return false;
     };
-    let LastBytes::Last { length, part: _ } = last_bytes(l, next) else {
+    let LastBytes::Read { length, part: _ } = last_bytes(l, next) else {
         return false;
     };
     length == HASH
@@ -177,12 +185,13 @@ pub(crate) fn is_entry(l: &[u8]) -> bool
 
 // Whether it is an `in`, `no` or `nl` line.
 pub(crate) fn is_lookup(l: &[u8]) -> bool
-    ensures { λ r. ⌜ r ≡ given (orElse (readIn (now (l .entry))) (orElse (readNo (now (l .entry))) (readNl (now (l .entry))))) ⌝ }
+    ensures { λ r. ⌜ r ≡ isSome
+        (orElse (readIn (now (l .entry))) (orElse (readNo (now (l .entry))) (readNl (now (l .entry))))) ⌝ }
 {
-    if is_plain_lookup(l, b"in") {
+    if is_plain_lookup(l, &Word::IN) {
         return true;
     }
-    if is_plain_lookup(l, b"no") {
+    if is_plain_lookup(l, &Word::NO) {
         return true;
     }
     is_leaf_lookup(l)
@@ -190,12 +199,12 @@ pub(crate) fn is_lookup(l: &[u8]) -> bool
 
 // Whether it is a `node` line.
 pub(crate) fn is_node(l: &[u8]) -> bool
-    ensures { λ r. ⌜ r ≡ given (readNode (now (l .entry))) ⌝ }
+    ensures { λ r. ⌜ r ≡ isSome (readNode (now (l .entry))) ⌝ }
 {
-    let NextWord::Same(next) = Cursor { at: 0 }.word(l, b"node") else {
+    let NextWord::Same(next) = Cursor { at: 0 }.word(l, &Word::NODE) else {
         return false;
     };
-    let LastBytes::Last { length, part: _ } = last_bytes(l, next) else {
+    let LastBytes::Read { length, part: _ } = last_bytes(l, next) else {
         return false;
     };
     length == HASH
@@ -203,9 +212,9 @@ pub(crate) fn is_node(l: &[u8]) -> bool
 
 // Whether it is the `end` line.
 pub(crate) fn is_end(l: &[u8]) -> bool
-    ensures { λ r. ⌜ r ≡ given (readLine endForm (now (l .entry))) ⌝ }
+    ensures { λ r. ⌜ r ≡ isSome (readLine endForm (now (l .entry))) ⌝ }
 {
-    let NextWord::Same(next) = Cursor { at: 0 }.word(l, b"end") else {
+    let NextWord::Same(next) = Cursor { at: 0 }.word(l, &Word::END) else {
         return false;
     };
     l.len() < next.at
@@ -217,25 +226,25 @@ fn kind_line(l: &[u8], kind: Kind, word: &[u8]) -> KtLine
     ensures read { λ r. ⌜ ktOf (now (l .entry)) r ≡ readKindLine (kindOf kind) (now (l .entry)) ⌝ }
     ensures stands { λ r. ⌜ KtStands (now (l .entry)) r ⌝ }
 {
-    let NextWord::Same(at_kind) = Cursor { at: 0 }.word(l, b"kt") else {
-        return KtLine::NoKt;
+    let NextWord::Same(at_kind) = Cursor { at: 0 }.word(l, &Word::KT) else {
+        return KtLine::Unread;
     };
     let NextWord::Same(next) = at_kind.word(l, word) else {
-        return KtLine::NoKt;
+        return KtLine::Unread;
     };
     match last_parts(l, next, KtLine::IDENTIFIER, State::LABEL) {
-        LastParts::Both { first, second } => KtLine::Kt {
+        LastParts::Read { first, second } => KtLine::Read {
             kind,
             identifier: first,
             label: second,
         },
-        LastParts::NotBoth => KtLine::NoKt,
+        LastParts::Unread => KtLine::Unread,
     }
 }
 
 // Whether a line is a word, a version and siblings: `in` and `no` lines are.
 fn is_plain_lookup(l: &[u8], word: &[u8]) -> bool
-    ensures { λ r. ⌜ r ≡ given (readLine (lookupForm (now (word .entry))) (now (l .entry))) ⌝ }
+    ensures { λ r. ⌜ r ≡ isSome (readLine (lookupForm (now (word .entry))) (now (l .entry))) ⌝ }
 {
     let NextNumber::Read { value: _, next } = number_after(l, word, u32::MAX as u64) else {
         return false;
@@ -245,15 +254,15 @@ fn is_plain_lookup(l: &[u8], word: &[u8]) -> bool
 
 // Whether it is an `nl` line: a word, a version, a VRF output, a commitment and siblings.
 fn is_leaf_lookup(l: &[u8]) -> bool
-    ensures { λ r. ⌜ r ≡ given (readLine nlForm (now (l .entry))) ⌝ }
+    ensures { λ r. ⌜ r ≡ isSome (readLine nlForm (now (l .entry))) ⌝ }
 {
-    let NextNumber::Read { value: _, next } = number_after(l, b"nl", u32::MAX as u64) else {
+    let NextNumber::Read { value: _, next } = number_after(l, &Word::NL, u32::MAX as u64) else {
         return false;
     };
-    let NextPart::Fitting { part: _, next } = next_part(l, next, VRF_OUTPUT) else {
+    let NextPart::Read { part: _, next } = next_part(l, next, VRF_OUTPUT) else {
         return false;
     };
-    let NextPart::Fitting { part: _, next } = next_part(l, next, HASH) else {
+    let NextPart::Read { part: _, next } = next_part(l, next, HASH) else {
         return false;
     };
     ends_with_siblings(l, next)
@@ -261,9 +270,9 @@ fn is_leaf_lookup(l: &[u8]) -> bool
 
 // Whether siblings are the last field, from a cursor on.
 fn ends_with_siblings(l: &[u8], c: Cursor) -> bool
-    ensures { λ r. ⌜ r ≡ given (readFields (siblingsField ∷ []) (fieldsFrom (now (l .entry)) (c .at))) ⌝ }
+    ensures { λ r. ⌜ r ≡ isSome (readFields (siblingsField ∷ []) (fieldsFrom (now (l .entry)) (c .at))) ⌝ }
 {
-    let LastBytes::Last { length, part: _ } = last_bytes(l, c) else {
+    let LastBytes::Read { length, part: _ } = last_bytes(l, c) else {
         return false;
     };
     if length % HASH != 0 {
@@ -284,17 +293,18 @@ fn number_after(l: &[u8], word: &[u8], bound: u64) -> NextNumber
 
 // The field at a cursor as a byte string of a certain length.
 fn next_part(l: &[u8], c: Cursor, wanted: usize) -> NextPart
-    ensures read { λ r. ⌜ nextPartOf (now (l .entry)) r ≡ readAt (readField (exactly wanted)) (now (l .entry)) (c .at) ⌝ }
+    ensures read { λ r. ⌜ nextPartOf (now (l .entry)) r
+        ≡ readAt (readField (exactly wanted)) (now (l .entry)) (c .at) ⌝ }
     ensures stands { λ r. ⌜ NextPartStands (now (l .entry)) r ⌝ }
 {
     let at = c.at;
-    let NextBytes::Spelled { length, next } = c.bytes(l) else {
-        return NextPart::Unfitting;
+    let NextBytes::Read { length, next } = c.bytes(l) else {
+        return NextPart::Unread;
     };
     if length != wanted {
-        return NextPart::Unfitting;
+        return NextPart::Unread;
     }
-    NextPart::Fitting {
+    NextPart::Read {
         part: Part {
             start: at,
             stop: next.at - 1,
@@ -303,19 +313,22 @@ fn next_part(l: &[u8], c: Cursor, wanted: usize) -> NextPart
     }
 }
 
-// The field at a cursor as a byte string with which the line ends; whoever asks says which lengths fit.
+// The field at a cursor as a byte string with which the line ends; whoever asks says which lengths
+// fit.
 fn last_bytes(l: &[u8], c: Cursor) -> LastBytes
-    ensures read { λ r. ⌜ ((fits : ℕ → Bool) → lastBytesOf (now (l .entry)) fits r ≡ readFields (bytes fits ∷ []) (fieldsFrom (now (l .entry)) (c .at))) ⌝ }
+    ensures read { λ r. ⌜ ((fits : ℕ → Bool)
+        → lastBytesOf (now (l .entry)) fits r
+        ≡ readFields (bytes fits ∷ []) (fieldsFrom (now (l .entry)) (c .at))) ⌝ }
     ensures stands { λ r. ⌜ LastBytesStand (now (l .entry)) r ⌝ }
 {
     let at = c.at;
-    let NextBytes::Spelled { length, next } = c.bytes(l) else {
-        return LastBytes::NotLast;
+    let NextBytes::Read { length, next } = c.bytes(l) else {
+        return LastBytes::Unread;
     };
     if next.at <= l.len() {
-        return LastBytes::NotLast;
+        return LastBytes::Unread;
     }
-    LastBytes::Last {
+    LastBytes::Read {
         length,
         part: Part {
             start: at,
@@ -324,21 +337,23 @@ fn last_bytes(l: &[u8], c: Cursor) -> LastBytes
     }
 }
 
-// The fields from a cursor on as two byte strings with which the line ends: the first of a certain length, the second not too long.
+// The fields from a cursor on as two byte strings with which the line ends: the first of a certain
+// length, the second not too long.
 fn last_parts(l: &[u8], c: Cursor, wanted: usize, longest: usize) -> LastParts
-    ensures read { λ r. ⌜ lastPartsOf (now (l .entry)) r ≡ readFields (exactly wanted ∷ upTo longest ∷ []) (fieldsFrom (now (l .entry)) (c .at)) ⌝ }
+    ensures read { λ r. ⌜ lastPartsOf (now (l .entry)) r
+        ≡ readFields (exactly wanted ∷ upTo longest ∷ []) (fieldsFrom (now (l .entry)) (c .at)) ⌝ }
     ensures stands { λ r. ⌜ LastPartsStand (now (l .entry)) r ⌝ }
 {
-    let NextPart::Fitting { part: first, next } = next_part(l, c, wanted) else {
-        return LastParts::NotBoth;
+    let NextPart::Read { part: first, next } = next_part(l, c, wanted) else {
+        return LastParts::Unread;
     };
-    let LastBytes::Last { length, part } = last_bytes(l, next) else {
-        return LastParts::NotBoth;
+    let LastBytes::Read { length, part } = last_bytes(l, next) else {
+        return LastParts::Unread;
     };
     if longest < length {
-        return LastParts::NotBoth;
+        return LastParts::Unread;
     }
-    LastParts::Both {
+    LastParts::Read {
         first,
         second: part,
     }

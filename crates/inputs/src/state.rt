@@ -4,24 +4,42 @@ ghost use mathlib.Core.Bool.{_&&_, _||_};
 ghost use Prim.Native.Nat.{_≤_};
 ghost use lib.Dec.{eqb, ltb};
 ghost use lib.ListN.{length, take};
-ghost use Rattle.lists.specs.Choice.{given};
+ghost use Rattle.lists.specs.Choice.{isSome};
 ghost use Rattle.rules.specs.Limits.{labelLimit, mapLimit};
 ghost use Rattle.rules.specs.State.{emptyState, newState};
 ghost use Rattle.rules.specs.Refusals.{validState};
-ghost use Rattle.inputs.specs.State.{blockOf, numberedBlock, stateOf, zerosFrom, labelFits, logFits, pairsFit, mapFits};
+ghost use Rattle.inputs.specs.State.{labelBlock, blockOf, numberedBlock, stateOf, zerosFrom};
+ghost use Rattle.inputs.specs.State.{labelFits, logFits, pairsFit, mapFits};
+use crate::refusal::Refusal;
 use tree::log_head::LogHead;
 
-// The label and its length; the size m; the time of entry m - 1; the values of the full subtrees, left to right; the pairs of the monitoring map,
-// by their positions and their versions. Unused room is zero.
-pub struct State {
-    pub label: [u8; State::LABEL],
+// A label: its bytes, with zeros after them, and its length.
+pub struct Label {
+    pub bytes: [u8; State::LABEL],
     pub length: usize,
+}
+
+// What is kept of the log: its size m, the time of entry m - 1, and the values of its full
+// subtrees, left to right, with zeros after them.
+pub struct KeptLog {
     pub size: u64,
-    pub time: u64,
+    pub timestamp: u64,
     pub values: [u8; LogHead::BLOCK],
+}
+
+// The pairs of the monitoring map: their positions and their versions, with zeros after them, and
+// their number.
+pub struct MonitoringMap {
     pub positions: [u64; State::PAIRS],
     pub versions: [u32; State::PAIRS],
-    pub pairs: usize,
+    pub count: usize,
+}
+
+// The label, the log and the monitoring map.
+pub struct State {
+    pub label: Label,
+    pub log: KeptLog,
+    pub map: MonitoringMap,
 }
 
 // A state, and 0 or the number of a refusal.
@@ -43,13 +61,14 @@ impl State {
     // The longest text.
     pub const TEXT: usize = 8192;
 
-    // The state to begin with, for a label; a label that is too long is refused with 1, and gives that of the empty one.
+    // The state to begin with, for a label; a label that is too long is refused with 1, and gives
+    // that of the empty one.
     pub fn new(label: &[u8]) -> NumberedState
         ensures { λ r. ⌜ r ≡ numberedBlock (newState (now (label .entry))) ⌝ }
     {
         if State::LABEL < label.len() {
             return NumberedState {
-                number: 1,
+                number: Refusal::LENGTH,
                 state: State::empty(&label[0..0]),
             };
         }
@@ -64,51 +83,73 @@ impl State {
         requires { ⌜ length (now label) ≤ labelLimit ⌝ }
         ensures { λ r. ⌜ r ≡ blockOf (emptyState (now (label .entry))) ⌝ }
     {
-        let mut room = [0u8; State::LABEL];
-        let mut i: usize = 0;
-        while i < label.len() {
-            room[i] = label[i];
-            i += 1;
-        }
         State {
-            label: room,
-            length: label.len(),
-            size: 0,
-            time: 0,
-            values: [0; LogHead::BLOCK],
-            positions: [0; State::PAIRS],
-            versions: [0; State::PAIRS],
-            pairs: 0,
+            label: Label::of(label),
+            log: KeptLog {
+                size: 0,
+                timestamp: 0,
+                values: [0; LogHead::BLOCK],
+            },
+            map: MonitoringMap {
+                positions: [0; State::PAIRS],
+                versions: [0; State::PAIRS],
+                count: 0,
+            },
         }
     }
 
     // Whether it is a valid state.
     pub fn is_valid(self) -> bool
-        ensures { λ r. ⌜ r ≡ given (validState (stateOf self)) ⌝ }
-    {
-        if !self.label_fits() {
-            return false;
-        }
-        if !self.log_fits() {
-            return false;
-        }
-        self.map_fits()
-    }
-
-    // Whether the label is not too long, and zeros follow it.
-    fn label_fits(self) -> bool
-        ensures { λ r. ⌜ r ≡ labelFits self ⌝ }
+        ensures { λ r. ⌜ r ≡ isSome (validState (stateOf self)) ⌝ }
     {
         let label = self.label;
+        let log = self.log;
+        let map = self.map;
+        if !label.fits() {
+            return false;
+        }
+        if !log.fits() {
+            return false;
+        }
+        map.fits(log.size)
+    }
+}
+
+impl Label {
+    // The label of these bytes.
+    fn of(s: &[u8]) -> Label
+        requires { ⌜ length (now s) ≤ labelLimit ⌝ }
+        ensures { λ r. ⌜ r ≡ labelBlock (now (s .entry)) ⌝ }
+    {
+        let mut bytes = [0u8; State::LABEL];
+        let mut i: usize = 0;
+        while i < s.len() {
+            bytes[i] = s[i];
+            i += 1;
+        }
+        Label {
+            bytes,
+            length: s.len(),
+        }
+    }
+
+    // Whether it is not too long, and zeros follow it.
+    fn fits(self) -> bool
+        ensures { λ r. ⌜ r ≡ labelFits self ⌝ }
+    {
+        let bytes = self.bytes;
         let length = self.length;
         if State::LABEL < length {
             return false;
         }
-        zeros_from(&label, length)
+        zeros_from(&bytes, length)
     }
+}
 
-    // Whether the size is not too large, the time is zero where the size is, and zeros follow the values.
-    fn log_fits(self) -> bool
+impl KeptLog {
+    // Whether the size is not too large, the time is zero where the size is, and zeros follow the
+    // values.
+    fn fits(self) -> bool
         ensures { λ r. ⌜ r ≡ logFits self ⌝ }
     {
         let values = self.values;
@@ -116,40 +157,42 @@ impl State {
         if LogHead::LARGEST_SIZE < size {
             return false;
         }
-        if !time_fits(size, self.time) {
+        if !timestamp_fits(size, self.timestamp) {
             return false;
         }
         zeros_from(&values, 32 * u64::count_ones(size) as usize)
     }
+}
 
-    // Whether there are not too many pairs, zeros follow them, and they are valid under the size.
-    fn map_fits(self) -> bool
-        ensures { λ r. ⌜ r ≡ mapFits self ⌝ }
+impl MonitoringMap {
+    // Whether there are not too many pairs, zeros follow them, and they are valid under a size.
+    fn fits(self, size: u64) -> bool
+        ensures { λ r. ⌜ r ≡ mapFits size self ⌝ }
     {
         let positions = self.positions;
         let versions = self.versions;
-        let pairs = self.pairs;
-        if State::PAIRS < pairs {
+        let count = self.count;
+        if State::PAIRS < count {
             return false;
         }
-        if !zero_pairs_from(positions, versions, pairs) {
+        if !zero_pairs_from(positions, versions, count) {
             return false;
         }
-        pairs_fit(positions, versions, pairs, self.size)
+        pairs_fit(positions, versions, count, size)
     }
 }
 
 // Whether the time is zero where the size is.
-fn time_fits(size: u64, time: u64) -> bool
-    ensures { λ r. ⌜ r ≡ (ltb 0 size || eqb time 0) ⌝ }
+fn timestamp_fits(size: u64, timestamp: u64) -> bool
+    ensures { λ r. ⌜ r ≡ (ltb 0 size || eqb timestamp 0) ⌝ }
 {
     if 0 < size {
         return true;
     }
-    time == 0
+    timestamp == 0
 }
 
-// Whether bytes are zero from a place on.
+// Whether bytes are zero from an offset on.
 fn zeros_from(s: &[u8], from: usize) -> bool
     ensures { λ r. ⌜ r ≡ zerosFrom from (now (s .entry)) ⌝ }
 {
@@ -163,7 +206,7 @@ fn zeros_from(s: &[u8], from: usize) -> bool
     true
 }
 
-// Whether positions and versions are zero from a place on.
+// Whether positions and versions are zero from an offset on.
 fn zero_pairs_from(
     positions: [u64; State::PAIRS],
     versions: [u32; State::PAIRS],

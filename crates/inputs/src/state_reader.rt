@@ -1,4 +1,5 @@
-// A state's text, read (paper 01, What a call is given): a `size` line, a `keep` line for each value, a `pair` line for each pair of the map.
+// A state's text, read (paper 01, What a call is given): a `size` line, a `keep` line for each
+// value, a `pair` line for each pair of the map.
 ghost use mathlib.Core.Path.{_≡_};
 ghost use mathlib.Core.List.{[], _∷_};
 ghost use mathlib.Core.Option.{none, some};
@@ -12,7 +13,12 @@ ghost use Rattle.rules.specs.Limits.{labelLimit, stateTextLimit};
 ghost use Rattle.rules.specs.State.{State as StateRead};
 ghost use Rattle.rules.specs.StateText.{sizeForm, readKeep, readPair, readState, readStateText};
 ghost use Rattle.inputs.specs.State.{numberedBlock, stateOf};
-ghost use Rattle.inputs.specs.StateReader.{labelled, asSize, pairOf, KeepsFrom, PairsFrom, ReadAs, ifValid, readAfterSize, refusedBy, orRefused};
+ghost use Rattle.inputs.specs.StateReader.{labelled, asSize, pairOf, KeepsFrom, PairsFrom, ReadAs};
+ghost use Rattle.inputs.specs.StateReader.{ifValid, readAfterSize, refusedBy, orRefused};
+use crate::refusal::Refusal;
+use crate::state::KeptLog;
+use crate::state::Label;
+use crate::state::MonitoringMap;
 use crate::state::NumberedState;
 use crate::state::State;
 use lines::cursor::Cursor;
@@ -22,125 +28,118 @@ use lines::cursor::NextNumber;
 use lines::cursor::NextWord;
 use lines::hex::Digest;
 use lines::hex::read_digest;
+use lines::layout::Word;
 use lines::writing::put_bytes;
-use lines::writing::put_spelled;
+use lines::writing::put_decoded;
 use tree::log_head::LogHead;
-
-// The refusal of a text that is too long.
-const TOO_LONG: u64 = 1;
-
-// The refusal of one that says no valid state.
-const NO_VALID_STATE: u64 = 3;
 
 // The bytes of a value.
 const VALUE: usize = 32;
 
-// What a `size` line says: the size, the time, the label and its length; zeros where none was found.
+// What a `size` line says: the size, the time and the label; zeros where none was found.
 struct SizeLine {
     found: bool,
     size: u64,
-    time: u64,
-    label: [u8; State::LABEL],
-    length: usize,
+    timestamp: u64,
+    label: Label,
 }
 
 // A `pair` line, or another.
 enum PairLine {
     Pair { position: u64, version: u32 },
-    NoPair,
+    Unread,
 }
 
-// The `keep` lines that follow each other: their number, the place after them, and the first of their values, as many as a block takes.
+// The `keep` lines that follow each other: their number, the offset after them, and the first of
+// their values, as many as a block takes.
 struct Keeps {
     count: usize,
     next: usize,
     values: [u8; LogHead::BLOCK],
 }
 
-// The `pair` lines that follow each other: their number, the place after them, and the first of their pairs, as many as a state takes.
+// The `pair` lines that follow each other: their number with the first of their pairs, as many as a
+// state takes, and the offset after them.
 struct Pairs {
-    count: usize,
+    map: MonitoringMap,
     next: usize,
-    positions: [u64; State::PAIRS],
-    versions: [u32; State::PAIRS],
 }
 
-// The state that a text says; refusal 1 for a text that is too long and 3 for one that says no valid state, both with the state of the empty label.
+// The state that a text says; refusal 1 for a text that is too long and 3 for one that says no
+// valid state, both with the state of the empty label.
 pub fn read_state(text: &[u8]) -> NumberedState
     ensures { λ r. ⌜ r ≡ numberedBlock (readStateText (now (text .entry))) ⌝ }
 {
     if State::TEXT < text.len() {
-        return refused(TOO_LONG);
+        return refused(Refusal::LENGTH);
     }
     let start = Cursor { at: 0 };
     let NextLine::Ended { stop, next } = start.line(text) else {
-        return refused(NO_VALID_STATE);
+        return refused(Refusal::STATE);
     };
     let first = size_line(&text[0..stop]);
     if !first.found {
-        return refused(NO_VALID_STATE);
+        return refused(Refusal::STATE);
     }
     read_after_size(text, next.at, first)
 }
 
-// The struct of the state that a text says; where it says none, as a text that is too long does, one
-// that stands for none.
+// The struct of the state that a text says; where it says none, as a text that is too long does,
+// one that stands for none.
 pub fn state_in(text: &[u8]) -> State
     ensures { λ r. ⌜ stateOf r ≡ readState (now (text .entry)) ⌝ }
 {
     let read = read_state(text);
     let mut state = read.state;
     if read.number != 0 {
-        state.length = State::LABEL + 1;
+        let over = State::LABEL + 1;
+        state.label.length = over;
     }
     state
 }
 
-// The state that a `size` line and the text from a place on say, or refusal 3.
+// The state that a `size` line and the text from an offset on say, or refusal 3.
 fn read_after_size(text: &[u8], from: usize, first: SizeLine) -> NumberedState
     requires { ⌜ (from ≤ length (now text)) × (length (now text) ≤ stateTextLimit) ⌝ }
-    ensures { λ r. ⌜ ((x : Read sizeForm) → first ≡ asSize (some x) → r ≡ numberedBlock (orRefused (readAfterSize x (drop from (now (text .entry)))))) ⌝ }
+    ensures { λ r. ⌜ ((x : Read sizeForm) → first ≡ asSize (some x)
+        → r ≡ numberedBlock (orRefused (readAfterSize x (drop from (now (text .entry)))))) ⌝ }
 {
     let keeps = read_keeps(text, from);
     let at = keeps.next;
     let pairs = read_pairs(text, at);
     if pairs.next < text.len() {
-        return refused(NO_VALID_STATE);
+        return refused(Refusal::STATE);
     }
     checked(first, keeps, pairs)
 }
 
 // The state of what was read, if it is valid, or refusal 3.
 fn checked(first: SizeLine, keeps: Keeps, pairs: Pairs) -> NumberedState
-    ensures { λ r. ⌜ ((st : StateRead) → ReadAs first keeps pairs st → r ≡ numberedBlock (orRefused (ifValid st))) ⌝ }
+    ensures { λ r. ⌜ ((st : StateRead) → ReadAs first keeps pairs st
+        → r ≡ numberedBlock (orRefused (ifValid st))) ⌝ }
 {
     if keeps.count != u64::count_ones(first.size) as usize {
-        return refused(NO_VALID_STATE);
+        return refused(Refusal::STATE);
     }
     if (LogHead::LEVELS as usize) < keeps.count {
-        return refused(NO_VALID_STATE);
+        return refused(Refusal::STATE);
     }
-    if State::PAIRS < pairs.count {
-        return refused(NO_VALID_STATE);
+    let map = pairs.map;
+    if State::PAIRS < map.count {
+        return refused(Refusal::STATE);
     }
     let label = first.label;
     let values = keeps.values;
-    let positions = pairs.positions;
-    let versions = pairs.versions;
-    let state = State {
-        label,
-        length: first.length,
+    let log = KeptLog {
         size: first.size,
-        time: first.time,
+        timestamp: first.timestamp,
         values,
-        positions,
-        versions,
-        pairs: pairs.count,
     };
+    let state = State { label, log, map };
     if state.is_valid() {
         return NumberedState { number: 0, state };
     }
-    refused(NO_VALID_STATE)
+    refused(Refusal::STATE)
 }
 
 // A refusal, with the state of the empty label.
@@ -157,32 +156,33 @@ fn size_line(l: &[u8]) -> SizeLine
     ensures { λ r. ⌜ r ≡ asSize (readLine sizeForm (now (l .entry))) ⌝ }
 {
     let start = Cursor { at: 0 };
-    let NextWord::Same(at_size) = start.word(l, b"size") else {
+    let NextWord::Same(at_size) = start.word(l, &Word::SIZE) else {
         return no_size();
     };
     let NextNumber::Read {
         value: size,
-        next: at_time,
+        next: at_timestamp,
     } = at_size.number(l, u64::MAX)
     else {
         return no_size();
     };
     let NextNumber::Read {
-        value: time,
+        value: timestamp,
         next: at_label,
-    } = at_time.number(l, u64::MAX)
+    } = at_timestamp.number(l, u64::MAX)
     else {
         return no_size();
     };
-    with_label(l, at_label.at, size, time)
+    with_label(l, at_label.at, size, timestamp)
 }
 
 // What it says, once the size and the time are read.
-fn with_label(l: &[u8], at: usize, size: u64, time: u64) -> SizeLine
-    ensures { λ r. ⌜ r ≡ labelled size time (readFields (upTo labelLimit ∷ []) (fieldsFrom (now (l .entry)) at)) ⌝ }
+fn with_label(l: &[u8], at: usize, size: u64, timestamp: u64) -> SizeLine
+    ensures { λ r. ⌜ r ≡ labelled size timestamp
+        (readFields (upTo labelLimit ∷ []) (fieldsFrom (now (l .entry)) at)) ⌝ }
 {
     let cursor = Cursor { at };
-    let NextBytes::Spelled { length, next } = cursor.bytes(l) else {
+    let NextBytes::Read { length, next } = cursor.bytes(l) else {
         return no_size();
     };
     if State::LABEL < length {
@@ -192,14 +192,13 @@ fn with_label(l: &[u8], at: usize, size: u64, time: u64) -> SizeLine
         return no_size();
     }
     let field = cursor.field(l);
-    let mut label = [0u8; State::LABEL];
-    put_spelled(&mut label, 0, field);
+    let mut bytes = [0u8; State::LABEL];
+    put_decoded(&mut bytes, 0, field);
     SizeLine {
         found: true,
         size,
-        time,
-        label,
-        length,
+        timestamp,
+        label: Label { bytes, length },
     }
 }
 
@@ -210,9 +209,11 @@ fn no_size() -> SizeLine
     SizeLine {
         found: false,
         size: 0,
-        time: 0,
-        label: [0u8; State::LABEL],
-        length: 0,
+        timestamp: 0,
+        label: Label {
+            bytes: [0u8; State::LABEL],
+            length: 0,
+        },
     }
 }
 
@@ -221,7 +222,7 @@ fn keep_line(l: &[u8]) -> Digest
     ensures { λ r. ⌜ r ≡ asDigest (readKeep (now (l .entry))) ⌝ }
 {
     let start = Cursor { at: 0 };
-    let NextWord::Same(next) = start.word(l, b"keep") else {
+    let NextWord::Same(next) = start.word(l, &Word::KEEP) else {
         return no_value();
     };
     let at = next.at;
@@ -250,25 +251,25 @@ fn pair_line(l: &[u8]) -> PairLine
     ensures { λ r. ⌜ pairOf r ≡ readPair (now (l .entry)) ⌝ }
 {
     let start = Cursor { at: 0 };
-    let NextWord::Same(at_position) = start.word(l, b"pair") else {
-        return PairLine::NoPair;
+    let NextWord::Same(at_position) = start.word(l, &Word::PAIR) else {
+        return PairLine::Unread;
     };
     let NextNumber::Read {
         value: position,
         next: at_version,
     } = at_position.number(l, u64::MAX)
     else {
-        return PairLine::NoPair;
+        return PairLine::Unread;
     };
     let NextNumber::Read {
         value: version,
         next,
     } = at_version.number(l, u32::MAX as u64)
     else {
-        return PairLine::NoPair;
+        return PairLine::Unread;
     };
     if next.at <= l.len() {
-        return PairLine::NoPair;
+        return PairLine::Unread;
     }
     PairLine::Pair {
         position,
@@ -276,7 +277,7 @@ fn pair_line(l: &[u8]) -> PairLine
     }
 }
 
-// The `keep` lines from a place on.
+// The `keep` lines from an offset on.
 fn read_keeps(text: &[u8], from: usize) -> Keeps
     requires { ⌜ (from ≤ length (now text)) × (length (now text) ≤ stateTextLimit) ⌝ }
     ensures { λ r. ⌜ KeepsFrom (now (text .entry)) from r ⌝ }
@@ -313,7 +314,7 @@ fn read_keeps(text: &[u8], from: usize) -> Keeps
     }
 }
 
-// The `pair` lines from a place on.
+// The `pair` lines from an offset on.
 fn read_pairs(text: &[u8], from: usize) -> Pairs
     requires { ⌜ from ≤ length (now text) ⌝ }
     ensures { λ r. ⌜ PairsFrom (now (text .entry)) from r ⌝ }
@@ -326,18 +327,22 @@ fn read_pairs(text: &[u8], from: usize) -> Pairs
         let start = Cursor { at };
         let NextLine::Ended { stop, next } = start.line(text) else {
             return Pairs {
-                count,
+                map: MonitoringMap {
+                    positions,
+                    versions,
+                    count,
+                },
                 next: at,
-                positions,
-                versions,
             };
         };
         let PairLine::Pair { position, version } = pair_line(&text[at..stop]) else {
             return Pairs {
-                count,
+                map: MonitoringMap {
+                    positions,
+                    versions,
+                    count,
+                },
                 next: at,
-                positions,
-                versions,
             };
         };
         put_pair(&mut positions, &mut versions, count, position, version);
@@ -345,17 +350,20 @@ fn read_pairs(text: &[u8], from: usize) -> Pairs
         at = next.at;
     }
     Pairs {
-        count,
+        map: MonitoringMap {
+            positions,
+            versions,
+            count,
+        },
         next: at,
-        positions,
-        versions,
     }
 }
 
 // Stores a pair, where there is room for it.
 fn put_pair(positions: &mut [u64], versions: &mut [u32], i: usize, position: u64, version: u32)
     requires { ⌜ length (now positions) ≡ length (now versions) ⌝ }
-    ensures { λ _. ⌜ (now (positions .exit) ≡ set (now (positions .entry)) i position) × (now (versions .exit) ≡ set (now (versions .entry)) i version) ⌝ }
+    ensures { λ _. ⌜ (now (positions .exit) ≡ set (now (positions .entry)) i position)
+        × (now (versions .exit) ≡ set (now (versions .entry)) i version) ⌝ }
 {
     if positions.len() <= i {
         return;

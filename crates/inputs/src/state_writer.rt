@@ -1,12 +1,13 @@
-// A state's text, written (paper 01, What a call is given): a `size` line, a `keep` line for each value, a `pair` line for each pair of the map.
-// Each writer below write_state is given room for its text, and answers the place after it.
+// A state's text, written (paper 01, What a call is given): a `size` line, a `keep` line for each
+// value, a `pair` line for each pair of the map. Each writer below write_state is given room for
+// its text, and answers the offset after it.
 ghost use mathlib.Core.Path.{_≡_};
 ghost use mathlib.Core.Bool.{true};
 ghost use mathlib.Core.List.{[], _∷_, _++_, flatMap};
 ghost use mathlib.Core.Option.{Option·getD};
 ghost use Prim.Native.Nat.{_+_, _*_, _≤_};
 ghost use lib.ListN.{length};
-ghost use Rattle.lists.specs.Choice.{given};
+ghost use Rattle.lists.specs.Choice.{isSome};
 ghost use Rattle.lists.specs.Lists.{runs};
 ghost use Rattle.lines.specs.Number.{decimal};
 ghost use Rattle.lines.specs.Hex.{hexField};
@@ -18,7 +19,8 @@ ghost use Rattle.rules.specs.Calls.{writtenFirst};
 ghost use Rattle.inputs.specs.State.{mapOf, contents, stateOf};
 ghost use Rattle.inputs.specs.StateWriter.{textFor, Wrote};
 use crate::state::State;
-use lines::writing::next_place;
+use lines::layout::Word;
+use lines::writing::next_offset;
 use lines::writing::put_bytes;
 use lines::writing::put_decimal;
 use lines::writing::put_hex;
@@ -26,11 +28,12 @@ use lines::writing::put_hex;
 // The bytes of a value.
 const VALUE: usize = 32;
 
-// Writes the text of a state to the first bytes lent and answers its length. Of a state that is not valid, or with fewer than State::TEXT bytes lent, it
-// answers 0 and writes nothing.
+// Writes the text of a state to the first bytes lent and answers its length. Of a state that is not
+// valid, or with fewer than State::TEXT bytes lent, it answers 0 and writes nothing.
 pub fn write_state(state: State, lent: &mut [u8]) -> usize
     ensures answer { λ r. ⌜ r ≡ length (Option·getD (textFor state (now (lent .entry))) []) ⌝ }
-    ensures bytes { λ r. ⌜ now (lent .exit) ≡ writtenFirst (now (lent .entry)) (textFor state (now (lent .entry))) ⌝ }
+    ensures bytes { λ r. ⌜ now (lent .exit)
+        ≡ writtenFirst (now (lent .entry)) (textFor state (now (lent .entry))) ⌝ }
 {
     if lent.len() < State::TEXT {
         return 0;
@@ -43,28 +46,32 @@ pub fn write_state(state: State, lent: &mut [u8]) -> usize
 
 // The text of a valid state, from byte 0 on.
 fn put_state(out: &mut [u8], state: State) -> usize
-    requires valid { ⌜ given (validState (stateOf state)) ≡ true ⌝ }
+    requires valid { ⌜ isSome (validState (stateOf state)) ≡ true ⌝ }
     requires room { ⌜ stateTextLimit ≤ length (now out) ⌝ }
     ensures { λ r. ⌜ Wrote (now (out .entry)) 0 (writeState (contents state)) r (now (out .exit)) ⌝ }
 {
     let label = state.label;
-    let length = state.length;
-    let values = state.values;
-    let count = u64::count_ones(state.size) as usize;
-    let positions = state.positions;
-    let versions = state.versions;
-    let pairs = state.pairs;
-    let keeps_at = put_size(out, 0, state.size, state.time, &label[..length]);
+    let bytes = label.bytes;
+    let length = label.length;
+    let log = state.log;
+    let values = log.values;
+    let count = u64::count_ones(log.size) as usize;
+    let map = state.map;
+    let positions = map.positions;
+    let versions = map.versions;
+    let pairs = map.count;
+    let keeps_at = put_size(out, 0, log.size, log.timestamp, &bytes[..length]);
     let pairs_at = put_keeps(out, keeps_at, &values, count);
     put_pairs(out, pairs_at, &positions[..pairs], &versions[..pairs])
 }
 
 // The `size` line.
-fn put_size(out: &mut [u8], at: usize, size: u64, time: u64, label: &[u8]) -> usize
-    requires { ⌜ at + length (writeLine sizeForm (size, (time, (now label, tt)))) ≤ length (now out) ⌝ }
-    ensures { λ r. ⌜ Wrote (now (out .entry)) at (writeLine sizeForm (size, (time, (now (label .entry), tt)))) r (now (out .exit)) ⌝ }
+fn put_size(out: &mut [u8], at: usize, size: u64, timestamp: u64, label: &[u8]) -> usize
+    requires { ⌜ at + length (writeLine sizeForm (size, (timestamp, (now label, tt)))) ≤ length (now out) ⌝ }
+    ensures { λ r. ⌜ Wrote (now (out .entry)) at
+        (writeLine sizeForm (size, (timestamp, (now (label .entry), tt)))) r (now (out .exit)) ⌝ }
 {
-    let label_at = put_numbers(out, at, b"size", size, time);
+    let label_at = put_numbers(out, at, &Word::SIZE, size, timestamp);
     let end = put_field(out, label_at, label);
     put_all(out, end, b"\n")
 }
@@ -72,17 +79,19 @@ fn put_size(out: &mut [u8], at: usize, size: u64, time: u64, label: &[u8]) -> us
 // The `keep` lines of so many values that stand one after the other.
 fn put_keeps(out: &mut [u8], at: usize, values: &[u8], count: usize) -> usize
     requires values { ⌜ hashLength * count ≤ length (now values) ⌝ }
-    requires room { ⌜ at + length (flatMap writeKeep (runs count hashLength (now values))) ≤ length (now out) ⌝ }
-    ensures { λ r. ⌜ Wrote (now (out .entry)) at (flatMap writeKeep (runs count hashLength (now (values .entry)))) r (now (out .exit)) ⌝ }
+    requires room { ⌜ at
+        + length (flatMap writeKeep (runs count hashLength (now values))) ≤ length (now out) ⌝ }
+    ensures { λ r. ⌜ Wrote (now (out .entry)) at
+        (flatMap writeKeep (runs count hashLength (now (values .entry)))) r (now (out .exit)) ⌝ }
 {
-    let mut place = at;
+    let mut offset = at;
     let mut i: usize = 0;
     while i < count {
         let start = VALUE * i;
-        place = put_keep(out, place, &values[start..start + VALUE]);
+        offset = put_keep(out, offset, &values[start..start + VALUE]);
         i += 1;
     }
-    place
+    offset
 }
 
 // The `keep` line of a value.
@@ -90,7 +99,7 @@ fn put_keep(out: &mut [u8], at: usize, value: &[u8]) -> usize
     requires { ⌜ at + length (writeKeep (now value)) ≤ length (now out) ⌝ }
     ensures { λ r. ⌜ Wrote (now (out .entry)) at (writeKeep (now (value .entry))) r (now (out .exit)) ⌝ }
 {
-    let value_at = put_all(out, at, b"keep");
+    let value_at = put_all(out, at, &Word::KEEP);
     let end = put_field(out, value_at, value);
     put_all(out, end, b"\n")
 }
@@ -98,31 +107,37 @@ fn put_keep(out: &mut [u8], at: usize, value: &[u8]) -> usize
 // The `pair` lines of the pairs that have these positions and these versions.
 fn put_pairs(out: &mut [u8], at: usize, positions: &[u64], versions: &[u32]) -> usize
     requires pairs { ⌜ length (now versions) ≡ length (now positions) ⌝ }
-    requires room { ⌜ at + length (flatMap writePair (mapOf (now positions) (now versions))) ≤ length (now out) ⌝ }
-    ensures { λ r. ⌜ Wrote (now (out .entry)) at (flatMap writePair (mapOf (now (positions .entry)) (now (versions .entry)))) r (now (out .exit)) ⌝ }
+    requires room { ⌜ at
+        + length (flatMap writePair (mapOf (now positions) (now versions))) ≤ length (now out) ⌝ }
+    ensures { λ r. ⌜ Wrote (now (out .entry)) at
+        (flatMap writePair (mapOf (now (positions .entry)) (now (versions .entry)))) r (now (out .exit)) ⌝ }
 {
-    let mut place = at;
+    let mut offset = at;
     let mut i: usize = 0;
     while i < positions.len() {
-        place = put_pair(out, place, positions[i], versions[i]);
+        offset = put_pair(out, offset, positions[i], versions[i]);
         i += 1;
     }
-    place
+    offset
 }
 
 // The `pair` line of a pair.
 fn put_pair(out: &mut [u8], at: usize, position: u64, version: u32) -> usize
-    requires { ⌜ at + length (writePair (record { position = position; version = version })) ≤ length (now out) ⌝ }
-    ensures { λ r. ⌜ Wrote (now (out .entry)) at (writePair (record { position = position; version = version })) r (now (out .exit)) ⌝ }
+    requires { ⌜ at + length (writePair (record { position = position; version = version })) ≤ length
+        (now out) ⌝ }
+    ensures { λ r. ⌜ Wrote (now (out .entry)) at
+        (writePair (record { position = position; version = version })) r (now (out .exit)) ⌝ }
 {
-    let end = put_numbers(out, at, b"pair", position, version as u64);
+    let end = put_numbers(out, at, &Word::PAIR, position, version as u64);
     put_all(out, end, b"\n")
 }
 
 // A word, and two numbers as fields.
 fn put_numbers(out: &mut [u8], at: usize, word: &[u8], first: u64, second: u64) -> usize
-    requires { ⌜ at + length (now word ++ (tab ∷ decimal first) ++ (tab ∷ decimal second)) ≤ length (now out) ⌝ }
-    ensures { λ r. ⌜ Wrote (now (out .entry)) at (now (word .entry) ++ (tab ∷ decimal first) ++ (tab ∷ decimal second)) r (now (out .exit)) ⌝ }
+    requires { ⌜ at + length (now word ++ (tab ∷ decimal first) ++ (tab ∷ decimal second)) ≤ length
+        (now out) ⌝ }
+    ensures { λ r. ⌜ Wrote (now (out .entry)) at
+        (now (word .entry) ++ (tab ∷ decimal first) ++ (tab ∷ decimal second)) r (now (out .exit)) ⌝ }
 {
     let first_at = put_all(out, at, word);
     let second_at = put_number(out, first_at, first);
@@ -134,8 +149,8 @@ fn put_number(out: &mut [u8], at: usize, n: u64) -> usize
     requires { ⌜ at + length (tab ∷ decimal n) ≤ length (now out) ⌝ }
     ensures { λ r. ⌜ Wrote (now (out .entry)) at (tab ∷ decimal n) r (now (out .exit)) ⌝ }
 {
-    let place = put_all(out, at, b"\t");
-    next_place(put_decimal(out, place, n), place)
+    let offset = put_all(out, at, b"\t");
+    next_offset(put_decimal(out, offset, n), offset)
 }
 
 // A byte string as a field, after its tab.
@@ -143,8 +158,8 @@ fn put_field(out: &mut [u8], at: usize, s: &[u8]) -> usize
     requires { ⌜ at + length (tab ∷ hexField (now s)) ≤ length (now out) ⌝ }
     ensures { λ r. ⌜ Wrote (now (out .entry)) at (tab ∷ hexField (now (s .entry))) r (now (out .exit)) ⌝ }
 {
-    let place = put_all(out, at, b"\t");
-    next_place(put_hex(out, place, s), place)
+    let offset = put_all(out, at, b"\t");
+    next_offset(put_hex(out, offset, s), offset)
 }
 
 // Bytes as they are.
@@ -152,5 +167,5 @@ fn put_all(out: &mut [u8], at: usize, s: &[u8]) -> usize
     requires { ⌜ at + length (now s) ≤ length (now out) ⌝ }
     ensures { λ r. ⌜ Wrote (now (out .entry)) at (now (s .entry)) r (now (out .exit)) ⌝ }
 {
-    next_place(put_bytes(out, at, s), at)
+    next_offset(put_bytes(out, at, s), at)
 }

@@ -2,7 +2,7 @@
 ghost use mathlib.Core.Path.{_≡_};
 ghost use Prim.Native.Nat.{_+_, _*_, _/_, _<_};
 ghost use lib.ListN.{length};
-ghost use Rattle.lists.specs.Choice.{given};
+ghost use Rattle.lists.specs.Choice.{isSome};
 ghost use Rattle.rules.specs.VrfOutputs.{recordLength, readOutputs};
 ghost use Rattle.inputs.specs.VrfOutputs.{recordAt, IsRecordOf, IsOfSomeRecord};
 use hash::bytes::number4;
@@ -23,7 +23,7 @@ pub struct FoundOutput {
 
 // Whether the outputs are whole records with rising versions.
 pub fn outputs_rise(outputs: &[u8]) -> bool
-    ensures { λ r. ⌜ r ≡ given (readOutputs (now (outputs .entry))) ⌝ }
+    ensures { λ r. ⌜ r ≡ isSome (readOutputs (now (outputs .entry))) ⌝ }
 {
     if outputs.len() % RECORD != 0 {
         return false;
@@ -39,7 +39,8 @@ pub fn outputs_rise(outputs: &[u8]) -> bool
     true
 }
 
-// The output of a version, found by halving. Of bytes that are no outputs it is that of some record of the version, or none.
+// The output of a version, found by halving. Of bytes that are no outputs it is that of some record
+// of the version, or none.
 pub fn find_output(outputs: &[u8], version: u32) -> FoundOutput
     ensures rising { λ r. ⌜ IsRecordOf (now (outputs .entry)) version r ⌝ }
     ensures any { λ r. ⌜ IsOfSomeRecord (now (outputs .entry)) version r ⌝ }

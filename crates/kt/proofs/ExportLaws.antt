@@ -6,12 +6,14 @@ use native.Mathlib.Numerals.{add-one}
 use native.Mathlib.Omega.{arith}
 use borrow.Author.Tests.{le-leb, lt-leb}
 use lib.ListN.{length, getD, take, drop, length-append, length-drop}
-use lib.Seq.{sets, sets-eq, take-suc, take-at, take-all, take-length, length-take-le, drop-append-add, drop-drop}
+use lib.Seq.{sets, sets-eq, take-suc, take-at, take-all, take-length, length-take-le, drop-append-add}
+use lib.Seq.{drop-drop}
 use Rattle.hash.specs.Bytes.{bigEndian}
 use Rattle.hash.proofs.BytesLaws.{length-bigEndian}
 use Rattle.hash.specs.Sha256.{digestLength, sha256}
 use Rattle.hash.proofs.MessageLaws.{length-digest}
-use Rattle.kt.specs.Exports.{sha256Answer, sha256Output, versionLength, ladderBytes, ladderAnswer, ladderOutput}
+use Rattle.kt.specs.Exports.{sha256Answer, sha256Output, versionLength, ladderBytes, ladderAnswer}
+use Rattle.kt.specs.Exports.{ladderOutput}
 use Rattle.tree.specs.Ladder.{ladderWithin}
 
 -- ---- a digest

@@ -1,5 +1,3 @@
 pub mod ExportLaws
 pub mod CallExportLaws
-pub mod SearchExportLaws
-pub mod MonitorExportLaws
 pub mod SignedTextExportLaws

@@ -1,4 +1,5 @@
--- Laws of the signed text over state texts (rules/specs/Calls.antt, ktSignedText): the answer, and the lent bytes afterwards.
+-- Laws of the signed text over state texts (rules/specs/Calls.antt, ktSignedText): the answer, and
+-- the lent bytes afterwards.
 use mathlib.Core.Path.{_≡_, refl}
 use Prim.Native.Nat.{ℕ, _≤_, _<_}
 use lib.ListN.{length}

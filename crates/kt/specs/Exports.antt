@@ -12,7 +12,8 @@ use Rattle.tree.specs.Ladder.{ladderWithin}
 unfoldable pub sha256Answer : List ℕ → ℕ
 sha256Answer d = cond (leb digestLength (length d)) digestLength 0
 
--- the bytes d after kt_sha256 of a message: the digest and the bytes behind it as they were, or all as they were
+-- the bytes d after kt_sha256 of a message: the digest and the bytes after it as they were, or all
+-- as they were
 unfoldable pub sha256Output : List ℕ → List ℕ → List ℕ
 sha256Output message d = cond (leb digestLength (length d)) (sha256 message ++ drop digestLength d) d
 
@@ -24,10 +25,15 @@ versionLength = 4
 unfoldable pub ladderBytes : ℕ → List ℕ
 ladderBytes version = flatMap (bigEndian versionLength) (ladderWithin version)
 
--- kt_ladder of a version, lent the bytes d: how many versions the ladder has, or 0 where they do not fit
+-- kt_ladder of a version, lent the bytes d: how many versions the ladder has, or 0 where they do
+-- not fit
 unfoldable pub ladderAnswer : ℕ → List ℕ → ℕ
-ladderAnswer version d = cond (leb (length (ladderBytes version)) (length d)) (length (ladderWithin version)) 0
+ladderAnswer version d =
+    cond (leb (length (ladderBytes version)) (length d)) (length (ladderWithin version)) 0
 
--- the bytes d after kt_ladder of a version: the versions and the bytes behind them as they were, or all as they were
+-- the bytes d after kt_ladder of a version: the versions and the bytes after them as they were, or
+-- all as they were
 unfoldable pub ladderOutput : ℕ → List ℕ → List ℕ
-ladderOutput version d = cond (leb (length (ladderBytes version)) (length d)) (ladderBytes version ++ drop (length (ladderBytes version)) d) d
+ladderOutput version d =
+    cond (leb (length (ladderBytes version)) (length d))
+    (ladderBytes version ++ drop (length (ladderBytes version)) d) d

@@ -1,4 +1,5 @@
--- The lengths that an outcome tells count bytes of those lent, since a text that is written from byte 0 on is no longer than the bytes that are there then.
+-- The lengths that an outcome tells count bytes of those lent, since a text that is written from
+-- byte 0 on is no longer than the bytes that are there then.
 use mathlib.Core.Path.{_≡_}
 use mathlib.Core.List.{[], _++_}
 use mathlib.Core.Option.{Option, none, some, Option·elim, Option·getD}

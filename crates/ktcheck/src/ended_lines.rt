@@ -6,17 +6,18 @@ ghost use Rattle.lines.specs.Line.{endedLines, openRest};
 use lines::cursor::NextLine;
 use verifier::reading::read_on;
 
-// How many lines a newline ends, the place behind the last of them, and how many bytes are left from there on.
+// How many lines a newline ends, the offset after the last of them, and how many bytes are left
+// from there on.
 pub(crate) struct EndedLines {
     pub(crate) count: usize,
-    pub(crate) place: usize,
+    pub(crate) offset: usize,
     pub(crate) left: usize,
 }
 
 // The lines of a text that a newline ends.
 pub(crate) fn ended_lines(text: &[u8]) -> EndedLines
     ensures count { λ r. ⌜ r .count ≡ length (endedLines (now (text .entry))) ⌝ }
-    ensures place { λ r. ⌜ r .place + r .left ≡ length (now (text .entry)) ⌝ }
+    ensures offset { λ r. ⌜ r .offset + r .left ≡ length (now (text .entry)) ⌝ }
     ensures left { λ r. ⌜ r .left ≡ length (openRest (now (text .entry))) ⌝ }
 {
     let mut count: usize = 0;
@@ -27,12 +28,12 @@ pub(crate) fn ended_lines(text: &[u8]) -> EndedLines
         match line {
             NextLine::Ended { stop: _, next: _ } => {
                 count += 1;
-                at = read.place;
+                at = read.offset;
             }
-            NextLine::Open => {
+            NextLine::Unread => {
                 return EndedLines {
                     count,
-                    place: read.place,
+                    offset: read.offset,
                     left: read.left,
                 };
             }

@@ -1,5 +1,5 @@
-// The program (paper 01, Sixteen numbers): checks the response among the files of the current folder, prints one line and, where it accepts, writes
-// `state.new` and, after a search, `value`.
+// The program (paper 01, Sixteen numbers): checks the response among the files of the current
+// folder, prints one line and, where it accepts, writes `state.new` and, after a search, `value`.
 mod ended_lines;
 mod outcome;
 mod reading;
@@ -12,7 +12,8 @@ use outcome::judge;
 use reading::read_file;
 use verifier::files::FileLimit;
 
-// Reads three of the files, each with room for one byte more than is allowed, and goes on with them.
+// Reads three of the files, each with room for one byte more than is allowed, and goes on with
+// them.
 fn main() {
     let mut request = [0u8; FileLimit::REQUEST + 1];
     let request_file = read_file(b"request", &mut request);

@@ -1,4 +1,5 @@
-// What comes of the files: an acceptance is written and then printed, a refusal printed and explained.
+// What comes of the files: an acceptance is written and then printed, a refusal printed and
+// explained.
 use crate::refusals::explain;
 use crate::writing::print;
 use crate::writing::write_file;

@@ -7,8 +7,8 @@ pub(crate) struct FileRead {
     pub(crate) length: usize,
 }
 
-// Reads a file into the first bytes lent, until it ends or they are full. One that is missing, cannot be opened or fails while it is read, as a folder
-// does, is unread.
+// Reads a file into the first bytes lent, until it ends or they are full. One that is missing,
+// cannot be opened or fails while it is read, as a folder does, is unread.
 pub(crate) fn read_file(name: &[u8], bytes: &mut [u8]) -> FileRead
     ensures { λ r. ⌜ Counts (r .length) (now (bytes .exit)) ⌝ }
 {

@@ -60,7 +60,7 @@ fn say_lines(response: &[u8]) {
     say(b"Whole lines in it: ");
     say_number(lines.count);
     say(b", up to byte ");
-    say_number(lines.place);
+    say_number(lines.offset);
     say(b". Bytes after them: ");
     say_number(lines.left);
     say(b".\n");

@@ -1,8 +1,9 @@
-// Writing a file of the current folder so that a power cut leaves the old one or the new one, whole.
+// Writing a file of the current folder so that a power cut leaves the old one or the new one,
+// whole.
 use libc::STDOUT_FILENO;
 
-// Writes a file under another name and, once it is on the disk, gives it its own. Answers whether all went well; if not, it has said why on standard
-// error.
+// Writes a file under another name and, once it is on the disk, gives it its own. Answers whether
+// all went well; if not, it has said why on standard error.
 pub(crate) fn write_file(name: &[u8], part: &[u8], bytes: &[u8]) -> bool {
     if !write_part(part, bytes) {
         return false;

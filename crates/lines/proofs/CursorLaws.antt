@@ -1,4 +1,5 @@
--- Laws of the line and the field that begin at a place (specs/Cursor.antt): one for each way in which they are read.
+-- Laws of the line and the field that begin at an offset (specs/Cursor.antt): one for each way in
+-- which they are read.
 use mathlib.Core.Path.{_≡_, refl}
 use mathlib.Core.Bool.{true, false}
 use mathlib.Core.List.{[]}
@@ -13,12 +14,12 @@ use Rattle.lists.specs.Lists.{Bytes, same}
 use Rattle.lists.proofs.ChoiceLaws.{provided-true}
 use Rattle.lines.specs.Line.{newline, before}
 use Rattle.lines.specs.Cursor.{lineAt, fieldAt, readAt, wordAt}
-use Rattle.lines.proofs.PlaceLaws.{at-end}
+use Rattle.lines.proofs.OffsetLaws.{at-end}
 
--- ---- the line at a place
+-- ---- the line at an offset
 
 module _ (s : Bytes) (at stop : ℕ) (e : stop ≡ at + length (before newline (drop at s))) where
-  -- a line that a newline ends, and the place after it
+  -- a line that a newline ends, and the offset after it
   pub line-ended : stop < length s → lineAt s at ≡ some (stop, stop + 1)
   unfolding lineAt
   line-ended h = rw (← e) (provided-true (ltb stop (length s)) (stop, stop + 1) (lt-ltb stop (length s) h))
@@ -28,7 +29,7 @@ module _ (s : Bytes) (at stop : ℕ) (e : stop ≡ at + length (before newline (
   unfolding lineAt provided
   line-open h = rw (← e, le-ltb stop (length s) h) refl
 
--- ---- the field at a place
+-- ---- the field at an offset
 
 -- beyond the end of a line the field is empty
 pub field-beyond : (l : Bytes) (at : ℕ) → length l < at → fieldAt l at ≡ []
@@ -46,7 +47,7 @@ module _ {A : Type 0} (read : Bytes → Option A) (l : Bytes) (at : ℕ) where
   unfolding readAt _>>_ bind
   read-none f e h r = rw (le-leb at (length l) h, ← e, r) refl
 
-  -- of any other its reader's value is read, and the place after it is known
+  -- of any other its reader's value is read, and the offset after it is known
   pub read-some : (f : Bytes) → f ≡ fieldAt l at → at ≤ length l → (a : A) → read f ≡ some a → readAt read l at ≡ some (a, at + length f + 1)
   unfolding readAt _>>_ bind
   read-some f e h a r = rw (le-leb at (length l) h, ← e, r) refl
@@ -66,7 +67,7 @@ module _ (w l : Bytes) (at : ℕ) where
   unfolding wordAt provided
   word-other f e h d = rw (read-none (oneWord w) l at f e h (rw d refl)) refl
 
-  -- a field that is the word, and the place after it
+  -- a field that is the word, and the offset after it
   pub word-same : (f : Bytes) → f ≡ fieldAt l at → at ≤ length l → same f w ≡ true → wordAt w l at ≡ some (at + length f + 1)
   unfolding wordAt
   word-same f e h d = rw (read-some (oneWord w) l at f e h tt (provided-true (same f w) tt d)) refl

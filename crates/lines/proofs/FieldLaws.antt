@@ -1,4 +1,5 @@
--- Laws of fields, and of words and fields (specs/Field.antt, specs/Line.antt): what is written reads as itself, and what reads is what is written.
+-- Laws of fields, and of words and fields (specs/Field.antt, specs/Line.antt): what is written
+-- reads as itself, and what reads is what is written.
 use mathlib.Core.Path.{_≡_, refl, _∙_, ap₂}
 use mathlib.Core.Bool.{Bool, true}
 use mathlib.Core.List.{List, [], _∷_, _++_}
@@ -11,7 +12,8 @@ use Rattle.lists.proofs.ChoiceLaws.{holds-and, test-true, test-some, bind-at, b
 use Rattle.lists.proofs.ListLaws.{same-refl, same-true}
 use Rattle.hash.specs.Bytes.{AreBytes}
 use Rattle.lines.specs.Hex.{readHex}
-use Rattle.lines.specs.Field.{Field, number, bytes, Value, Values, readField, readFields, writeField, writeFields}
+use Rattle.lines.specs.Field.{Field, number, bytes, Value, Values, readField, readFields, writeField}
+use Rattle.lines.specs.Field.{writeFields}
 use Rattle.lines.specs.Line.{readAfter}
 use Rattle.lines.proofs.NumberLaws.{isPlain, read-decimal, decimal-read, decimal-plain}
 use Rattle.lines.proofs.HexLaws.{read-hex, hex-read, hexField-plain}
@@ -20,7 +22,8 @@ use Rattle.lines.proofs.HexLaws.{read-hex, hex-read, hexField-plain}
 abbrev pub arePlain : Bytes → Bool
 arePlain s = all isPlain s
 
--- a value fits its field: a number is not above its bound; a byte string has bytes, and a length that passes the test
+-- a value fits its field: a number is not above its bound; a byte string has bytes, and a length
+-- that passes the test
 abbrev pub FitsField : (f : Field) → Value f → Type 0
 FitsField (number bound) n = n ≤ bound
 FitsField (bytes fits) b = (fits (length b) ≡ true) × AreBytes b

@@ -1,4 +1,5 @@
--- Fields of a line from a place on (specs/Cursor.antt): a form is read field by field, each where the one before it ends.
+-- Fields of a line from an offset on (specs/Cursor.antt): a form is read field by field, each where
+-- the one before it ends.
 use mathlib.Core.Path.{_≡_, refl, sym, _∙_, ap}
 use mathlib.Core.Bool.{Bool, true, false}
 use mathlib.Core.List.{List, [], _∷_}
@@ -9,25 +10,26 @@ use native.Mathlib.Omega.{arith}
 use lib.Dec.{leb, ltb}
 use lib.ListN.{length, length-drop, take, drop}
 use borrow.Author.Tests.{le-leb, lt-leb, leb-true, lt-ltb, le-ltb}
-use Rattle.lists.specs.Choice.{given, provided, _>>_}
+use Rattle.lists.specs.Choice.{isSome, provided, _>>_}
 use Rattle.lists.specs.Lists.{Bytes, same}
-use Rattle.lists.proofs.ChoiceLaws.{bind-at, bind-none, given-bind, choose-true, choose-false, test-some, bind-some, map-some}
+use Rattle.lists.proofs.ChoiceLaws.{bind-at, bind-none, given-bind, choose-true, choose-false, test-some}
+use Rattle.lists.proofs.ChoiceLaws.{bind-some, map-some}
 use Rattle.lines.specs.Number.{readNumber}
-use Rattle.lines.specs.Hex.{readHex, spelledLength}
+use Rattle.lines.specs.Hex.{readHex, decodedLength}
 use Rattle.lines.specs.Field.{Field, number, bytes, Value, Values, readField, readFields}
 use Rattle.lines.specs.Line.{tab, Form, partsAt, before, after, readAfter, readLine}
 use Rattle.lines.specs.Cursor.{fieldAt, fieldsFrom, readAt, wordAt}
 use Rattle.lines.proofs.LineLaws.{parts-last, parts-more}
-use Rattle.lines.proofs.PlaceLaws.{before-front, after-at}
+use Rattle.lines.proofs.OffsetLaws.{before-front, after-at}
 use Rattle.lines.proofs.CursorLaws.{read-beyond, read-some, word-beyond}
-use Rattle.lines.proofs.SpellingLaws.{spelled-some}
+use Rattle.lines.proofs.HexLengthLaws.{decoded-some}
 use Rattle.lines.proofs.SectionLaws.{before-free, split-before, all-before, before-short}
 
 -- a field's value before those of the fields after it
 abbrev pub withRest : (f : Field) (fs : List Field) → Value f → Option (Values fs) → Option (Values (f ∷ fs))
 withRest f fs v o = bind o (λ (vs : Values fs). some (v, vs))
 
--- a field that spells a byte string of fitting length reads as that string
+-- a field that encodes a byte string of fitting length reads as that string
 pub field-fits : (fits : ℕ → Bool) (f b : Bytes) → readHex f ≡ some b → fits (length b) ≡ true → readField (bytes fits) f ≡ some b
 unfolding readField bind _>>_
 field-fits fits f b e t = rw (e, t) refl
@@ -37,7 +39,7 @@ pub field-unfit : (fits : ℕ → Bool) (f b : Bytes) → readHex f ≡ some b �
 unfolding readField bind _>>_
 field-unfit fits f b e t = rw (e, t) refl
 
--- nor does one that spells none
+-- nor does one that encodes none
 pub field-not : (fits : ℕ → Bool) (f : Bytes) → readHex f ≡ none → readField (bytes fits) f ≡ none
 unfolding readField bind
 field-not fits f e = rw e refl
@@ -59,7 +61,7 @@ module _ (l : Bytes) where
   unfolding fieldsFrom
   fields-beyond at h = choose-false (leb at (length l)) (λ _. partsAt tab (drop at l)) (λ _. []) (lt-leb at (length l) h)
 
-  -- up to there they are the field at the place, and those after it
+  -- up to there they are the field at the offset, and those after it
   pub fields-here : (at : ℕ) → at ≤ length l → fieldsFrom l at ≡ fieldAt l at ∷ fieldsFrom l (at + length (fieldAt l at) + 1)
   unfolding fieldsFrom fieldAt
   fields-here at h =
@@ -85,14 +87,14 @@ module _ (l : Bytes) where
 
   -- ---- one field
 
-  -- the field at a place, and the place after it
+  -- the field at an offset, and the offset after it
   pub record FieldHere (at next : ℕ) : Type 0 where
     pub begins : at ≤ length l
     pub nextIs : next ≡ at + length (fieldAt l at) + 1
     pub within : next ≤ length l + 1
     pub part : take (next - 1 - at) (drop at l) ≡ fieldAt l at
 
-  -- a field stands at each place up to the line's end
+  -- a field stands at each offset up to the line's end
   pub field-here : (at : ℕ) → at ≤ length l → FieldHere at (at + length (fieldAt l at) + 1)
   unfolding fieldAt
   field-here at h =
@@ -103,7 +105,7 @@ module _ (l : Bytes) where
       record { begins = h; nextIs = refl; within = omega (arith, length-drop at l); part = ap (λ (k : ℕ). take k (drop at l)) n ∙ sym f }
 
   module _ {A : Type 0} (read : Bytes → Option A) (at : ℕ) where
-    -- what was read at a place was read of the field there
+    -- what was read at an offset was read of the field there
     pub here-read : (a : A) (next : ℕ) → readAt read l at ≡ some (a, next) → FieldHere at next × (read (fieldAt l at) ≡ some a)
     unfolding readAt
     here-read a next e =
@@ -132,7 +134,7 @@ module _ (l : Bytes) where
   unfolding readLine
   read-form f = ap (readAfter (f .words) (f .fields)) fields-start
 
-  -- the word at a place, if the field there is that word
+  -- the word at an offset, if the field there is that word
   pub word-here : (w : Bytes) (at : ℕ) → at ≤ length l → wordAt w l at ≡ provided (same (fieldAt l at) w) (at + length (fieldAt l at) + 1)
   unfolding wordAt readAt _>>_ bind provided
   word-here w at h = rw (le-leb at (length l) h) (go (same (fieldAt l at) w))
@@ -193,7 +195,7 @@ module _ (l : Bytes) where
   -- ---- a form read on, step by step
 
   module _ (w : Bytes) (ws : List Bytes) (fs : List Field) (at : ℕ) where
-    -- after a word the form is read on from the place after it
+    -- after a word the form is read on from the offset after it
     pub word-on : (next : ℕ) → wordAt w l at ≡ some next → readAfter (w ∷ ws) fs (fieldsFrom l at) ≡ readAfter ws fs (fieldsFrom l next)
     word-on next e = read-word w ws fs at ∙ bind-at (wordAt w l at) (λ (n : ℕ). readAfter ws fs (fieldsFrom l n)) next e
 
@@ -211,7 +213,7 @@ module _ (l : Bytes) where
     line-off e = read-form (wordForm w fs) ∙ word-off w [] fs 0 e
 
   module _ (f : Field) (fs : List Field) (at : ℕ) where
-    -- a field's value stands before those of the fields from the next place on
+    -- a field's value stands before those of the fields from the next offset on
     pub field-on : (v : Value f) (next : ℕ) → readAt (readField f) l at ≡ some (v, next)
         → readFields (f ∷ fs) (fieldsFrom l at) ≡ withRest f fs v (readFields fs (fieldsFrom l next))
     field-on v next e =
@@ -224,11 +226,11 @@ module _ (l : Bytes) where
         read-field-on f fs at
         ∙ bind-none (readAt (readField f) l at) (λ (x : Value f × ℕ). withRest f fs (x .0) (readFields fs (fieldsFrom l (x .1)))) e
 
-    -- after a field the fields are given if those from the next place on are
+    -- after a field the fields are given if those from the next offset on are
     pub field-given : (v : Value f) (next : ℕ) → readAt (readField f) l at ≡ some (v, next)
-        → given (readFields (f ∷ fs) (fieldsFrom l at)) ≡ given (readFields fs (fieldsFrom l next))
-    unfolding given
-    field-given v next e = ap given (field-on v next e) ∙ given-bind (readFields fs (fieldsFrom l next)) (λ (vs : Values fs). some (v, vs)) (λ vs. refl)
+        → isSome (readFields (f ∷ fs) (fieldsFrom l at)) ≡ isSome (readFields fs (fieldsFrom l next))
+    unfolding isSome
+    field-given v next e = ap isSome (field-on v next e) ∙ given-bind (readFields fs (fieldsFrom l next)) (λ (vs : Values fs). some (v, vs)) (λ vs. refl)
 
   -- ---- what a field is read as
 
@@ -237,31 +239,31 @@ module _ (l : Bytes) where
   unfolding readField
   read-number-on bound at = refl
 
-  -- a byte string that was spelled, with a length that fits
-  pub bytes-fit : (fits : ℕ → Bool) (at n next : ℕ) → readAt spelledLength l at ≡ some (n, next) → fits n ≡ true
+  -- a byte string that was encoded, with a length that fits
+  pub bytes-fit : (fits : ℕ → Bool) (at n next : ℕ) → readAt decodedLength l at ≡ some (n, next) → fits n ≡ true
       → (b : Bytes) × (readHex (fieldAt l at) ≡ some b) × (length b ≡ n) × (readAt (readField (bytes fits)) l at ≡ some (b, next))
-  unfolding spelledLength
+  unfolding decodedLength
   bytes-fit fits at n next e t =
-      let (f, r) = here-read spelledLength at n next e in
+      let (f, r) = here-read decodedLength at n next e in
       let (b, h, q) = map-some (λ (x : Bytes). length x) (readHex (fieldAt l at)) n r in
       let d = field-fits fits (fieldAt l at) b h (ap fits q ∙ t) in
       (b, h, q, read-some (readField (bytes fits)) l at (fieldAt l at) refl (f .begins) b d ∙ ap (λ (k : ℕ). some (b, k)) (sym (f .nextIs)))
 
   -- one with another length is not read
-  pub bytes-unfit : (fits : ℕ → Bool) (at n next : ℕ) → readAt spelledLength l at ≡ some (n, next) → fits n ≡ false → readAt (readField (bytes fits)) l at ≡ none
-  unfolding spelledLength
+  pub bytes-unfit : (fits : ℕ → Bool) (at n next : ℕ) → readAt decodedLength l at ≡ some (n, next) → fits n ≡ false → readAt (readField (bytes fits)) l at ≡ none
+  unfolding decodedLength
   bytes-unfit fits at n next e t =
-      let (f, r) = here-read spelledLength at n next e in
+      let (f, r) = here-read decodedLength at n next e in
       let (b, h, q) = map-some (λ (x : Bytes). length x) (readHex (fieldAt l at)) n r in
       read-not (readField (bytes fits)) at (field-unfit fits (fieldAt l at) b h (ap fits q ∙ t))
 
-  -- nor is a field that spells none
-  pub bytes-none : (fits : ℕ → Bool) (at : ℕ) → readAt spelledLength l at ≡ none → readAt (readField (bytes fits)) l at ≡ none
+  -- nor is a field that encodes none
+  pub bytes-none : (fits : ℕ → Bool) (at : ℕ) → readAt decodedLength l at ≡ none → readAt (readField (bytes fits)) l at ≡ none
   bytes-none fits at e = go (decLt (length l) at)
     where
       step : (o : Option Bytes) → readHex (fieldAt l at) ≡ o → at ≤ length l → readAt (readField (bytes fits)) l at ≡ none
       step none h b = read-not (readField (bytes fits)) at (field-not fits (fieldAt l at) h)
-      step (some x) h b = absurd (Option·none-ne-some (length x, at + length (fieldAt l at) + 1) (sym e ∙ read-some spelledLength l at (fieldAt l at) refl b (length x) (spelled-some (fieldAt l at) x h)))
+      step (some x) h b = absurd (Option·none-ne-some (length x, at + length (fieldAt l at) + 1) (sym e ∙ read-some decodedLength l at (fieldAt l at) refl b (length x) (decoded-some (fieldAt l at) x h)))
 
       go : Dec (length l < at) → readAt (readField (bytes fits)) l at ≡ none
       go (yes h) = read-beyond (readField (bytes fits)) l at h

@@ -1,4 +1,5 @@
--- Laws of byte strings in hex (specs/Hex.antt): what is written reads as itself, and what reads is what is written.
+-- Laws of byte strings in hex (specs/Hex.antt): what is written reads as itself, and what reads is
+-- what is written.
 use mathlib.Core.Path.{_≡_, refl, sym, _∙_, ap, ap₂}
 use mathlib.Core.Logic.{_⊎_, inl, inr}
 use mathlib.Core.Bool.{Bool, true, false, _&&_, _||_, cond}
@@ -16,7 +17,8 @@ use Rattle.lists.proofs.ChoiceLaws.{and-holds, holds-and, or-holds, provided-tr
 use Rattle.lists.proofs.ListLaws.{all-cons, cons-all, all-implied, same-refl, same-true, differ-same}
 use Rattle.hash.specs.Bytes.{AreBytes}
 use Rattle.lines.specs.Number.{ascii, isDigit}
-use Rattle.lines.specs.Hex.{dash, isHexDigit, digitValue, unhex, isHex, readHex, hexDigit, hex, hexField}
+use Rattle.lines.specs.Hex.{dash, isHexDigit, digitValue, unhex, isHex, readHex, hexDigit, hex}
+use Rattle.lines.specs.Hex.{hexField}
 use Rattle.lines.proofs.NumberLaws.{digit-bounds, is-digit, above-digits, isPlain, is-plain}
 
 -- ---- digits
@@ -113,7 +115,7 @@ hex-digit-high-bound b e h =
 
 -- ---- reading what is written
 
--- the digits of bytes spell them
+-- the digits of bytes encode them
 pub unhex-hex : (s : Bytes) → AreBytes s → unhex (hex s) ≡ s
 unfolding unhex hex
 unhex-hex [] h = refl
@@ -166,7 +168,7 @@ read-hex (b ∷ s) h = rw (hex-no-dash (b ∷ s), unhex-hex (b ∷ s) h) (provid
 
 -- ---- writing what is read
 
--- an even number of hex digits is what is written for the bytes that they spell
+-- an even number of hex digits is what is written for the bytes that they encode
 pub hex-unhex : (f : Bytes) → all isHexDigit f ≡ true → length f % 2 ≡ 0 → (hex (unhex f) ≡ f) × AreBytes (unhex f)
 unfolding unhex hex
 hex-unhex [] e h = (refl, tt)
@@ -181,7 +183,7 @@ hex-unhex (a ∷ b ∷ f) e h =
     let m : (digitValue a * 16 + digitValue b) % 16 ≡ digitValue b = omega arith in
     (rw (d, m, v, x, y) refl, (omega arith, z))
 
--- a field that is hex is what is written for the bytes that it spells
+-- a field that is hex is what is written for the bytes that it encodes
 pub hex-was : (f : Bytes) → isHex f ≡ true → (f ≡ hexField (unhex f)) × AreBytes (unhex f)
 unfolding hexField unhex
 hex-was f e =

@@ -1,12 +1,13 @@
 pub mod Computing
+pub mod LayoutLaws
 pub mod NumberLaws
 pub mod HexLaws
 pub mod FieldLaws
 pub mod LineLaws
-pub mod PlaceLaws
+pub mod OffsetLaws
 pub mod PartLaws
 pub mod SectionLaws
-pub mod SpellingLaws
+pub mod HexLengthLaws
 pub mod CursorLaws
 pub mod FormLaws
 pub mod ReadingLaws

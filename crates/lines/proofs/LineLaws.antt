@@ -1,8 +1,10 @@
--- Laws of lines and texts of lines (specs/Line.antt): what is written reads as itself, and what reads is what is written.
+-- Laws of lines and texts of lines (specs/Line.antt): what is written reads as itself, and what
+-- reads is what is written.
 use mathlib.Core.Path.{_≡_, refl, sym, _∙_, ap, ap₂}
 use mathlib.Core.Logic.{_⊎_, inl, inr}
 use mathlib.Core.Bool.{Bool, true, false, _&&_, cond}
-use mathlib.Core.List.{List, [], _∷_, _++_, map, flatMap, append-assoc, List·Memᴰ, List·Memᴰ·head, List·Memᴰ·tail, List·Memᴰ·cases-cons, List·Memᴰ·not-nil}
+use mathlib.Core.List.{List, [], _∷_, _++_, map, flatMap, append-assoc, List·Memᴰ, List·Memᴰ·head}
+use mathlib.Core.List.{List·Memᴰ·tail, List·Memᴰ·cases-cons, List·Memᴰ·not-nil}
 use mathlib.Core.Option.{Option, none, some, Option·elim}
 use Prim.Native.Nat.{ℕ, suc, _*_, _≤_, _<_}
 use native.Mathlib.Omega.{arith}
@@ -15,7 +17,8 @@ use Rattle.lists.proofs.ChoiceLaws.{and-holds, provided-some}
 use Rattle.lists.proofs.ListLaws.{last-snoc, but-last-snoc, snoc-last}
 use Rattle.lists.proofs.ListLaws.{all-cons, all-append, same-true, Lacks, lacks-append, all-lacks}
 use Rattle.lines.specs.Field.{writeFields}
-use Rattle.lines.specs.Line.{tab, newline, Form, Read, ontoFirst, partsAt, endedLines, openRest, readLines, readAfter, readLine, andThen, leading, joined, line, writeLine}
+use Rattle.lines.specs.Line.{tab, newline, Form, Read, ontoFirst, partsAt, endedLines, openRest}
+use Rattle.lines.specs.Line.{readLines, readAfter, readLine, andThen, leading, joined, line, writeLine}
 use Rattle.lines.proofs.NumberLaws.{isPlain}
 use Rattle.lines.proofs.FieldLaws.{arePlain, Fits, read-fields, read-after, after-read, fields-plain}
 
@@ -273,7 +276,8 @@ module _ {A : Type 0} (read : Bytes → Option A) where
       let i = leading-all text xs ls (λ b m. h b (List·Memᴰ·tail m)) e in
       leading-some (text x) (map text xs ++ ls) x (h x (List·Memᴰ·head refl)) ∙ rw i refl
 
-  -- if a line that reads is the text of its value, lines are the texts of the leading values and the lines after them
+  -- if a line that reads is the text of its value, lines are the texts of the leading values and
+  -- the lines after them
   pub leading-was : (text : A → Bytes) → ((l : Bytes) (a : A) → read l ≡ some a → l ≡ text a) → (ls : List Bytes)
       → ls ≡ map text (leading read ls .0) ++ leading read ls .1
   unfolding leading

@@ -1,4 +1,5 @@
--- Laws of decimal numbers (specs/Number.antt): what is written reads as itself, and what reads is what is written.
+-- Laws of decimal numbers (specs/Number.antt): what is written reads as itself, and what reads is
+-- what is written.
 use mathlib.Core.Path.{_≡_, refl, sym, _∙_, ap}
 use mathlib.Core.Bool.{Bool, true, false, _&&_, not, false≢true}
 use mathlib.Core.List.{[], _∷_, _++_, append-assoc, append-nil}
@@ -70,7 +71,8 @@ from-more : (k n : ℕ) → 10 ≤ n → decimalFrom (suc k) n ≡ decimalFrom k
 unfolding decimalFrom choose
 from-more k n h = rw (le-ltb n 10 h) refl
 
--- what holds of one digit, and of digits and one more if it holds of those without it, holds of a number written in steps enough
+-- what holds of one digit, and of digits and one more if it holds of those without it, holds of a
+-- number written in steps enough
 from-by : (P : ℕ → Bytes → Type 0) → ((n : ℕ) → n < 10 → P n ((48 + n) ∷ []))
     → ((n : ℕ) (s : Bytes) → 10 ≤ n → P (n / 10) s → P n (s ++ (48 + n % 10) ∷ [])) → (k n : ℕ) → n < k → P n (decimalFrom k n)
 from-by P one more zero n h = absurd (omega arith)
@@ -92,7 +94,8 @@ from-fuel k l n h = from-by (λ n s. (l : ℕ) → n < l → s ≡ decimalFrom l
     more n s p ih zero b = absurd (omega arith)
     more n s p ih (suc l) b = ap (λ (t : Bytes). t ++ (48 + n % 10) ∷ []) (ih l (omega arith)) ∙ sym (from-more l n p)
 
--- what holds of one digit, and of digits and one more if it holds of those without it, holds of every number that is written
+-- what holds of one digit, and of digits and one more if it holds of those without it, holds of
+-- every number that is written
 pub decimal-by : (P : ℕ → Bytes → Type 0) → ((n : ℕ) → n < 10 → P n ((48 + n) ∷ []))
     → ((n : ℕ) (s : Bytes) → 10 ≤ n → P (n / 10) s → P n (s ++ (48 + n % 10) ∷ [])) → (n : ℕ) → P n (decimal n)
 unfolding decimal
@@ -112,7 +115,7 @@ decimal-more n h =
 
 -- ---- reading what is written
 
--- what is written spells its number
+-- what is written encodes its number
 pub digits-decimal : (n : ℕ) → digitsAfter 0 (decimal n) ≡ n
 unfolding digitsAfter
 digits-decimal = decimal-by (λ n s. digitsAfter 0 s ≡ n) (λ n h. omega arith) more
@@ -175,14 +178,14 @@ decimal-plain n = all-implied isDigit isPlain (decimal n) (λ b h. is-plain b (o
 
 -- ---- writing what is read
 
--- a digit after those of a number that is not 0 is the last digit of what both spell
+-- a digit after those of a number that is not 0 is the last digit of what both encode
 decimal-snoc : (m b : ℕ) → 0 < m → 48 ≤ b → b ≤ 57 → decimal m ++ b ∷ [] ≡ decimal (m * 10 + (b - 48))
 decimal-snoc m b p l h =
     let d : (m * 10 + (b - 48)) / 10 ≡ m = omega arith in
     let r : 48 + (m * 10 + (b - 48)) % 10 ≡ b = omega arith in
     sym (decimal-more (m * 10 + (b - 48)) (omega arith) ∙ rw (d, r) refl)
 
--- digits after those of a number that is not 0 are the digits of what they spell with it
+-- digits after those of a number that is not 0 are the digits of what they encode with it
 decimal-digits-after : (s : Bytes) (m : ℕ) → 0 < m → all isDigit s ≡ true → decimal m ++ s ≡ decimal (digitsAfter m s)
 unfolding digitsAfter
 decimal-digits-after [] m p h = append-nil (decimal m)
@@ -193,13 +196,13 @@ decimal-digits-after (b ∷ s) m p h =
     ∙ ap (λ (t : Bytes). t ++ s) (decimal-snoc m b p l u)
     ∙ decimal-digits-after s (m * 10 + (b - 48)) (omega arith) (c .1)
 
--- one digit spells what is written as it
+-- one digit encodes what is written as it
 decimal-digit : (b : ℕ) → 48 ≤ b → b ≤ 57 → b ∷ [] ≡ decimal (0 * 10 + (b - 48))
 decimal-digit b l h =
     let e : 48 + (0 * 10 + (b - 48)) ≡ b = omega arith in
     sym (decimal-last (0 * 10 + (b - 48)) (omega arith) ∙ rw e refl)
 
--- a decimal number is what is written for the number that it spells
+-- a decimal number is what is written for the number that it encodes
 pub decimal-was : (s : Bytes) → isDecimal s ≡ true → s ≡ decimal (digitsAfter 0 s)
 unfolding isDecimal digitsAfter
 decimal-was [] e = absurd (false≢true e)

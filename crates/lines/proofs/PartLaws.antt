@@ -8,7 +8,7 @@ use lib.Seq.{take-all}
 use Rattle.lists.specs.Lists.{Bytes}
 use Rattle.lines.specs.declared.part.Part.{Part}
 use Rattle.lines.specs.Readings.{partOf}
-use Rattle.lines.proofs.PlaceLaws.{at-end}
+use Rattle.lines.proofs.OffsetLaws.{at-end}
 
 module _ (s : Bytes) (p : Part) where
   -- a part that starts beyond the end is empty

@@ -1,4 +1,5 @@
--- Laws of the readers of single fields: a decimal number digit by digit, a value of 32 bytes digit pair by digit pair.
+-- Laws of the readers of single fields: a decimal number digit by digit, a value of 32 bytes digit
+-- pair by digit pair.
 use mathlib.Core.Path.{_≡_, refl, sym, _∙_, ap}
 use mathlib.Core.Bool.{Bool, true, false, _&&_, false≢true}
 use mathlib.Core.List.{List, [], _∷_, _++_, append-nil}
@@ -23,11 +24,11 @@ use Rattle.lines.specs.Readings.{asDigest, digestIn}
 use Rattle.lines.proofs.NumberLaws.{is-digit}
 use Rattle.lines.proofs.HexLaws.{parts-hex, hex-unhex, hex-digits, length-hex, hexField-some}
 use Rattle.lines.proofs.FieldLaws.{field-read}
-use Rattle.lines.proofs.PlaceLaws.{at-cons, at-end}
+use Rattle.lines.proofs.OffsetLaws.{at-cons, at-end}
 
 -- ---- numbers
 
--- the number that digits after those of n spell with them, if it is not above a bound
+-- the number that digits after those of n encode with them, if it is not above a bound
 unfoldable pub numberAfter : ℕ → ℕ → Bytes → Option ℕ
 numberAfter bound n s = provided (all isDigit s && leb (digitsAfter n s) bound) (digitsAfter n s)
 
@@ -102,7 +103,7 @@ module _ (bound : ℕ) (s : Bytes) (i n : ℕ) where
 
 -- ---- values
 
--- a field that spells a value has 64 bytes, all of them digits; and the value has 32 bytes
+-- a field that encodes a value has 64 bytes, all of them digits; and the value has 32 bytes
 pub digest-was : (s v : Bytes) → readField (exactly digestLength) s ≡ some v
     → (length s ≡ 64) × (all isHexDigit s ≡ true) × (length v ≡ digestLength) × AreBytes v
 unfolding writeField
@@ -112,7 +113,7 @@ digest-was s v e =
     let q : s ≡ hex v = w ∙ hexField-some v (omega arith) in
     rw q (omega (arith, length-hex v), hex-digits v b, n, b)
 
--- a field that spells no value
+-- a field that encodes no value
 no-digest : (s : Bytes) → ((v : Bytes) → readField (exactly digestLength) s ≡ some v → ⊥) → digestIn s ≡ asDigest none
 unfolding digestIn
 no-digest s n = go (readField (exactly digestLength) s) refl
@@ -121,7 +122,7 @@ no-digest s n = go (readField (exactly digestLength) s) refl
     go none e = refl
     go (some v) e = absurd (n v e)
 
--- a field of another length spells none
+-- a field of another length encodes none
 pub digest-long : (s : Bytes) → (length s ≡ 64 → ⊥) → digestIn s ≡ asDigest none
 digest-long s n = no-digest s (λ v e. n (digest-was s v e .0))
 
@@ -129,7 +130,7 @@ digest-long s n = no-digest s (λ v e. n (digest-was s v e .0))
 pub digest-other : (s : Bytes) → all isHexDigit s ≡ false → digestIn s ≡ asDigest none
 digest-other s n = no-digest s (λ v e. false≢true (sym n ∙ digest-was s v e .1))
 
--- 64 digits spell the bytes of their pairs
+-- 64 digits encode the bytes of their pairs
 pub digest-some : (s : Bytes) → length s ≡ 64 → all isHexDigit s ≡ true → digestIn s ≡ asDigest (some (unhex s))
 unfolding digestIn readField readHex dash ascii
 digest-some s l a =
@@ -151,7 +152,7 @@ module _ (s : Bytes) (i : ℕ) where
   unfolding all
   digit-other h e = rw (at-cons s i h, e) refl
 
-  -- a pair of digits spells a byte
+  -- a pair of digits encodes a byte
   pub unhex-pair : i + 1 < length s → unhex (drop i s) ≡ (digitValue (getD s i 0) * 16 + digitValue (getD s (i + 1) 0)) ∷ unhex (drop (i + 2) s)
   unfolding unhex
   unhex-pair h =
@@ -159,7 +160,7 @@ module _ (s : Bytes) (i : ℕ) where
       let p : i + 1 + 1 ≡ i + 2 = omega arith in
       rw (at-cons s i l, at-cons s (i + 1) h, p) refl
 
-  -- no digits spell nothing
+  -- no digits encode nothing
   pub unhex-end : length s ≤ i → unhex (drop i s) ≡ []
   unfolding unhex
   unhex-end h = rw (at-end s i h) refl
@@ -181,7 +182,8 @@ module _ (s : Bytes) (i : ℕ) where
   pub digit-other-second : i + 1 < length s → isHexDigit (getD s i 0) ≡ true → isHexDigit (getD s (i + 1) 0) ≡ false → all isHexDigit (drop i s) ≡ false
   digit-other-second h d e = digit-one s i (omega arith) d ∙ digit-other s (i + 1) h e
 
--- one element more of a list that is filled from the front: what is filled and what is left stay the whole
+-- one element more of a list that is filled from the front: what is filled and what is left stay
+-- the whole
 pub fill-step : (r ys vs : List ℕ) (k v : ℕ) → k < length r → take k r ++ v ∷ ys ≡ vs → take (k + 1) (set r k v) ++ ys ≡ vs
 fill-step r ys vs k v h e = rw (add-one, take-suc-set r k v h, append-snoc) e
 

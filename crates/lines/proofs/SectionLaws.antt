@@ -1,4 +1,5 @@
--- Lines of a text from a place on (specs/Line.antt, specs/Cursor.antt): the line at a place, and sections, which are lines that follow each other.
+-- Lines of a text from an offset on (specs/Line.antt, specs/Cursor.antt): the line at an offset,
+-- and sections, which are lines that follow each other.
 use mathlib.Core.Path.{_≡_, refl, sym, _∙_, ap, ap₂}
 use mathlib.Core.Bool.{Bool, true, false}
 use mathlib.Core.List.{List, [], _∷_, _++_, append-assoc, append-nil}
@@ -14,8 +15,11 @@ use Rattle.lists.proofs.ChoiceLaws.{provided-some, provided-none}
 use Rattle.lists.proofs.ListLaws.{Lacks}
 use Rattle.lines.specs.Line.{newline, partsAt, before, after, endedLines, openRest, leading, joined}
 use Rattle.lines.specs.Cursor.{lineAt}
-use Rattle.lines.proofs.LineLaws.{AllLack, all-lack-append, parts-ended, joined-parts, parts-last, parts-more, parts-some, linesText, text-append, leading-end, leading-none, leading-some}
-use Rattle.lines.proofs.PlaceLaws.{at-end, before-stop, before-byte, after-stop, after-byte, before-front, before-at, after-at}
+use Rattle.lines.proofs.LineLaws.{AllLack, all-lack-append, parts-ended, joined-parts, parts-last}
+use Rattle.lines.proofs.LineLaws.{parts-more, parts-some, linesText, text-append, leading-end}
+use Rattle.lines.proofs.LineLaws.{leading-none, leading-some}
+use Rattle.lines.proofs.OffsetLaws.{at-end, before-stop, before-byte, after-stop, after-byte}
+use Rattle.lines.proofs.OffsetLaws.{before-front, before-at, after-at}
 
 -- ---- the first byte k of a string
 
@@ -104,7 +108,7 @@ joined-one : (k : ℕ) (p : Bytes) → p ≡ joined k (p ∷ [])
 unfolding joined
 joined-one k p = refl
 
--- ---- the line at a place
+-- ---- the line at an offset
 
 -- the line that stands there, and what follows it
 pub record LineHere (s : Bytes) (at stop next : ℕ) : Type 0 where
@@ -165,7 +169,7 @@ line-more s at h e f =
 
 -- ---- sections
 
--- from a place to another stand these lines, whole
+-- from an offset to another stand these lines, whole
 pub record Section (s : Bytes) (from at : ℕ) (ls : List Bytes) : Type 0 where
   pub forward : from ≤ at
   pub within : at ≤ length s
@@ -173,7 +177,7 @@ pub record Section (s : Bytes) (from at : ℕ) (ls : List Bytes) : Type 0 where
   pub part : take (at - from) (drop from s) ≡ linesText ls
   pub text : drop from s ≡ linesText ls ++ drop at s
 
--- none stand from a place to itself
+-- none stand from an offset to itself
 pub section-start : (s : Bytes) (from : ℕ) → from ≤ length s → Section s from from []
 section-start s from h = let z : from - from ≡ 0 = omega arith in record { forward = omega arith; within = h; lack = tt; part = rw z refl; text = refl }
 

@@ -1,4 +1,5 @@
--- Laws of writing into lent bytes (specs/Writing.antt): what stands there after a text is put into its place, and what each writer puts there step by step.
+-- Laws of writing into lent bytes (specs/Writing.antt): what stands there after a text is put into
+-- its offset, and what each writer puts there step by step.
 use mathlib.Core.Path.{_≡_, refl, sym, _∙_, ap}
 use mathlib.Core.List.{[], _∷_, _++_, append-assoc}
 use mathlib.Core.Option.{Option, Option·elim, none, some}
@@ -14,9 +15,9 @@ use Rattle.lists.specs.Choice.{choose, provided}
 use Rattle.lists.specs.Lists.{Bytes, written}
 use Rattle.lines.specs.Number.{ascii, decimal}
 use Rattle.lines.specs.Hex.{dash, hexDigit, hex, hexField}
-use Rattle.lines.specs.Writing.{placeAfter, putAt, placeAfterAny, putAny}
+use Rattle.lines.specs.Writing.{offsetAfter, putAt, offsetAfterAny, putAny}
 use Rattle.lines.proofs.NumberLaws.{decimal-last, decimal-more, decimal-some}
-use Rattle.lines.proofs.PlaceLaws.{at-cons, at-end}
+use Rattle.lines.proofs.OffsetLaws.{at-cons, at-end}
 
 -- ---- a text in its place
 
@@ -36,7 +37,7 @@ sets-append s at (b ∷ t) u =
     let e : suc at + length t ≡ at + length (b ∷ t) = omega arith in
     sets-append (set s at b) (suc at) t u ∙ ap (λ (i : ℕ). sets (sets (set s at b) (suc at) t) i u) e
 
--- a text written behind another is both written as one
+-- a text written after another is both written as one
 pub written-append : (s : Bytes) (at : ℕ) (t u : Bytes) → at + length t + length u ≤ length s
     → written (written s at t) (at + length t) u ≡ written s at (t ++ u)
 written-append s at t u h =
@@ -54,7 +55,7 @@ written-nil s at h = sym (written-sets s at [] (omega arith))
 
 -- ---- whether it fits
 
--- a text fits from a place on if it is no longer than what is there from that place on
+-- a text fits from an offset on if it is no longer than what is there from that offset on
 pub room-behind : (room at n : ℕ) → at ≤ room → leb n (room - at) ≡ leb (at + n) room
 room-behind room at n h = go (decLt (room - at) n)
   where
@@ -62,26 +63,26 @@ room-behind room at n h = go (decLt (room - at) n)
     go (yes p) = lt-leb n (room - at) p ∙ sym (lt-leb (at + n) room (omega arith))
     go (no p) = le-leb n (room - at) (omega arith) ∙ sym (le-leb (at + n) room (omega arith))
 
--- a text that fits is written, and the place is after it
+-- a text that fits is written, and the offset is after it
 pub put-fits : (s : Bytes) (at : ℕ) (t : Bytes) → at + length t ≤ length s
-    → (placeAfter s at t ≡ some (at + length t)) × (putAt s at t ≡ written s at t)
-unfolding placeAfter putAt choose provided
+    → (offsetAfter s at t ≡ some (at + length t)) × (putAt s at t ≡ written s at t)
+unfolding offsetAfter putAt choose provided
 put-fits s at t h = (rw (le-leb (at + length t) (length s) h) refl, rw (le-leb (at + length t) (length s) h) refl)
 
 -- a text that does not fit is not written
-pub put-over : (s : Bytes) (at : ℕ) (t : Bytes) → length s < at + length t → (placeAfter s at t ≡ none) × (putAt s at t ≡ s)
-unfolding placeAfter putAt choose provided
+pub put-over : (s : Bytes) (at : ℕ) (t : Bytes) → length s < at + length t → (offsetAfter s at t ≡ none) × (putAt s at t ≡ s)
+unfolding offsetAfter putAt choose provided
 put-over s at t h = (rw (lt-leb (at + length t) (length s) h) refl, rw (lt-leb (at + length t) (length s) h) refl)
 
 -- what may be a text is put as the text that it is
 pub put-some : (s : Bytes) (at : ℕ) (o : Option Bytes) (t : Bytes) → o ≡ some t
-    → (placeAfterAny s at o ≡ placeAfter s at t) × (putAny s at o ≡ putAt s at t)
-unfolding placeAfterAny putAny Option·elim
+    → (offsetAfterAny s at o ≡ offsetAfter s at t) × (putAny s at o ≡ putAt s at t)
+unfolding offsetAfterAny putAny Option·elim
 put-some s at o t e = (rw e refl, rw e refl)
 
 -- where it is none, nothing is put
-pub put-none : (s : Bytes) (at : ℕ) (o : Option Bytes) → o ≡ none → (placeAfterAny s at o ≡ none) × (putAny s at o ≡ s)
-unfolding placeAfterAny putAny Option·elim
+pub put-none : (s : Bytes) (at : ℕ) (o : Option Bytes) → o ≡ none → (offsetAfterAny s at o ≡ none) × (putAny s at o ≡ s)
+unfolding offsetAfterAny putAny Option·elim
 put-none s at o e = (rw e refl, rw e refl)
 
 -- ---- byte by byte
@@ -100,7 +101,7 @@ sets-done s t i e = rw e refl
 
 -- ---- decimal digits, from the last to the first
 
--- an element stored at a place, and those after it
+-- an element stored at an offset, and those after it
 stored-at : (s : Bytes) (i b : ℕ) → i < length s → drop i (set s i b) ≡ b ∷ drop (i + 1) s
 stored-at s i b h =
     let l : i < length (set s i b) = omega (arith, length-set s i b) in
@@ -122,7 +123,8 @@ module _ (n rest : ℕ) (s : Bytes) (i : ℕ) (h : i < length s) (e : decimal n 
       ∙ stored-at s i (48 + rest) h
       ∙ sym (e ∙ ap (λ (t : Bytes). t ++ drop (i + 1) s) (decimal-last rest m))
 
-  -- as long as two digits are left, there is a place before this one, if the number has no more digits than there are places
+  -- as long as two digits are left, there is an offset before this one, if the number has no more
+  -- digits than there are offsets
   pub digits-room : 10 ≤ rest → length (decimal n) ≤ length s → 0 < i
   digits-room m k =
       let a : length (decimal n) ≡ length (decimal rest) + length (drop (i + 1) s) = ap length e ∙ length-append (decimal rest) (drop (i + 1) s) in

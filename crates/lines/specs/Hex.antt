@@ -21,7 +21,7 @@ isHexDigit b = isDigit b || (leb 97 b && leb b 102)
 unfoldable pub digitValue : ℕ → ℕ
 digitValue b = cond (isDigit b) (b - 48) (b - 87)
 
--- the bytes that pairs of digits spell
+-- the bytes that pairs of digits encode
 unfoldable pub unhex : Bytes → Bytes
 unhex [] = []
 unhex (a ∷ []) = []
@@ -33,9 +33,9 @@ isHex s = ltb 0 (length s) && eqb (length s % 2) 0 && all isHexDigit s
 unfoldable pub readHex : Bytes → Option Bytes
 readHex s = cond (same s dash) (some []) (provided (isHex s) (unhex s))
 
--- the length of the byte string that a field spells
-unfoldable pub spelledLength : Bytes → Option ℕ
-spelledLength s = Option·map (λ (b : Bytes). length b) (readHex s)
+-- the length of the byte string that a field encodes
+unfoldable pub decodedLength : Bytes → Option ℕ
+decodedLength s = Option·map (λ (b : Bytes). length b) (readHex s)
 
 -- ---- writing
 

@@ -1,3 +1,4 @@
+pub mod Layout
 pub mod Number
 pub mod Hex
 pub mod Field

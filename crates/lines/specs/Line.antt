@@ -1,4 +1,5 @@
--- Texts of lines: fields parted by one tab, each line ended by the byte 0x0A (paper 01, Response lines).
+-- Texts of lines: fields parted by one tab, each line ended by the byte 0x0A (paper 01, Response
+-- lines).
 use mathlib.Core.Bool.{cond}
 use mathlib.Core.List.{List, [], _∷_, _++_}
 use mathlib.Core.Option.{Option, none, Option·elim, bind as _>>=_}
@@ -33,7 +34,8 @@ unfoldable pub partsAt : ℕ → Bytes → List Bytes
 partsAt k [] = [] ∷ []
 partsAt k (b ∷ s) = cond (eqb b k) ([] ∷ partsAt k s) (ontoFirst b (partsAt k s))
 
--- the bytes before the first k, all where there is none; the bytes after it, none where there is none
+-- the bytes before the first k, all where there is none; the bytes after it, none where there is
+-- none
 unfoldable pub before : ℕ → Bytes → Bytes
 before k [] = []
 before k (b ∷ s) = cond (eqb b k) [] (b ∷ before k s)

@@ -25,7 +25,7 @@ isDecimal [] = false
 isDecimal (b ∷ []) = isDigit b
 isDecimal (b ∷ c ∷ s) = not (eqb b 48) && all isDigit (b ∷ c ∷ s)
 
--- the number that the digits after those of n spell with them
+-- the number that the digits after those of n encode with them
 unfoldable pub digitsAfter : ℕ → Bytes → ℕ
 digitsAfter n [] = n
 digitsAfter n (b ∷ s) = digitsAfter (n * 10 + (b - 48)) s
@@ -38,7 +38,8 @@ readNumber bound s = provided (isDecimal s && leb (digitsAfter 0 s) bound) (digi
 
 unfoldable pub decimalFrom : ℕ → ℕ → Bytes
 decimalFrom zero n = []
-decimalFrom (suc k) n = choose (ltb n 10) (λ _. (48 + n) ∷ []) (λ _. decimalFrom k (n / 10) ++ (48 + n % 10) ∷ [])
+decimalFrom (suc k) n =
+    choose (ltb n 10) (λ _. (48 + n) ∷ []) (λ _. decimalFrom k (n / 10) ++ (48 + n % 10) ∷ [])
 
 unfoldable pub decimal : ℕ → Bytes
 decimal n = decimalFrom (n + 1) n

@@ -1,31 +1,32 @@
 // Reading on from a cursor: lines of a text, fields of a line (paper 01, Response lines).
 ghost use mathlib.Core.Path.{_≡_};
 ghost use Rattle.lines.specs.Number.{readNumber};
-ghost use Rattle.lines.specs.Hex.{spelledLength};
-ghost use Rattle.lines.specs.Cursor.{leftAt, lineAt, behind, fieldAt, readAt, wordAt};
+ghost use Rattle.lines.specs.Hex.{decodedLength};
+ghost use Rattle.lines.specs.Cursor.{leftAt, lineAt, past, fieldAt, readAt, wordAt};
 ghost use Rattle.lines.specs.Readings.{lineOf, wordOf, nextNumberOf, nextBytesOf};
-use crate::hex::Spelling;
-use crate::hex::spelled_length;
+use crate::hex::HexLength;
+use crate::hex::decoded_length;
 use crate::line::span;
 use crate::number::Number;
 use crate::number::read_number;
 use crate::part::equal;
 
-// A place in a text or in a line, from which it is read on. It goes in by value, and comes back with what was read, behind it.
+// An offset in a text or in a line, from which it is read on. It goes in by value, and comes back
+// with what was read, after it.
 pub struct Cursor {
     pub at: usize,
 }
 
-// A line, by the place of the newline that ends it; or what no newline ends.
+// A line, by the offset of the newline that ends it; or what no newline ends.
 pub enum NextLine {
     Ended { stop: usize, next: Cursor },
-    Open,
+    Unread,
 }
 
 // A field that is a certain word, or another.
 pub enum NextWord {
     Same(Cursor),
-    Other,
+    Unread,
 }
 
 // A field that is a decimal number not above a bound, or another.
@@ -34,10 +35,10 @@ pub enum NextNumber {
     Unread,
 }
 
-// A field that spells a byte string in hex, by that string's length, or another.
+// A field that encodes a byte string in hex, by that string's length, or another.
 pub enum NextBytes {
-    Spelled { length: usize, next: Cursor },
-    Unspelled,
+    Read { length: usize, next: Cursor },
+    Unread,
 }
 
 impl Cursor {
@@ -64,16 +65,16 @@ impl Cursor {
                 next: Cursor { at: stop + 1 },
             };
         }
-        NextLine::Open
+        NextLine::Unread
     }
 
-    // The place behind a line that was read here; this one, where no newline ended it.
-    pub fn behind(self, line: NextLine) -> usize
-        ensures { λ r. ⌜ r ≡ behind (lineOf line) (self .at) ⌝ }
+    // The offset after a line that was read here; this one, where no newline ended it.
+    pub fn past(self, line: NextLine) -> usize
+        ensures { λ r. ⌜ r ≡ past (lineOf line) (self .at) ⌝ }
     {
         match line {
             NextLine::Ended { stop: _, next } => next.at,
-            NextLine::Open => self.at,
+            NextLine::Unread => self.at,
         }
     }
 
@@ -95,7 +96,7 @@ impl Cursor {
     {
         let at = self.at;
         if line.len() < at {
-            return NextWord::Other;
+            return NextWord::Unread;
         }
         let f = self.field(line);
         if equal(f, word) {
@@ -103,7 +104,7 @@ impl Cursor {
                 at: at + f.len() + 1,
             });
         }
-        NextWord::Other
+        NextWord::Unread
     }
 
     // The same as a decimal number not above a bound.
@@ -122,27 +123,27 @@ impl Cursor {
                     at: at + f.len() + 1,
                 },
             },
-            Number::Broken => NextNumber::Unread,
+            Number::Unread => NextNumber::Unread,
         }
     }
 
     // The same as a byte string in hex.
     pub fn bytes(self, line: &[u8]) -> NextBytes
-        ensures { λ r. ⌜ nextBytesOf r ≡ readAt spelledLength (now (line .entry)) (self .at) ⌝ }
+        ensures { λ r. ⌜ nextBytesOf r ≡ readAt decodedLength (now (line .entry)) (self .at) ⌝ }
     {
         let at = self.at;
         if line.len() < at {
-            return NextBytes::Unspelled;
+            return NextBytes::Unread;
         }
         let f = self.field(line);
-        match spelled_length(f) {
-            Spelling::Length(length) => NextBytes::Spelled {
+        match decoded_length(f) {
+            HexLength::Read(length) => NextBytes::Read {
                 length,
                 next: Cursor {
                     at: at + f.len() + 1,
                 },
             },
-            Spelling::NotHex => NextBytes::Unspelled,
+            HexLength::Unread => NextBytes::Unread,
         }
     }
 }

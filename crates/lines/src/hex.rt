@@ -3,8 +3,9 @@ ghost use mathlib.Core.Path.{_≡_};
 ghost use mathlib.Core.Bool.{true};
 ghost use mathlib.Core.Option.{none};
 ghost use Prim.Native.Nat.{_<_};
-ghost use Rattle.lines.specs.Hex.{isHexDigit, digitValue, spelledLength};
-ghost use Rattle.lines.specs.Readings.{spellingOf, asDigest, digestIn};
+ghost use Rattle.lines.specs.Hex.{isHexDigit, digitValue, decodedLength};
+ghost use Rattle.lines.specs.Readings.{hexLengthOf, asDigest, digestIn};
+use crate::layout::Layout;
 use crate::part::equal;
 
 // A value of 32 bytes that was read, or none and zeros.
@@ -13,40 +14,41 @@ pub struct Digest {
     pub value: [u8; 32],
 }
 
-// The length of the byte string that a field spells, or it spells none.
-pub enum Spelling {
-    Length(usize),
-    NotHex,
+// The length of the byte string that a field encodes, or it encodes none.
+pub enum HexLength {
+    Read(usize),
+    Unread,
 }
 
-// The length of the byte string that a field spells: hex digits in pairs, or `-` for the empty string.
-pub fn spelled_length(s: &[u8]) -> Spelling
-    ensures { λ r. ⌜ spellingOf r ≡ spelledLength (now (s .entry)) ⌝ }
+// The length of the byte string that a field encodes: hex digits in pairs, or `-` for the empty
+// string.
+pub fn decoded_length(s: &[u8]) -> HexLength
+    ensures { λ r. ⌜ hexLengthOf r ≡ decodedLength (now (s .entry)) ⌝ }
 {
     if equal(s, b"-") {
-        return Spelling::Length(0);
+        return HexLength::Read(0);
     }
     if s.len() == 0 {
-        return Spelling::NotHex;
+        return HexLength::Unread;
     }
     if s.len() % 2 != 0 {
-        return Spelling::NotHex;
+        return HexLength::Unread;
     }
     let mut i: usize = 0;
     while i < s.len() {
         if !is_hex_digit(s[i]) {
-            return Spelling::NotHex;
+            return HexLength::Unread;
         }
         i += 1;
     }
-    Spelling::Length(s.len() / 2)
+    HexLength::Read(s.len() / 2)
 }
 
-// The value of 32 bytes that s spells, if it is exactly the digits of one.
+// The value of 32 bytes that s encodes, if it is exactly the digits of one.
 pub fn read_digest(s: &[u8]) -> Digest
     ensures { λ r. ⌜ r ≡ digestIn (now (s .entry)) ⌝ }
 {
-    if s.len() != 64 {
+    if s.len() != Layout::DIGITS {
         return no_digest();
     }
     let mut value = [0u8; 32];

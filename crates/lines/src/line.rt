@@ -4,7 +4,8 @@ ghost use Prim.Native.Nat.{_+_, _-_, _≤_};
 ghost use lib.ListN.{length, drop};
 ghost use Rattle.lines.specs.Line.{before};
 
-// The place of the first byte stop from a place on, or the end where there is none; a place beyond the end is answered itself.
+// The offset of the first byte stop from an offset on, or the end where there is none; an offset
+// beyond the end is answered itself.
 pub fn span(s: &[u8], at: usize, stop: u8) -> usize
     ensures value { λ r. ⌜ r ≡ at + length (before stop (drop at (now (s .entry)))) ⌝ }
     ensures within { λ r. ⌜ (at ≤ r) × (r - at ≤ length (now (s .entry)) - at) ⌝ }

@@ -3,7 +3,7 @@ ghost use mathlib.Core.Path.{_≡_};
 ghost use Rattle.lists.specs.Lists.{same};
 ghost use Rattle.lines.specs.Readings.{partOf};
 
-// A part of a text, by the places where it starts and stops.
+// A part of a text, by the offsets where it starts and stops.
 pub struct Part {
     pub start: usize,
     pub stop: usize,

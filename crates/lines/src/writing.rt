@@ -1,4 +1,5 @@
-// Writing into lent bytes from a place on: all other bytes stay, and what does not fit is not written at all.
+// Writing into lent bytes from an offset on: all other bytes stay, and what does not fit is not
+// written at all.
 ghost use mathlib.Core.Path.{_≡_};
 ghost use mathlib.Core.Option.{some, Option·getD};
 ghost use Prim.Native.Nat.{_+_, _*_, _≤_, _<_};
@@ -7,20 +8,20 @@ ghost use lib.ListN.{length};
 ghost use Rattle.lists.specs.Lists.{written};
 ghost use Rattle.lines.specs.Number.{decimal};
 ghost use Rattle.lines.specs.Hex.{unhex, readHex, hexDigit, hex, hexField};
-ghost use Rattle.lines.specs.Writing.{placeAfter, putAt, placeAfterAny, putAny};
+ghost use Rattle.lines.specs.Writing.{offsetAfter, putAt, offsetAfterAny, putAny};
 ghost use Rattle.lines.specs.Readings.{putOf};
-use crate::hex::Spelling;
+use crate::hex::HexLength;
+use crate::hex::decoded_length;
 use crate::hex::digit_value;
-use crate::hex::spelled_length;
 
-// The place after what was written, or nothing was.
+// The offset after what was written, or nothing was.
 pub enum Put {
     Next(usize),
     Unchanged,
 }
 
-// The place after what was put; where nothing was, the place that it was for.
-pub fn next_place(put: Put, at: usize) -> usize
+// The offset after what was put; where nothing was, the offset that it was for.
+pub fn next_offset(put: Put, at: usize) -> usize
     ensures { λ r. ⌜ r ≡ Option·getD (putOf put) at ⌝ }
 {
     match put {
@@ -34,7 +35,7 @@ const DECIMAL_DIGITS: usize = 20;
 
 // Bytes as they are.
 pub fn put_bytes(out: &mut [u8], at: usize, s: &[u8]) -> Put
-    ensures place { λ r. ⌜ putOf r ≡ placeAfter (now (out .entry)) at (now (s .entry)) ⌝ }
+    ensures offset { λ r. ⌜ putOf r ≡ offsetAfter (now (out .entry)) at (now (s .entry)) ⌝ }
     ensures bytes { λ r. ⌜ now (out .exit) ≡ putAt (now (out .entry)) at (now (s .entry)) ⌝ }
 {
     if !has_room(out.len(), at, s.len()) {
@@ -46,7 +47,7 @@ pub fn put_bytes(out: &mut [u8], at: usize, s: &[u8]) -> Put
 
 // A number in decimal digits.
 pub fn put_decimal(out: &mut [u8], at: usize, n: u64) -> Put
-    ensures place { λ r. ⌜ putOf r ≡ placeAfter (now (out .entry)) at (decimal n) ⌝ }
+    ensures offset { λ r. ⌜ putOf r ≡ offsetAfter (now (out .entry)) at (decimal n) ⌝ }
     ensures bytes { λ r. ⌜ now (out .exit) ≡ putAt (now (out .entry)) at (decimal n) ⌝ }
 {
     let mut digits = [0u8; DECIMAL_DIGITS];
@@ -61,9 +62,9 @@ pub fn put_decimal(out: &mut [u8], at: usize, n: u64) -> Put
     put_bytes(out, at, &digits[first..])
 }
 
-// A byte string as the field that spells it.
+// A byte string as the field that encodes it.
 pub fn put_hex(out: &mut [u8], at: usize, s: &[u8]) -> Put
-    ensures place { λ r. ⌜ putOf r ≡ placeAfter (now (out .entry)) at (hexField (now (s .entry))) ⌝ }
+    ensures offset { λ r. ⌜ putOf r ≡ offsetAfter (now (out .entry)) at (hexField (now (s .entry))) ⌝ }
     ensures bytes { λ r. ⌜ now (out .exit) ≡ putAt (now (out .entry)) at (hexField (now (s .entry))) ⌝ }
 {
     if s.len() == 0 {
@@ -79,24 +80,24 @@ pub fn put_hex(out: &mut [u8], at: usize, s: &[u8]) -> Put
     Put::Next(at + 2 * s.len())
 }
 
-// The byte string that a field spells; nothing where it spells none.
-pub fn put_spelled(out: &mut [u8], at: usize, field: &[u8]) -> Put
-    ensures place { λ r. ⌜ putOf r ≡ placeAfterAny (now (out .entry)) at (readHex (now (field .entry))) ⌝ }
+// The byte string that a field encodes; nothing where it encodes none.
+pub fn put_decoded(out: &mut [u8], at: usize, field: &[u8]) -> Put
+    ensures offset { λ r. ⌜ putOf r ≡ offsetAfterAny (now (out .entry)) at (readHex (now (field .entry))) ⌝ }
     ensures bytes { λ r. ⌜ now (out .exit) ≡ putAny (now (out .entry)) at (readHex (now (field .entry))) ⌝ }
 {
-    match spelled_length(field) {
-        Spelling::Length(count) => {
+    match decoded_length(field) {
+        HexLength::Read(count) => {
             if !has_room(out.len(), at, count) {
                 return Put::Unchanged;
             }
-            store_spelled(out, at, field);
+            store_decoded(out, at, field);
             Put::Next(at + count)
         }
-        Spelling::NotHex => Put::Unchanged,
+        HexLength::Unread => Put::Unchanged,
     }
 }
 
-// Whether so many bytes fit into a room from a place on.
+// Whether so many bytes fit into a room from an offset on.
 fn has_room(room: usize, at: usize, count: usize) -> bool
     ensures { λ r. ⌜ r ≡ leb (at + count) room ⌝ }
 {
@@ -140,9 +141,9 @@ fn hex_digit(d: u8) -> u8
     if d < 10 { b'0' + d } else { b'a' + (d - 10) }
 }
 
-// The bytes that a field spells, where they fit.
-fn store_spelled(out: &mut [u8], at: usize, field: &[u8])
-    requires spells { ⌜ readHex (now field) ≡ some (unhex (now field)) ⌝ }
+// The bytes that a field encodes, where they fit.
+fn store_decoded(out: &mut [u8], at: usize, field: &[u8])
+    requires decodes { ⌜ readHex (now field) ≡ some (unhex (now field)) ⌝ }
     requires room { ⌜ at + length (unhex (now field)) ≤ length (now out) ⌝ }
     ensures { λ r. ⌜ now (out .exit) ≡ written (now (out .entry)) at (unhex (now (field .entry))) ⌝ }
 {

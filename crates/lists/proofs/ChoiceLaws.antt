@@ -4,7 +4,7 @@ use mathlib.Core.Logic.{_⊎_, inl, inr}
 use mathlib.Core.Bool.{Bool, true, false, _&&_, _||_, false≢true}
 use mathlib.Core.List.{List, [], _∷_}
 use mathlib.Core.Option.{Option, none, some, bind, Option·map, Option·some-injective, Option·none-ne-some}
-use Rattle.lists.specs.Choice.{choose, provided, _>>_, given, orElse}
+use Rattle.lists.specs.Choice.{choose, provided, _>>_, isSome, orElse}
 use Rattle.lists.specs.Lists.{any, first}
 
 -- ---- two tests
@@ -105,7 +105,8 @@ unfolding bind
 bind-some none f b e = absurd (Option·none-ne-some b e)
 bind-some (some a) f b e = (a, refl, e)
 
--- what follows from both of two steps that give a value; the value between them stays a variable, so that long chains stay short
+-- what follows from both of two steps that give a value; the value between them stays a variable,
+-- so that long chains stay short
 pub bind-by : {A B R : Type 0} (o : Option A) (f : A → Option B) (b : B) → bind o f ≡ some b → ((a : A) → o ≡ some a → f a ≡ some b → R) → R
 bind-by o f b e k = let (a, p, q) = bind-some o f b e in k a p q
 
@@ -146,46 +147,46 @@ orElse-some (some b) p a e = inl e
 -- ---- whether there is a value
 
 -- where there is one, it is some value
-pub given-some : {A : Type 0} (o : Option A) → given o ≡ true → (a : A) × (o ≡ some a)
-unfolding given
+pub given-some : {A : Type 0} (o : Option A) → isSome o ≡ true → (a : A) × (o ≡ some a)
+unfolding isSome
 given-some none e = absurd (false≢true e)
 given-some (some a) e = (a, refl)
 
 -- where there is none, it is none
-pub given-none : {A : Type 0} (o : Option A) → given o ≡ false → o ≡ none
-unfolding given
+pub given-none : {A : Type 0} (o : Option A) → isSome o ≡ false → o ≡ none
+unfolding isSome
 given-none none e = refl
 given-none (some a) e = absurd (false≢true (sym e))
 
 -- none is not given
-pub none-given : {A : Type 0} (o : Option A) → o ≡ none → given o ≡ false
-unfolding given
+pub none-given : {A : Type 0} (o : Option A) → o ≡ none → isSome o ≡ false
+unfolding isSome
 none-given o e = rw e refl
 
 -- the first or the second is given if one of them is
-pub given-orElse : {A : Type 0} (o p : Option A) → given (orElse o p) ≡ (given o || given p)
-unfolding given orElse
+pub given-orElse : {A : Type 0} (o p : Option A) → isSome (orElse o p) ≡ (isSome o || isSome p)
+unfolding isSome orElse
 given-orElse none p = refl
 given-orElse (some a) p = refl
 
 -- a value under a test is given where the test holds
-pub given-provided : {A : Type 0} (t : Bool) (a : A) → given (provided t a) ≡ t
-unfolding given provided
+pub given-provided : {A : Type 0} (t : Bool) (a : A) → isSome (provided t a) ≡ t
+unfolding isSome provided
 given-provided true a = refl
 given-provided false a = refl
 
 -- what is made of a value is given where the value is
-pub given-bind : {A B : Type 0} (o : Option A) (f : A → Option B) → ((a : A) → given (f a) ≡ true) → given (bind o f) ≡ given o
-unfolding given bind
+pub given-bind : {A B : Type 0} (o : Option A) (f : A → Option B) → ((a : A) → isSome (f a) ≡ true) → isSome (bind o f) ≡ isSome o
+unfolding isSome bind
 given-bind none f h = refl
 given-bind (some a) f h = h a
 
 -- the first of which a test holds is given where the test holds of any
-pub given-first : {A : Type 0} (f : A → Bool) (xs : List A) → given (first f xs) ≡ any f xs
-unfolding first any given choose
+pub given-first : {A : Type 0} (f : A → Bool) (xs : List A) → isSome (first f xs) ≡ any f xs
+unfolding first any isSome choose
 given-first f [] = refl
 given-first f (x ∷ xs) = go (f x) (given-first f xs)
   where
-    go : (t : Bool) → given (first f xs) ≡ any f xs → given (choose t (λ _. some x) (λ _. first f xs)) ≡ (t || any f xs)
+    go : (t : Bool) → isSome (first f xs) ≡ any f xs → isSome (choose t (λ _. some x) (λ _. first f xs)) ≡ (t || any f xs)
     go true e = refl
     go false e = e

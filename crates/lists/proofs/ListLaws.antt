@@ -2,7 +2,8 @@
 use mathlib.Core.Path.{_≡_, refl, sym, _∙_, ap, ap₂}
 use mathlib.Core.Logic.{_⊎_, inl, inr, ⊎-elim}
 use mathlib.Core.Bool.{Bool, true, false, _&&_, _||_, false≢true}
-use mathlib.Core.List.{List, [], _∷_, _++_, map, List·Memᴰ, List·Memᴰ·head, List·Memᴰ·tail, List·Memᴰ·cases-cons, List·Memᴰ·not-nil, Memᴰ·append-right}
+use mathlib.Core.List.{List, [], _∷_, _++_, map, List·Memᴰ, List·Memᴰ·head, List·Memᴰ·tail}
+use mathlib.Core.List.{List·Memᴰ·cases-cons, List·Memᴰ·not-nil, Memᴰ·append-right}
 use mathlib.Core.Option.{some, Option·some-injective, Option·none-ne-some}
 use Prim.Native.Nat.{ℕ, zero, suc, _≤_, _<_}
 use native.Mathlib.Omega.{arith}
@@ -11,7 +12,8 @@ use lib.ListN.{length, getD, take, set, replicate}
 use borrow.Author.Tests.{eq-eqb, eqb-true, lt-ltb}
 use Rattle.lists.specs.Choice.{choose}
 use Rattle.lists.specs.Lists.{all, every, any, select, first, lastOr, allButLast, same, rising, largest}
-use Rattle.lists.proofs.ChoiceLaws.{and-holds, holds-and, or-holds, never-holds, choose-true, choose-false}
+use Rattle.lists.proofs.ChoiceLaws.{and-holds, holds-and, or-holds, never-holds, choose-true}
+use Rattle.lists.proofs.ChoiceLaws.{choose-false}
 
 -- ---- tests on lists
 

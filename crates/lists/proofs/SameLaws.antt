@@ -46,7 +46,7 @@ pub begins-none : (ys : List ℕ) → begins [] ys ≡ true
 unfolding begins
 begins-none ys = refl
 
--- one number begins what stands at a place where it is the number there
+-- one number begins what stands at an offset where it is the number there
 pub begins-here : (x : ℕ) (ys : List ℕ) (i : ℕ) → i < length ys → eqb x (getD ys i 0) ≡ begins (x ∷ []) (drop i ys)
 unfolding begins
 begins-here x ys i h = sym (ap (begins (x ∷ [])) (drop-cons ys i 0 h) ∙ and-true (eqb x (getD ys i 0)))
@@ -56,7 +56,7 @@ pub begins-end : (x : ℕ) (xs ys : List ℕ) (i : ℕ) → length ys ≤ i → 
 unfolding begins
 begins-end x xs ys i h = ap (begins (x ∷ xs)) (drop-of-length-le ys h)
 
--- what begins with something at a place goes on there
+-- what begins with something at an offset goes on there
 pub begins-within : (x : ℕ) (ys : List ℕ) (i : ℕ) → begins (x ∷ []) (drop i ys) ≡ true → i < length ys
 begins-within x ys i e = go (decLt i (length ys))
   where
@@ -64,23 +64,26 @@ begins-within x ys i e = go (decLt i (length ys))
     go (yes h) = h
     go (no h) = absurd (false≢true (sym (begins-end x [] ys i (omega arith)) ∙ e))
 
--- a list begins with a number and others where it begins with the number, and without its first element with the others
+-- a list begins with a number and others where it begins with the number, and without its first
+-- element with the others
 begins-first : (x : ℕ) (xs ys : List ℕ) → begins (x ∷ xs) ys ≡ (begins (x ∷ []) ys && begins xs (drop 1 ys))
 unfolding begins
 begins-first x xs [] = refl
 begins-first x xs (y ∷ ys) = ap (λ (b : Bool). b && begins xs ys) (sym (and-true (eqb x y)))
 
--- what stands at a place begins with the first number, and what follows it with the others
+-- what stands at an offset begins with the first number, and what follows it with the others
 pub begins-next : (x : ℕ) (xs ys : List ℕ) (i : ℕ) → begins (x ∷ xs) (drop i ys) ≡ (begins (x ∷ []) (drop i ys) && begins xs (drop (i + 1) ys))
 begins-next x xs ys i = begins-first x xs (drop i ys) ∙ ap (λ (l : List ℕ). begins (x ∷ []) (drop i ys) && begins xs l) (drop-drop 1 i ys)
 
--- a list is the same as one that begins with its first element, and without it is the same as the others
+-- a list is the same as one that begins with its first element, and without it is the same as the
+-- others
 same-first : (x : ℕ) (xs ys : List ℕ) → same (x ∷ xs) ys ≡ (begins (x ∷ []) ys && same xs (drop 1 ys))
 unfolding same begins
 same-first x xs [] = refl
 same-first x xs (y ∷ ys) = ap (λ (b : Bool). b && same xs ys) (sym (and-true (eqb x y)))
 
--- two lists are the same where the second begins with the first element of the first one, and the rest is the same
+-- two lists are the same where the second begins with the first element of the first one, and the
+-- rest is the same
 pub same-next : (x : ℕ) (xs ys : List ℕ) (i : ℕ) → same (x ∷ xs) (drop i ys) ≡ (begins (x ∷ []) (drop i ys) && same xs (drop (i + 1) ys))
 same-next x xs ys i = same-first x xs (drop i ys) ∙ ap (λ (l : List ℕ). begins (x ∷ []) (drop i ys) && same xs l) (drop-drop 1 i ys)
 

@@ -19,9 +19,9 @@ true >> a = a
 false >> a = none
 
 -- whether there is a value
-unfoldable pub given : {A : Type 0} → Option A → Bool
-given none = false
-given (some a) = true
+unfoldable pub isSome : {A : Type 0} → Option A → Bool
+isSome none = false
+isSome (some a) = true
 
 -- the first, or the second where the first is none
 unfoldable pub orElse : {A : Type 0} → Option A → Option A → Option A

@@ -52,7 +52,7 @@ unfoldable pub runs : {A : Type 0} → ℕ → ℕ → List A → List (List A)
 runs zero k s = []
 runs (suc n) k s = take k s ∷ runs n k (drop k s)
 
--- a list put into another from a place on, where it fits; all other elements stay
+-- a list put into another from an offset on, where it fits; all other elements stay
 unfoldable pub written : {A : Type 0} → List A → ℕ → List A → List A
 written s at t = take at s ++ t ++ drop (at + length t) s
 
@@ -85,7 +85,8 @@ unfalling (x ∷ y ∷ ys) = leb x y && unfalling (y ∷ ys)
 -- a number put into a rising list; one that is there already is not put twice
 unfoldable pub insert : ℕ → List ℕ → List ℕ
 insert x [] = x ∷ []
-insert x (y ∷ ys) = choose (ltb x y) (λ _. x ∷ y ∷ ys) (λ _. choose (eqb x y) (λ _. y ∷ ys) (λ _. y ∷ insert x ys))
+insert x (y ∷ ys) =
+    choose (ltb x y) (λ _. x ∷ y ∷ ys) (λ _. choose (eqb x y) (λ _. y ∷ ys) (λ _. y ∷ insert x ys))
 
 -- all numbers of the first list put into the second, a rising one
 unfoldable pub insertAll : List ℕ → List ℕ → List ℕ

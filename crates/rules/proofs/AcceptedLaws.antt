@@ -1,7 +1,8 @@
--- Accepted calls (specs/Refusals.antt): what none of the rules 6 to 16 applying says of them, and what they show.
+-- Accepted calls (specs/Refusals.antt): what none of the rules 6 to 16 applying says of them, and
+-- what they show.
 use mathlib.Core.Path.{_≡_, refl, ap, ap₂, _∙_}
 use mathlib.Core.Logic.{inl}
-use mathlib.Core.Bool.{true, false, _||_, false≢true}
+use mathlib.Core.Bool.{Bool, true, false, _||_, false≢true}
 use mathlib.Core.List.{List, [], _∷_, _++_, map, List·Memᴰ}
 use mathlib.Core.Option.{Option, some}
 use Prim.Native.Nat.{ℕ, _^_, _≤_, _<_}
@@ -17,13 +18,20 @@ use Rattle.tree.proofs.AskedLaws.{Entries, frontier-entries, paths-entries}
 use Rattle.tree.proofs.HistoryLaws.{Follows, string-of-entry}
 use Rattle.rules.specs.Limits.{treeSizeLimit}
 use Rattle.rules.specs.State.{MapEntry, State, positions, isValid}
-use Rattle.rules.specs.Response.{Target, Finding, searched, monitored, Entry, entryPositions, stepVersions, logEntry}
+use Rattle.rules.specs.Response.{Target, Finding, searched, monitored, Entry, entryPositions}
+use Rattle.rules.specs.Response.{stepVersions, logEntry}
 use Rattle.rules.specs.ResponseText.{readResponse}
-use Rattle.rules.specs.Search.{Asked, askedBySearch}
-use Rattle.rules.specs.Monitoring.{versionsReaching, versionsShown, monitoredPositions, askedByMonitoring}
+use Rattle.rules.specs.Kinds.{Asked, askedAt, KindRules}
+use Rattle.rules.specs.Search.{askedBySearch, searchRules}
+use Rattle.rules.specs.Monitoring.{versionsReaching, versionsShown, monitoredPositions}
+use Rattle.rules.specs.Monitoring.{askedByMonitoring, monitoringRules}
 use Rattle.rules.specs.Refusals.{Inputs, Call, passed, readCall}
-use Rattle.rules.specs.Refusals.{kindAsked, foreign, sizeWrong, targetWrong, askedBy, asked, stepsAskedBy, entriesAsked, notAsAsked, outputMissing, timesWrong, lookupFails, resultsWrong}
-use Rattle.rules.specs.Refusals.{known, historyDiffers, headDiffers, roomMissing, checks, lastChecks, judge}
+use Rattle.rules.specs.Refusals.{kindAsked, foreign, sizeWrong, targetWrong, kindRules, asked}
+use Rattle.rules.specs.Refusals.{entriesAsked, notAsAsked, outputMissing, timestampsWrong, lookupFails}
+use Rattle.rules.specs.Refusals.{resultsWrong}
+use Rattle.rules.specs.Refusals.{known, historyDiffers, headDiffers, roomMissing, checks, lastChecks}
+use Rattle.rules.specs.Refusals.{judge}
+use Rattle.rules.proofs.KindLaws.{search-rules, monitoring-rules}
 use Rattle.rules.proofs.StateLaws.{valid-was}
 use Rattle.rules.proofs.RefusalLaws.{NoneApplies, valid-some, accepted-meaning, readings-were}
 use Rattle.rules.proofs.PartsLaws.{response-fits}
@@ -59,7 +67,7 @@ logged-positions [] = refl
 logged-positions (e ∷ es) = ap (λ (l : List ℕ). e .position ∷ l) (logged-positions es)
 
 -- the positions of entries that are as asked are those asked for
-pub positions-asked : (f : Finding) (wanted : List Asked) (es : List Entry) → entriesAsked f wanted es ≡ true
+pub positions-asked : (f : List ℕ → List ℕ → Bool) (wanted : List Asked) (es : List Entry) → entriesAsked f wanted es ≡ true
     → map (λ (e : Entry). e .position) es ≡ map (λ (a : Asked). a .position) wanted
 unfolding entriesAsked
 positions-asked f [] [] h = refl
@@ -72,7 +80,8 @@ positions-asked f (a ∷ rest) (e ∷ es) h =
 
 -- the positions of entries asked for at some positions are these
 pub marked-positions : (versions : ℕ → List ℕ) (ps : List ℕ)
-    → map (λ (a : Asked). a .position) (map (λ (p : ℕ). record { position = p; versions = versions p }) ps) ≡ ps
+    → map (λ (a : Asked). a .position) (askedAt versions ps) ≡ ps
+unfolding askedAt
 marked-positions versions [] = refl
 marked-positions versions (p ∷ ps) = ap (λ (l : List ℕ). p ∷ l) (marked-positions versions ps)
 
@@ -87,26 +96,37 @@ unfolding askedByMonitoring monitoredPositions
 monitoring-asks n es = marked-positions (λ (x : ℕ). versionsShown (versionsReaching n es x)) (frontierAndPaths n (positions es))
 
 -- what is asked for are rising entries of the log up to its last
-asked-entries : (f : Finding) (n : ℕ) (es : List MapEntry) → Entries n (map (λ (a : Asked). a .position) (askedBy f n es))
-unfolding askedBy
-asked-entries (searched t) n es = rw (search-asks n (t .version)) (frontier-entries n)
-asked-entries monitored n es = rw (monitoring-asks n es) (paths-entries n (positions es))
+pub asked-entries : (c : Call) → Entries (c .parts .treeSize) (map (λ (a : Asked). a .position) (asked c))
+unfolding asked searchRules monitoringRules
+asked-entries c = go (c .parts .finding) refl
+  where
+    n : ℕ
+    n = c .parts .treeSize
+
+    entries : KindRules → List ℕ
+    entries k = map (λ (a : Asked). a .position) (k .entries)
+
+    go : (f : Finding) → c .parts .finding ≡ f → Entries n (entries (kindRules c))
+    go (searched t) q = rw (ap entries (search-rules c t q) ∙ search-asks n (t .version)) (frontier-entries n)
+    go monitored q =
+        let es = c .state .monitoringMap in
+        rw (ap entries (monitoring-rules c q) ∙ monitoring-asks n es) (paths-entries n (positions es))
 
 -- ---- rules that do not apply
 
 module _ (c : Call) where
   -- where 6 does not, the response is of the kind asked for, and has the label of the state
-  pub own-was : foreign c ≡ false → (kindAsked c ≡ true) × (c .parts .label ≡ c .state .label)
+  pub requested-was : foreign c ≡ false → (kindAsked c ≡ true) × (c .parts .label ≡ c .state .label)
   unfolding foreign
-  own-was e = let (a, l) = and-holds _ _ (not-false _ e) in (and-holds _ _ a .0, same-true _ _ l)
+  requested-was e = let (a, l) = and-holds _ _ (not-false _ e) in (and-holds _ _ a .0, same-true _ _ l)
 
   -- where 7 does not, the log has entries, not too many, and no fewer than before
-  pub size-was : sizeWrong c ≡ false → (0 < c .parts .size) × (c .parts .size ≤ treeSizeLimit) × (c .state .size ≤ c .parts .size)
+  pub size-was : sizeWrong c ≡ false → (0 < c .parts .treeSize) × (c .parts .treeSize ≤ treeSizeLimit) × (c .state .log .size ≤ c .parts .treeSize)
   unfolding sizeWrong
   size-was e =
-      let (a, d) = or-fails (eqb (c .parts .size) 0 || ltb treeSizeLimit (c .parts .size)) (ltb (c .parts .size) (c .state .size)) e in
-      let (z, l) = or-fails (eqb (c .parts .size) 0) (ltb treeSizeLimit (c .parts .size)) a in
-      (omega (arith, eqb-false (c .parts .size) 0 z), ltb-false treeSizeLimit (c .parts .size) l, ltb-false (c .parts .size) (c .state .size) d)
+      let (a, d) = or-fails (eqb (c .parts .treeSize) 0 || ltb treeSizeLimit (c .parts .treeSize)) (ltb (c .parts .treeSize) (c .state .log .size)) e in
+      let (z, l) = or-fails (eqb (c .parts .treeSize) 0) (ltb treeSizeLimit (c .parts .treeSize)) a in
+      (omega (arith, eqb-false (c .parts .treeSize) 0 z), ltb-false treeSizeLimit (c .parts .treeSize) l, ltb-false (c .parts .treeSize) (c .state .log .size) d)
 
   module _ (e : notAsAsked c ≡ false) where
     -- where 9 does not, the entries are at the positions asked for
@@ -115,17 +135,20 @@ module _ (c : Call) where
     shown-asked =
         let (_, a) = every-cons _ _ (not-false _ e) in
         let (_, b) = every-cons _ _ a in
-        positions-asked (c .parts .finding) (asked c) (c .parts .entries) (every-cons _ _ b .0)
+        positions-asked (kindRules c .versionsFit) (asked c) (c .parts .entries) (every-cons _ _ b .0)
 
     -- in a search at those of the frontier
-    pub frontier-shown : (t : Target) → c .parts .finding ≡ searched t → entryPositions (c .parts) ≡ frontier (c .parts .size)
-    unfolding asked askedBy
-    frontier-shown t f = shown-asked ∙ rw f (search-asks (c .parts .size) (t .version))
+    pub frontier-shown : (t : Target) → c .parts .finding ≡ searched t → entryPositions (c .parts) ≡ frontier (c .parts .treeSize)
+    unfolding asked searchRules
+    frontier-shown t f =
+        shown-asked ∙ ap (λ (k : KindRules). map (λ (a : Asked). a .position) (k .entries)) (search-rules c t f)
+        ∙ search-asks (c .parts .treeSize) (t .version)
 
     -- and its steps are those of the ladder
     pub ladder-steps : (t : Target) → c .parts .finding ≡ searched t → stepVersions (c .parts) ≡ ladder (t .version)
-    unfolding notAsAsked stepsAskedBy
-    ladder-steps t f = same-true _ _ (every-cons _ _ (not-false _ e) .0) ∙ rw f refl
+    unfolding notAsAsked searchRules
+    ladder-steps t f =
+        same-true _ _ (every-cons _ _ (not-false _ e) .0) ∙ ap (λ (k : KindRules). k .steps) (search-rules c t f)
 
 -- ---- all of them
 
@@ -136,7 +159,7 @@ pub record Unrefused (c : Call) : Type 0 where
   pub target : targetWrong c ≡ false
   pub asAsked : notAsAsked c ≡ false
   pub outputs : outputMissing c ≡ false
-  pub times : timesWrong c ≡ false
+  pub timestamps : timestampsWrong c ≡ false
   pub lookups : lookupFails c ≡ false
   pub results : resultsWrong c ≡ false
   pub history : historyDiffers c ≡ false
@@ -158,7 +181,7 @@ module _ (c : Call) (h : Accepted c) where
         target = r6 .1 .1 .0;
         asAsked = r9 .0;
         outputs = r9 .1 .0;
-        times = r9 .1 .1 .0;
+        timestamps = r9 .1 .1 .0;
         lookups = r12 .0;
         results = r12 .1 .0;
         history = r12 .1 .1 .0;
@@ -167,17 +190,15 @@ module _ (c : Call) (h : Accepted c) where
       }
 
   -- the log has entries, not too many, and no fewer than before
-  pub size-fits : (0 < c .parts .size) × (c .parts .size ≤ treeSizeLimit) × (c .state .size ≤ c .parts .size)
+  pub size-fits : (0 < c .parts .treeSize) × (c .parts .treeSize ≤ treeSizeLimit) × (c .state .log .size ≤ c .parts .treeSize)
   size-fits = size-was c (rules-passed .size)
 
   -- the entries shown are rising entries of the log up to its last
-  pub shown-entries : Entries (c .parts .size) (entryPositions (c .parts))
-  unfolding asked
-  shown-entries =
-      rw (shown-asked c (rules-passed .asAsked)) (asked-entries (c .parts .finding) (c .parts .size) (c .state .monitoringMap))
+  pub shown-entries : Entries (c .parts .treeSize) (entryPositions (c .parts))
+  shown-entries = rw (shown-asked c (rules-passed .asAsked)) (asked-entries c)
 
   -- the walk shows the last entry, and kept values and nodes are as long as digests
-  pub call-follows : Follows (c .parts .size) (known c) (entryPositions (c .parts)) (c .parts .nodes)
+  pub call-follows : Follows (c .parts .treeSize) (known c) (entryPositions (c .parts)) (c .parts .nodes)
   unfolding known
   call-follows =
       let (p, _, g) = size-fits in
@@ -196,5 +217,5 @@ module _ (c : Call) (h : Accepted c) where
       (mapped-at logEntry (c .parts .entries) e m)
 
   -- its time has 8 bytes
-  pub shown-time : (e : Entry) → List·Memᴰ e (c .parts .entries) → e .time < 2 ^ 64
-  shown-time e m = let t = response-fits (c .inputs .response) (c .parts) (h .reads) .entries e m .time in omega arith
+  pub shown-timestamp : (e : Entry) → List·Memᴰ e (c .parts .entries) → e .timestamp < 2 ^ 64
+  shown-timestamp e m = let t = response-fits (c .inputs .response) (c .parts) (h .reads) .entries e m .timestamp in omega arith

@@ -1,5 +1,6 @@
--- The second claim of demand 3 (specs/Consistency.antt, `ChainsAgree`): on a chain of calls each entry is shown with one time and one prefix root, or the strings
--- that the accepted calls hashed break SHA-256.
+-- The second claim of demand 3 (specs/Consistency.antt, `ChainsAgree`): on a chain of calls each
+-- entry is shown with one time and one prefix root, or the strings that the accepted calls hashed
+-- break SHA-256.
 --
 -- A state of m entries keeps the values of the full subtrees of m. It holds an entry fast if from the value kept of the full subtree in which the entry lies a way
 -- leads down to the entry's leaf string, all of whose strings were hashed by calls of the chain.
@@ -13,7 +14,9 @@
 use mathlib.Core.Path.{_≡_, refl, sym, ap, _∙_, subst}
 use mathlib.Core.Logic.{_⊎_, inl, inr, ⊎-elim}
 use mathlib.Core.Bool.{Bool, true, false}
-use mathlib.Core.List.{List, [], _∷_, map, flatMap, List·Memᴰ, List·Memᴰ·head, List·Memᴰ·tail, List·Memᴰ·cases-cons, List·Memᴰ·not-nil, List·Memᴰ·append-cases, Memᴰ·append-left, Memᴰ·append-right}
+use mathlib.Core.List.{List, [], _∷_, map, flatMap, List·Memᴰ, List·Memᴰ·head, List·Memᴰ·tail}
+use mathlib.Core.List.{List·Memᴰ·cases-cons, List·Memᴰ·not-nil, List·Memᴰ·append-cases, Memᴰ·append-left}
+use mathlib.Core.List.{Memᴰ·append-right}
 use mathlib.Core.Option.{Option, none, some}
 use Prim.Native.Nat.{ℕ, _<_, _^_}
 use lib.Dec.{eqb}
@@ -27,20 +30,23 @@ use Rattle.tree.proofs.CollisionLaws.{_>>=_, all-or, ByteStrings, Within}
 use Rattle.tree.proofs.HistoryLaws.{Binds, Meets, walk-binds, walk-carries, binds-one, entry-string-one}
 use Rattle.rules.specs.State.{State}
 use Rattle.rules.specs.Response.{Entry, entryPositions, logEntry}
-use Rattle.rules.specs.Refusals.{Inputs, Call, Judgement, refused, passed, known, logWalk, historyDiffers, judge}
-use Rattle.rules.specs.Calls.{nextState, stateAfter}
+use Rattle.rules.specs.Refusals.{Inputs, Call, Judgement, refused, passed, known, logWalk}
+use Rattle.rules.specs.Refusals.{historyDiffers, judge}
+use Rattle.rules.specs.Calls.{nextLog, nextState, stateAfter}
 use Rattle.rules.specs.Hashed.{hashed}
-use Rattle.rules.specs.Consistency.{AreByteInputs, IsByteState, accepted, acceptedCalls, shownBy, ChainsAgree}
+use Rattle.rules.specs.Consistency.{AreByteInputs, IsByteState, accepted, acceptedCalls, shownBy}
+use Rattle.rules.specs.Consistency.{ChainsAgree}
 use Rattle.rules.proofs.RefusalLaws.{valid-some, accepted-meaning, readings-were}
-use Rattle.rules.proofs.AcceptedLaws.{Accepted, accepted-call, rules-passed, shown-entries, call-follows, shown-string, shown-time}
+use Rattle.rules.proofs.AcceptedLaws.{Accepted, accepted-call, rules-passed, shown-entries}
+use Rattle.rules.proofs.AcceptedLaws.{call-follows, shown-string, shown-timestamp}
 use Rattle.rules.proofs.HashedLaws.{ByteCall, walk-listed, call-bytes, bytes-hashed, bytes-next}
 
 -- ---- what a state holds fast
 
--- an entry, by strings of S
+-- an entry, by strings of S: only what it keeps of the log counts
 abbrev pub HoldsFast : List Bytes → Option State → LogEntry → Type 0
 HoldsFast S none e = ⊥
-HoldsFast S (some s) e = Binds (s .size) (s .values) (e .position) (logLeafString e) S × (e .time < 2 ^ 64)
+HoldsFast S (some s) e = Binds (s .log .size) (s .log .values) (e .position) (logLeafString e) S × (e .timestamp < 2 ^ 64)
 
 -- an accepted call got the state that it was judged with
 state-was : (s : Option State) (i : Inputs) (c : Call) → judge s i ≡ passed c → s ≡ some (c .state)
@@ -56,18 +62,18 @@ module _ (S : List Bytes) (c : Call) (h : Accepted c) (f : Within (hashed c) S) 
 
   -- 1: its state holds fast each entry that it shows
   pub call-learns : (e : Entry) → List·Memᴰ e (c .parts .entries) → HoldsFast S (some (nextState c)) (logEntry e)
-  unfolding nextState logWalk logEntry known
+  unfolding nextState nextLog logWalk logEntry known
   call-learns e m =
       let i = mapped-at (λ (x : Entry). x .position) (c .parts .entries) e m in
-      let b = walk-binds (c .parts .size) (known c) (entryPositions (c .parts)) (c .parts .nodes) S (call-follows c h) call-meets (e .position)
+      let b = walk-binds (c .parts .treeSize) (known c) (entryPositions (c .parts)) (c .parts .nodes) S (call-follows c h) call-meets (e .position)
       (shown-entries c h .within (e .position) i) i in
-      (rw (shown-string c h e m) at b, shown-time c h e m)
+      (rw (shown-string c h e m) at b, shown-timestamp c h e m)
 
   -- 2: and what the state before held fast
   pub call-carries : (e : LogEntry) → HoldsFast S (some (c .state)) e → HoldsFast S (some (nextState c)) e
-  unfolding nextState logWalk known
+  unfolding nextState nextLog logWalk known
   call-carries e (b, t) =
-      (walk-carries (c .parts .size) (known c) (entryPositions (c .parts)) (c .parts .nodes) S (call-follows c h) call-meets (e .position) (logLeafString e) b, t)
+      (walk-carries (c .parts .treeSize) (known c) (entryPositions (c .parts)) (c .parts .nodes) S (call-follows c h) call-meets (e .position) (logLeafString e) b, t)
 
 -- ---- a chain of calls
 
@@ -76,7 +82,8 @@ unfoldable pub stateAfterAll : Option State → List Inputs → Option State
 stateAfterAll s [] = s
 stateAfterAll s (i ∷ is) = stateAfterAll (stateAfter s (judge s i)) is
 
--- what holds of each accepted call of a chain holds of the first call, if it was accepted, and of each accepted call after it
+-- what holds of each accepted call of a chain holds of the first call, if it was accepted, and of
+-- each accepted call after it
 module _ (P : Call → Type 0) (s : Option State) (i : Inputs) (is : List Inputs) (h : (c : Call) → List·Memᴰ c (acceptedCalls s (i ∷ is)) → P c) where
   first-of : (c : Call) → judge s i ≡ passed c → P c
   unfolding acceptedCalls accepted
@@ -161,14 +168,14 @@ chain-bytes s (i ∷ is) b h c m =
 
 -- one time and one prefix root
 abbrev Same : LogEntry → LogEntry → Type 0
-Same x y = (x .time ≡ y .time) × (x .prefixRoot ≡ y .prefixRoot)
+Same x y = (x .timestamp ≡ y .timestamp) × (x .prefixRoot ≡ y .prefixRoot)
 
 -- 4: two entries with one position that a state holds fast
 fast-one : (S : List Bytes) → ByteStrings S → (s : Option State) (x y : LogEntry) → HoldsFast S s x → HoldsFast S s y → x .position ≡ y .position
     → Same x y ⊎ Broken S
 fast-one S b none x y h k e = absurd h
 fast-one S b (some s) x y (h, t) (k, u) e = do
-  q ← binds-one b h (subst (λ (p : ℕ). Binds (s .size) (s .values) p (logLeafString y) S) (sym e) k)
+  q ← binds-one b h (subst (λ (p : ℕ). Binds (s .log .size) (s .log .values) p (logLeafString y) S) (sym e) k)
   inl (entry-string-one x y t u q)
 
 -- the second claim

@@ -1,5 +1,6 @@
--- The first claim of demand 3 (specs/Consistency.antt, `SearchesAgree`): two accepted searches for one label in one log yield one version, opening and value, or the
--- strings that they hashed break SHA-256.
+-- The first claim of demand 3 (specs/Consistency.antt, `SearchesAgree`): two accepted searches for
+-- one label in one log yield one version, opening and value, or the strings that they hashed break
+-- SHA-256.
 --
 -- 1. Both show the last entry of the log, and the walks to the one log root lead down to it by the same turns; so they show it with one prefix root.
 -- 2. In it the ladder of each target is complete (rule 13): of its versions, those not above the target are looked up with success, the others without (rule 12).
@@ -19,7 +20,7 @@ use Rattle.lists.proofs.MemberLaws.{each-append}
 use Rattle.hash.specs.Bytes.{AreBytes}
 use Rattle.tree.specs.Ladder.{ladder}
 use Rattle.tree.specs.LogTree.{Walk, walkOf, stringAt, value, walkStrings}
-use Rattle.tree.specs.PrefixTree.{ownLeaf}
+use Rattle.tree.specs.PrefixTree.{searchedLeaf}
 use Rattle.tree.specs.Collisions.{Broken}
 use Rattle.tree.proofs.CollisionLaws.{_>>=_, ByteStrings, Within}
 use Rattle.tree.proofs.LadderLaws.{ladder-split, ladder-own}
@@ -31,10 +32,12 @@ use Rattle.rules.specs.Commitment.{commitmentTo}
 use Rattle.rules.specs.Refusals.{Call, known, logWalk, logRoot}
 use Rattle.rules.specs.Hashed.{hashed}
 use Rattle.rules.specs.Consistency.{OutputsAgree, SearchesAgree}
-use Rattle.rules.proofs.AcceptedLaws.{Accepted, accepted-call, rules-passed, ladder-steps, shown-entries, call-follows, shown-string, shown-time}
+use Rattle.rules.proofs.AcceptedLaws.{Accepted, accepted-call, rules-passed, ladder-steps}
+use Rattle.rules.proofs.AcceptedLaws.{shown-entries, call-follows, shown-string, shown-timestamp}
 use Rattle.rules.proofs.CommitmentLaws.{commitment-one}
 use Rattle.rules.proofs.HashedLaws.{ByteCall, walk-listed, strings-listed, call-bytes, bytes-hashed}
-use Rattle.rules.proofs.LastEntryLaws.{Shows, OutputsFit, last-entry, outputs-fit, opening-length, shows}
+use Rattle.rules.proofs.LastEntryLaws.{Shows, OutputsFit, last-entry, outputs-fit, opening-length}
+use Rattle.rules.proofs.LastEntryLaws.{shows}
 
 -- ---- two prefix trees with one root
 
@@ -52,7 +55,7 @@ module _ (S : List Bytes) (bytes : ByteStrings S) (root : Bytes) where
       let m′ : List·Memᴰ v (ladder t′) = rw (p .second) (Memᴰ·append-right (p .before) (List·Memᴰ·head refl)) in
       let (x, n, k) = h .missing v m (p .above) in
       let (b, k′) = h′ .there v m′ (p .upto) in
-      not-both S bytes (o v) root b x (z v m) n (subst (λ (u : Bytes). LeadsTo S u (ownLeaf b) root) (sym (a v m m′)) k′) k
+      not-both S bytes (o v) root b x (z v m) n (subst (λ (u : Bytes). LeadsTo S u (searchedLeaf b) root) (sym (a v m m′)) k′) k
 
   -- so the targets are equal
   versions-one : (o o′ : ℕ → Bytes) (t t′ : ℕ) (d d′ : Bytes) → OutputsFit o t → OutputsFit o′ t′ → SameOutputs o o′ t t′ → Shows S o t root d → Shows S o′ t′ root d′
@@ -68,7 +71,7 @@ module _ (S : List Bytes) (bytes : ByteStrings S) (root : Bytes) where
   commitments-one : (o o′ : ℕ → Bytes) (t : ℕ) (d d′ : Bytes) → SameOutputs o o′ t t → Shows S o t root d → Shows S o′ t root d′ → (d ≡ d′) ⊎ Broken S
   commitments-one o o′ t d d′ a h h′ =
       one-commitment S bytes (o t) root d d′ (h .own)
-      (subst (λ (u : Bytes). LeadsTo S u (ownLeaf d′) root) (sym (a t (ladder-own t) (ladder-own t))) (h′ .own))
+      (subst (λ (u : Bytes). LeadsTo S u (searchedLeaf d′) root) (sym (a t (ladder-own t) (ladder-own t))) (h′ .own))
 
 -- ---- two searches
 
@@ -76,7 +79,7 @@ module _ (S : List Bytes) (bytes : ByteStrings S) (root : Bytes) where
 target-equal : (t t′ : Target) → t .version ≡ t′ .version → t .opening ≡ t′ .opening → t .value ≡ t′ .value → t ≡ t′
 target-equal t t′ p q r = rw (p, q, r) refl
 
-module _ (c c′ : Call) (h : Accepted c) (h′ : Accepted c′) (b : ByteCall c) (b′ : ByteCall c′) (size : c .parts .size ≡ c′ .parts .size) (root : logRoot c ≡ logRoot c′) where
+module _ (c c′ : Call) (h : Accepted c) (h′ : Accepted c′) (b : ByteCall c) (b′ : ByteCall c′) (size : c .parts .treeSize ≡ c′ .parts .treeSize) (root : logRoot c ≡ logRoot c′) where
   -- all strings that the two hashed
   abbrev both : List Bytes
   both = hashed c ++ hashed c′
@@ -89,10 +92,10 @@ module _ (c c′ : Call) (h : Accepted c) (h′ : Accepted c′) (b : ByteCall c
       → (e .prefixRoot ≡ e′ .prefixRoot) ⊎ Broken both
   unfolding logRoot logWalk known logEntry
   roots-one e e′ i i′ q =
-      let n = c .parts .size in
+      let n = c .parts .treeSize in
       let m = mapped-at (λ (x : Entry). x .position) (c .parts .entries) e i in
       let m′ = mapped-at (λ (x : Entry). x .position) (c′ .parts .entries) e′ i′ in
-      let walked : ℕ → Walk = λ (k : ℕ). walkOf k (c′ .state .size) (entryPositions (c′ .parts)) in
+      let walked : ℕ → Walk = λ (k : ℕ). walkOf k (c′ .state .log .size) (entryPositions (c′ .parts)) in
       do
         w ← walks-agree n (known c) (known c′) (entryPositions (c .parts)) (entryPositions (c′ .parts)) (c .parts .nodes) (c′ .parts .nodes) both
             (call-follows c h .values-sized) (call-follows c′ h′ .values-sized) (call-follows c h .nodes-sized) (call-follows c′ h′ .nodes-sized)
@@ -101,7 +104,7 @@ module _ (c c′ : Call) (h : Accepted c) (h′ : Accepted c′) (b : ByteCall c
             (subst (λ (k : ℕ). Within (walkStrings (known c′) (walked k) (c′ .parts .nodes)) both) (sym size) (λ x k. Memᴰ·append-right (hashed c) (walk-listed c′ x k)))
             (e .position) (shown-entries c h .within (e .position) m) m (rw q m′)
         let z = sym (shown-string c h e i) ∙ w ∙ ap (stringAt (known c′ .entries)) q ∙ shown-string c′ h′ e′ i′
-        inl (entry-string-one (logEntry e) (logEntry e′) (shown-time c h e i) (shown-time c′ h′ e′ i′) z .1)
+        inl (entry-string-one (logEntry e) (logEntry e′) (shown-timestamp c h e i) (shown-timestamp c′ h′ e′ i′) z .1)
 
   -- 2 to 5
   module _ (t t′ : Target) (f : c .parts .finding ≡ searched t) (f′ : c′ .parts .finding ≡ searched t′) (label : c .parts .label ≡ c′ .parts .label)

@@ -1,4 +1,5 @@
--- The borders of the rules that need no hashing: what just passes and what just does not. antt computes each one.
+-- The borders of the rules that need no hashing: what just passes and what just does not. antt
+-- computes each one.
 use mathlib.Core.Path.{_≡_, refl}
 use mathlib.Core.Bool.{Bool, true, false}
 use mathlib.Core.List.{List, [], _∷_}
@@ -9,8 +10,13 @@ use Rattle.lists.specs.Lists.{Bytes}
 use Rattle.tree.specs.Ladder.{ladder}
 use Rattle.rules.specs.Limits.{stateTextLimit}
 use Rattle.rules.specs.State.{MapEntry, State}
-use Rattle.rules.specs.Response.{Finding, searched, monitored, Step, Result, included, absent, Lookup, Entry, Parts}
-use Rattle.rules.specs.Refusals.{Inputs, Call, refused, lengthsFit, sizeWrong, targetWrong, commitmentAsked, lookupsAsked, entriesAsked, timesWrong, stepCommitment, commitmentBy, untried, roomMissing}
+use Rattle.rules.specs.Response.{Finding, searched, monitored, Step, Result, included, absent, Lookup}
+use Rattle.rules.specs.Response.{Entry, Parts, targetOf}
+use Rattle.rules.specs.Kinds.{KindRules}
+use Rattle.rules.specs.Refusals.{Inputs, Call, refused, lengthsFit, rulesFor, sizeWrong, targetWrong}
+use Rattle.rules.specs.Refusals.{commitmentAsked}
+use Rattle.rules.specs.Refusals.{entriesAsked, timestampsWrong, stepCommitment, commitmentBy}
+use Rattle.rules.specs.Refusals.{roomMissing}
 use Rattle.rules.specs.Calls.{placed, textJudged, roomJudged}
 use Rattle.rules.proofs.Running.{opened, pair, blank-inputs, blank-configuration}
 use Rattle.rules.proofs.FormExamples.{pairs-below}
@@ -18,21 +24,25 @@ use Rattle.rules.proofs.FormExamples.{pairs-below}
 -- ---- calls as read, with what the rule in question looks at
 
 abbrev state : ℕ → ℕ → List MapEntry → State
-state m t es = record { label = []; size = m; time = t; values = []; monitoringMap = es }
+state m t es = record { label = []; log = record { size = m; timestamp = t; values = [] }; monitoringMap = es }
 
 abbrev target : ℕ → Bytes → Finding
 target t v = searched (record { version = t; opening = []; value = v })
 
 abbrev parts : ℕ → Finding → List Entry → Parts
-parts n f es = record { identifier = []; label = []; size = n; finding = f; steps = []; entries = es; nodes = [] }
+parts n f es = record { identifier = []; label = []; treeSize = n; finding = f; steps = []; entries = es; nodes = [] }
 
 abbrev entry : ℕ → ℕ → List Lookup → Entry
-entry p t ls = record { position = p; time = t; prefixRoot = []; lookups = ls }
+entry p t ls = record { position = p; timestamp = t; prefixRoot = []; lookups = ls }
 
 -- with a clock and bytes of output; max_ahead is 10 and max_behind 20
 abbrev call : State → Parts → ℕ → ℕ → Call
 call s p clock room =
     record { inputs = blank-inputs clock room; configuration = blank-configuration 10 20; state = s; outputs = []; parts = p }
+
+-- what a kind asks
+abbrev rules-of : Finding → KindRules
+rules-of f = rulesFor f (blank-configuration 10 20) (state 0 0 []) (parts 1 f [])
 
 -- ---- 1
 
@@ -103,25 +113,35 @@ size-and-target-borders =
 abbrev step : ℕ → Option Bytes → Step
 step v k = record { version = v; commitment = k }
 
+abbrev committed : Finding → Step → Bool
+committed f s = commitmentAsked (rules-of f .isCommitted) s
+
+abbrev versions-asked : Finding → List ℕ → List ℕ → Bool
+versions-asked f wanted shown = rules-of f .versionsFit wanted shown
+
 pub record Commitments : Type 0 where
-  pub below-given : commitmentAsked (target 2 []) (step 1 (some [])) ≡ true
-  pub below-left-out : commitmentAsked (target 2 []) (step 1 none) ≡ false
-  pub target-given : commitmentAsked (target 2 []) (step 2 (some [])) ≡ false
-  pub target-left-out : commitmentAsked (target 2 []) (step 2 none) ≡ true
-  pub above-given : commitmentAsked (target 2 []) (step 3 (some [])) ≡ false
-  pub above-left-out : commitmentAsked (target 2 []) (step 3 none) ≡ true
-  pub one-lookup : lookupsAsked (target 2 []) (ladder 2) (0 ∷ []) ≡ true
-  pub no-lookup : lookupsAsked (target 2 []) (ladder 2) [] ≡ false
-  pub whole-ladder : lookupsAsked (target 2 []) (ladder 2) (0 ∷ 1 ∷ 3 ∷ 2 ∷ []) ≡ true
-  pub beyond-ladder : lookupsAsked (target 2 []) (ladder 2) (0 ∷ 1 ∷ 3 ∷ 2 ∷ 4 ∷ []) ≡ false
-  pub off-ladder : lookupsAsked (target 2 []) (ladder 2) (0 ∷ 2 ∷ []) ≡ false
-  pub monitoring-all : lookupsAsked monitored (0 ∷ 1 ∷ []) (0 ∷ 1 ∷ []) ≡ true
-  pub monitoring-some : lookupsAsked monitored (0 ∷ 1 ∷ []) (0 ∷ []) ≡ false
+  pub monitoring-given : committed monitored (step 1 (some [])) ≡ true
+  pub monitoring-left-out : committed monitored (step 1 none) ≡ false
+  pub below-given : committed (target 2 []) (step 1 (some [])) ≡ true
+  pub below-left-out : committed (target 2 []) (step 1 none) ≡ false
+  pub target-given : committed (target 2 []) (step 2 (some [])) ≡ false
+  pub target-left-out : committed (target 2 []) (step 2 none) ≡ true
+  pub above-given : committed (target 2 []) (step 3 (some [])) ≡ false
+  pub above-left-out : committed (target 2 []) (step 3 none) ≡ true
+  pub one-lookup : versions-asked (target 2 []) (ladder 2) (0 ∷ []) ≡ true
+  pub no-lookup : versions-asked (target 2 []) (ladder 2) [] ≡ false
+  pub whole-ladder : versions-asked (target 2 []) (ladder 2) (0 ∷ 1 ∷ 3 ∷ 2 ∷ []) ≡ true
+  pub beyond-ladder : versions-asked (target 2 []) (ladder 2) (0 ∷ 1 ∷ 3 ∷ 2 ∷ 4 ∷ []) ≡ false
+  pub off-ladder : versions-asked (target 2 []) (ladder 2) (0 ∷ 2 ∷ []) ≡ false
+  pub monitoring-all : versions-asked monitored (0 ∷ 1 ∷ []) (0 ∷ 1 ∷ []) ≡ true
+  pub monitoring-some : versions-asked monitored (0 ∷ 1 ∷ []) (0 ∷ []) ≡ false
 
 pub commitments-borders : Commitments
 unfolding opened
 commitments-borders =
     record {
+      monitoring-given = refl;
+      monitoring-left-out = refl;
       below-given = refl;
       below-left-out = refl;
       target-given = refl;
@@ -139,7 +159,7 @@ commitments-borders =
 
 -- two entries are asked, at 3 and 5, without lookups
 abbrev asked-two : List Entry → Bool
-asked-two es = entriesAsked monitored (record { position = 3; versions = [] } ∷ record { position = 5; versions = [] } ∷ []) es
+asked-two es = entriesAsked (versions-asked monitored) (record { position = 3; versions = [] } ∷ record { position = 5; versions = [] } ∷ []) es
 
 pub record Entries : Type 0 where
   pub as-asked : asked-two (entry 3 0 [] ∷ entry 5 0 [] ∷ []) ≡ true
@@ -155,25 +175,25 @@ entries-borders = record { as-asked = refl; one-missing = refl; one-spare = refl
 -- ---- 11
 
 -- two entries, at 7 and 11, with times; m is 8, the kept time 50
-abbrev wrong-times : ℕ → ℕ → ℕ → Bool
-wrong-times clock t u = timesWrong (call (state 8 50 []) (parts 12 monitored (entry 7 t [] ∷ entry 11 u [] ∷ [])) clock 0)
+abbrev wrong-timestamps : ℕ → ℕ → ℕ → Bool
+wrong-timestamps clock t u = timestampsWrong (call (state 8 50 []) (parts 12 monitored (entry 7 t [] ∷ entry 11 u [] ∷ [])) clock 0)
 
-pub record Times : Type 0 where
-  pub all-equal : wrong-times 50 50 50 ≡ false
-  pub below-later : wrong-times 50 51 51 ≡ true
-  pub above-earlier : wrong-times 50 49 49 ≡ true
-  pub rising : wrong-times 50 49 51 ≡ false
-  pub falling : timesWrong (call (state 0 0 []) (parts 12 monitored (entry 7 51 [] ∷ entry 11 50 [] ∷ [])) 50 0) ≡ true
-  pub at-ahead : wrong-times 50 40 60 ≡ false
-  pub beyond-ahead : wrong-times 50 40 61 ≡ true
-  pub at-behind : wrong-times 70 40 50 ≡ false
-  pub beyond-behind : wrong-times 71 40 50 ≡ true
+pub record Timestamps : Type 0 where
+  pub all-equal : wrong-timestamps 50 50 50 ≡ false
+  pub below-later : wrong-timestamps 50 51 51 ≡ true
+  pub above-earlier : wrong-timestamps 50 49 49 ≡ true
+  pub rising : wrong-timestamps 50 49 51 ≡ false
+  pub falling : timestampsWrong (call (state 0 0 []) (parts 12 monitored (entry 7 51 [] ∷ entry 11 50 [] ∷ [])) 50 0) ≡ true
+  pub at-ahead : wrong-timestamps 50 40 60 ≡ false
+  pub beyond-ahead : wrong-timestamps 50 40 61 ≡ true
+  pub at-behind : wrong-timestamps 70 40 50 ≡ false
+  pub beyond-behind : wrong-timestamps 71 40 50 ≡ true
   -- sums are whole numbers
-  pub far-ahead : wrong-times (2 ^ 64 - 1) 40 (2 ^ 64 - 1) ≡ false
+  pub far-ahead : wrong-timestamps (2 ^ 64 - 1) 40 (2 ^ 64 - 1) ≡ false
 
-pub times-borders : Times
+pub timestamps-borders : Timestamps
 unfolding opened
-times-borders =
+timestamps-borders =
     record {
       all-equal = refl;
       below-later = refl;
@@ -197,11 +217,11 @@ pub record Paths : Type 0 where
   pub own-step : stepCommitment (step 0 (some (1 ∷ [])) ∷ step 1 (some (2 ∷ [])) ∷ step 3 (some (3 ∷ [])) ∷ []) 1 ≡ 2 ∷ []
   pub no-step : stepCommitment (step 0 (some (1 ∷ [])) ∷ []) 1 ≡ []
   -- below t the step's commitment counts
-  pub below-target : commitmentBy (target 1 []) [] (step 0 (some (1 ∷ [])) ∷ []) 0 ≡ 1 ∷ []
-  pub tried-at-target : untried (target 1 []) (looked 1 included) ≡ false
-  pub untried-above : untried (target 1 []) (looked 2 included) ≡ true
-  pub absence-tried : untried (target 1 []) (looked 2 absent) ≡ false
-  pub monitoring-tried : untried monitored (looked 2 included) ≡ false
+  pub below-target : commitmentBy (targetOf (target 1 [])) [] (step 0 (some (1 ∷ [])) ∷ []) 0 ≡ 1 ∷ []
+  pub tried-at-target : rules-of (target 1 []) .untried (looked 1 included) ≡ false
+  pub untried-above : rules-of (target 1 []) .untried (looked 2 included) ≡ true
+  pub absence-tried : rules-of (target 1 []) .untried (looked 2 absent) ≡ false
+  pub monitoring-tried : rules-of monitored .untried (looked 2 included) ≡ false
 
 pub paths-borders : Paths
 unfolding opened

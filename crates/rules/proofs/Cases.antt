@@ -1,5 +1,6 @@
--- Whole calls, computed with the real SHA-256. A log of one entry holds version 0 of the label "a": the value "x". Each refused call differs from the
--- accepted one in one thing; for refusals before 12 nothing is hashed.
+-- Whole calls, computed with the real SHA-256. A log of one entry holds version 0 of the label "a":
+-- the value "x". Each refused call differs from the accepted one in one thing; for refusals before
+-- 12 nothing is hashed.
 use mathlib.Core.Path.{_≡_, refl}
 use mathlib.Core.List.{List, [], _∷_, _++_}
 use mathlib.Core.Option.{Option, none, some, Option·map}
@@ -17,7 +18,8 @@ use Rattle.rules.specs.Calls.{numberOf}
 use Rattle.rules.specs.Program.{Files, judgeFiles, printed}
 use Rattle.rules.proofs.Running.{x, outcome, opened, pair}
 
--- a call answers a number and leaves the state as given; a call is accepted, with a new state and a value
+-- a call answers a number and leaves the state as given; a call is accepted, with a new state and a
+-- value
 abbrev pub Refused : Option State → Inputs → ℕ → Type 0
 Refused s i k = outcome s i ≡ (k, (s, none))
 
@@ -72,7 +74,8 @@ end-line = ascii "end\n"
 abbrev pub response : Bytes
 response = kt-line ++ head-line ++ target-line ++ step-lines ++ entry-line ++ in-line ++ nl-line ++ end-line
 
--- a kind, a response, a configuration, an identifier, a clock, a sheet, a signed text and bytes of output
+-- a kind, a response, a configuration, an identifier, a clock, a sheet, a signed text and bytes of
+-- output
 abbrev pub asking : Kind → Bytes → Bytes → Bytes → ℕ → Bytes → Bytes → ℕ → Inputs
 asking kind r c id clock sheet s room =
     record {
@@ -102,7 +105,7 @@ new = some (emptyState (x "61"))
 
 -- a state of so many entries, whose one value is given, at time 1000, with pairs
 abbrev pub kept : ℕ → Bytes → List MapEntry → State
-kept m value entries = record { label = x "61"; size = m; time = 1000; values = value ∷ []; monitoringMap = entries }
+kept m value entries = record { label = x "61"; log = record { size = m; timestamp = 1000; values = value ∷ [] }; monitoringMap = entries }
 
 abbrev pub after-search : State
 after-search = kept 1 log-root (pair 0 0 ∷ [])
@@ -120,7 +123,7 @@ pub record RefusedUnhashed : Type 0 where
   pub byte-left-over : Refused new (searching response (configuration ++ 0 ∷ []) identifier 1000 (sheet-0 ++ sheet-1) signed 1) 2
   pub no-state : Refused none honest 3
   pub pair-not-below-size : Refused (some (kept 1 log-root (pair 1 0 ∷ []))) honest 3
-  pub value-too-many : Refused (some (record { label = x "61"; size = 1; time = 1000; values = log-root ∷ log-root ∷ []; monitoringMap = [] })) honest 3
+  pub value-too-many : Refused (some (record { label = x "61"; log = record { size = 1; timestamp = 1000; values = log-root ∷ log-root ∷ [] }; monitoringMap = [] })) honest 3
   pub sheet-falls : Refused new (searching response configuration identifier 1000 (sheet-1 ++ sheet-0) signed 1) 4
   pub sheet-cut : Refused new (searching response configuration identifier 1000 (sheet-0 ++ 0 ∷ []) signed 1) 4
   pub leading-zero : Refused new (answering (kt-line ++ ascii "head\t01\n" ++ target-line ++ step-lines ++ entry-line ++ in-line ++ nl-line ++ end-line)) 5
@@ -145,7 +148,7 @@ pub record RefusedUnhashed : Type 0 where
   pub output-missing : Refused new (searching response configuration identifier 1000 sheet-0 signed 1) 10
   pub too-far-ahead : Refused new (searching response configuration identifier 989 (sheet-0 ++ sheet-1) signed 1) 11
   pub too-far-behind : Refused new (searching response configuration identifier 2001 (sheet-0 ++ sheet-1) signed 1) 11
-  pub later-than-kept : Refused (some (record { label = x "61"; size = 1; time = 999; values = log-root ∷ []; monitoringMap = [] })) honest 11
+  pub later-than-kept : Refused (some (record { label = x "61"; log = record { size = 1; timestamp = 999; values = log-root ∷ [] }; monitoringMap = [] })) honest 11
 
 pub refused-unhashed : RefusedUnhashed
 unfolding opened
@@ -203,7 +206,8 @@ pub nothing-watched : Accepted new (watching (head-line ++ bare-entry) [] (confi
 unfolding opened
 nothing-watched = refl
 
--- a pair at entry 0, and a second entry, in whose prefix tree the other leaf is the searched one, or nothing stands
+-- a pair at entry 0, and a second entry, in whose prefix tree the other leaf is the searched one,
+-- or nothing stands
 abbrev watched : State
 watched = kept 1 bare-root (pair 0 0 ∷ [])
 

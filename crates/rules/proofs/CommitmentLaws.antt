@@ -1,6 +1,8 @@
--- Commitments bind (specs/Commitment.antt): one commitment to a label is to one opening and one value, unless SHA-256 is broken. HMAC's outer strings have one
--- value, so they are equal, so HMAC's inner strings have one value too; these are equal, and so are the texts after the key. In a text the opening has a fixed
--- length, the label is the same, and the value's length stands before it.
+-- Commitments bind (specs/Commitment.antt): one commitment to a label is to one opening and one
+-- value, unless SHA-256 is broken. HMAC's outer strings have one value, so they are equal, so
+-- HMAC's inner strings have one value too; these are equal, and so are the texts after the key. In
+-- a text the opening has a fixed length, the label is the same, and the value's length stands
+-- before it.
 use mathlib.Core.Path.{_≡_, refl, sym, _∙_}
 use mathlib.Core.Logic.{_⊎_, inl}
 use mathlib.Core.List.{List, _++_, List·Memᴰ, List·Memᴰ·head, List·Memᴰ·tail}
@@ -23,7 +25,8 @@ unfolding opaque
 opaque-one k s s′ e =
     append-split (bigEndian k (length s)) (bigEndian k (length s′)) s s′ (length-bigEndian k (length s) ∙ sym (length-bigEndian k (length s′))) e .1
 
--- texts of commitments to one label, their openings of one length, that are equal have equal openings and values
+-- texts of commitments to one label, their openings of one length, that are equal have equal
+-- openings and values
 text-one : (o o′ l v v′ : Bytes) → length o ≡ length o′ → commitmentValue o l v ≡ commitmentValue o′ l v′ → (o ≡ o′) × (v ≡ v′)
 unfolding commitmentValue
 text-one o o′ l v v′ h e =

@@ -1,4 +1,5 @@
--- Laws of the configuration (specs/Configuration.antt): what is written reads as itself, and what reads is what is written.
+-- Laws of the configuration (specs/Configuration.antt): what is written reads as itself, and what
+-- reads is what is written.
 use mathlib.Core.Path.{_≡_, refl, _∙_, ap, ap₂}
 use mathlib.Core.List.{[], _∷_, _++_, append-assoc, append-nil}
 use mathlib.Core.Option.{Option, none, some, bind, Option·some-injective, Option·none-ne-some}
@@ -14,8 +15,11 @@ use Rattle.lists.proofs.ListLaws.{same-true}
 use Rattle.hash.specs.Bytes.{AreBytes, bigEndian}
 use Rattle.hash.proofs.BytesLaws.{length-bigEndian}
 use Rattle.rules.specs.Encoding.{opaque, readUint, readOpaque}
-use Rattle.rules.specs.Configuration.{Configuration, p256Suite, contactMonitoring, readPresent, readOptional, readConfiguration, writeOptional, writeConfiguration, treeHead}
-use Rattle.rules.proofs.EncodingLaws.{read-uint, uint-read, read-opaque, opaque-read, uint-takes, opaque-takes}
+use Rattle.rules.specs.Configuration.{Configuration, p256Suite, contactMonitoring, readPresent}
+use Rattle.rules.specs.Configuration.{readOptional, readConfiguration, writeOptional}
+use Rattle.rules.specs.Configuration.{writeConfiguration, treeHead}
+use Rattle.rules.proofs.EncodingLaws.{read-uint, uint-read, read-opaque, opaque-read, uint-takes}
+use Rattle.rules.proofs.EncodingLaws.{opaque-takes}
 
 -- ---- what can be written
 
@@ -120,7 +124,8 @@ read-configuration c f =
     )
     refl
 
--- A configuration that is read is written so: each step that reads a field splits what is written of it off the string, and nothing is left.
+-- A configuration that is read is written so: each step that reads a field splits what is written
+-- of it off the string, and nothing is left.
 pub configuration-read : (s : Bytes) (c : Configuration) → AreBytes s → readConfiguration s ≡ some c → (s ≡ writeConfiguration c) × FitsWidths c
 unfolding readConfiguration
 configuration-read s c b e =

@@ -1,4 +1,5 @@
--- Laws of the encodings (specs/Encoding.antt): what is written reads as itself with what follows it, and what reads is what is written.
+-- Laws of the encodings (specs/Encoding.antt): what is written reads as itself with what follows
+-- it, and what reads is what is written.
 use mathlib.Core.Path.{_≡_, refl, sym, _∙_, ap, ap₂}
 use mathlib.Core.List.{[], _∷_, _++_, append-assoc, append-nil}
 use mathlib.Core.Option.{none, some, bind, Option·some-injective}
@@ -23,7 +24,7 @@ pub bytes-split : (s t : Bytes) → AreBytes (s ++ t) → AreBytes s × AreBytes
 bytes-split [] t h = (tt, h)
 bytes-split (b ∷ s) t h = let (p, q) = bytes-split s t (h .1) in ((h .0, p), q)
 
--- ---- the number that bytes spell
+-- ---- the number that bytes encode
 
 -- one byte more
 pub after-byte : (n b : ℕ) (s : Bytes) → bytesAfter n (b ∷ s) ≡ bytesAfter (n * 256 + b) s
@@ -35,7 +36,7 @@ pub after-none : (n : ℕ) → bytesAfter n [] ≡ n
 unfolding bytesAfter
 after-none n = refl
 
--- bytes spell what they spell after nothing
+-- bytes encode what they encode after nothing
 pub uint-after : (s : Bytes) → uint s ≡ bytesAfter 0 s
 unfolding uint
 uint-after s = refl
@@ -58,7 +59,7 @@ after-fits k n (a ∷ s) h b =
     let e : k + suc (length s) ≡ suc k + length s = omega arith in
     rw e (after-fits (suc k) (n * 256 + a) s (byte-fits k n a h (b .0)) (b .1))
 
--- the bytes of what bytes spell after a number are that number's and those
+-- the bytes of what bytes encode after a number are that number's and those
 after-bytes : (k n : ℕ) (s : Bytes) → AreBytes s → bigEndian (k + length s) (bytesAfter n s) ≡ bigEndian k n ++ s
 unfolding bytesAfter bigEndian
 after-bytes k n [] h = let e : k + 0 ≡ k = omega arith in rw e (sym (append-nil (bigEndian k n)))
@@ -73,7 +74,7 @@ after-bytes k n (a ∷ s) h =
     ∙ ap₂ (λ (x y : ℕ). bigEndian k x ++ y ∷ [] ++ s) q r
     ∙ append-snoc (bigEndian k n) a s
 
--- the n bytes of a number spell it
+-- the n bytes of a number encode it
 pub uint-bigEndian : (n x : ℕ) → x < 256 ^ n → uint (bigEndian n x) ≡ x
 unfolding uint bigEndian bytesAfter
 uint-bigEndian zero x h = omega arith
@@ -82,7 +83,7 @@ uint-bigEndian (suc n) x h =
     let e = uint-bigEndian n (x / 256) (omega arith) in
     after-last 0 (x % 256) (bigEndian n (x / 256)) ∙ omega arith
 
--- bytes are those of the number that they spell
+-- bytes are those of the number that they encode
 pub bigEndian-uint : (s : Bytes) → AreBytes s → bigEndian (length s) (uint s) ≡ s
 unfolding uint bigEndian
 bigEndian-uint s h = let e : 0 + length s ≡ length s = omega arith in rw e at (after-bytes 0 0 s h)

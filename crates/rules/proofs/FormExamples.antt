@@ -1,4 +1,5 @@
--- The borders of what is read: fields and lines, valid states, sheets, settings. antt computes each one.
+-- The borders of what is read: fields and lines, valid states, sheets, settings. antt computes each
+-- one.
 use mathlib.Core.Path.{_≡_, refl}
 use mathlib.Core.Bool.{Bool, true, false}
 use mathlib.Core.List.{List, [], _∷_, _++_, map}
@@ -17,7 +18,8 @@ use Rattle.rules.specs.VrfOutputs.{readOutputs, hasOutput, outputOf}
 use Rattle.rules.specs.State.{MapEntry, isValid, emptyState, newState}
 use Rattle.rules.specs.StateText.{sizeForm, keepForm, pairForm, readStateText}
 use Rattle.rules.specs.Response.{search, monitor}
-use Rattle.rules.specs.ResponseText.{ktForm, headForm, targetForm, stepForm, entryForm, inForm, noForm, nlForm, nodeForm}
+use Rattle.rules.specs.ResponseText.{ktForm, headForm, targetForm, stepForm, entryForm, inForm, noForm}
+use Rattle.rules.specs.ResponseText.{nlForm, nodeForm}
 use Rattle.rules.specs.Program.{within, requestForm}
 use Rattle.rules.proofs.Running.{opened, pair}
 
@@ -165,7 +167,7 @@ texts-borders =
 -- a label of so many bytes, size, time, values of so many bytes each, pairs
 abbrev valid : ℕ → ℕ → ℕ → List ℕ → List MapEntry → Bool
 valid l m t vs es =
-    isValid (record { label = replicate l 0; size = m; time = t; values = map (λ (n : ℕ). replicate n 0) vs; monitoringMap = es })
+    isValid (record { label = replicate l 0; log = record { size = m; timestamp = t; values = map (λ (n : ℕ). replicate n 0) vs }; monitoringMap = es })
 
 -- so many pairs, at 0, 1 and so on
 unfoldable pub pairs-below : ℕ → List MapEntry
@@ -176,9 +178,9 @@ pub record States : Type 0 where
   pub new : valid 0 0 0 [] [] ≡ true
   pub longest-label : valid 255 0 0 [] [] ≡ true
   pub label-over : valid 256 0 0 [] [] ≡ false
-  pub time-at-0 : valid 0 0 1 [] [] ≡ false
+  pub timestamp-at-0 : valid 0 0 1 [] [] ≡ false
   pub latest : valid 0 1 (2 ^ 64 - 1) (32 ∷ []) [] ≡ true
-  pub time-over : valid 0 1 (2 ^ 64) (32 ∷ []) [] ≡ false
+  pub timestamp-over : valid 0 1 (2 ^ 64) (32 ∷ []) [] ≡ false
   pub largest : valid 0 (2 ^ 40) 0 (32 ∷ []) [] ≡ true
   pub size-over : valid 0 (2 ^ 40 + 1) 0 (32 ∷ 32 ∷ []) [] ≡ false
   pub two-values : valid 0 3 0 (32 ∷ 32 ∷ []) [] ≡ true
@@ -202,9 +204,9 @@ states-borders =
       new = refl;
       longest-label = refl;
       label-over = refl;
-      time-at-0 = refl;
+      timestamp-at-0 = refl;
       latest = refl;
-      time-over = refl;
+      timestamp-over = refl;
       largest = refl;
       size-over = refl;
       two-values = refl;

@@ -1,4 +1,5 @@
--- The strings that a call hashed, of small calls written out. antt computes each one; SHA-256 and HMAC stay shut.
+-- The strings that a call hashed, of small calls written out. antt computes each one; SHA-256 and
+-- HMAC stay shut.
 use mathlib.Core.Path.{_≡_, refl}
 use mathlib.Core.List.{[], _∷_, _++_, flatMap}
 use mathlib.Core.Option.{some, Option·elim, bind}
@@ -17,24 +18,25 @@ use Rattle.rules.specs.Hashed.{hashed}
 use Rattle.rules.proofs.Computing.{rule-definitions}
 use Rattle.rules.proofs.Running.{blank-inputs, blank-configuration}
 
--- a log of one entry with one lookup, of version 0, at depth 1; its output begins with a bit 0, and o are the other bytes
+-- a log of one entry with one lookup, of version 0, at depth 1; its output begins with a bit 0, and
+-- o are the other bytes
 module _ (o s r label opening value c : Bytes) (t : ℕ) where
   abbrev one-entry : Finding → Result → Call
   one-entry f result =
       record {
         inputs = blank-inputs 0 0;
         configuration = blank-configuration 0 0;
-        state = record { label = label; size = 0; time = 0; values = []; monitoringMap = [] };
+        state = record { label = label; log = record { size = 0; timestamp = 0; values = [] }; monitoringMap = [] };
         outputs = record { version = 0; output = 0 ∷ o } ∷ [];
         parts =
             record {
               identifier = [];
               label = label;
-              size = 1;
+              treeSize = 1;
               finding = f;
               steps = record { version = 0; commitment = some c } ∷ [];
               entries =
-                  record { position = 0; time = t; prefixRoot = r; lookups = record { version = 0; result = result; siblings = s ∷ [] } ∷ [] } ∷ [];
+                  record { position = 0; timestamp = t; prefixRoot = r; lookups = record { version = 0; result = result; siblings = s ∷ [] } ∷ [] } ∷ [];
               nodes = [];
             };
       }

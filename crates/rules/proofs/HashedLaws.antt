@@ -1,4 +1,5 @@
--- The strings that an accepted call hashed (specs/Hashed.antt): they are byte strings, and where each kind of them stands.
+-- The strings that an accepted call hashed (specs/Hashed.antt): they are byte strings, and where
+-- each kind of them stands.
 use mathlib.Core.Path.{_≡_, refl, subst}
 use mathlib.Core.Bool.{true}
 use mathlib.Core.List.{List, [], _∷_, _++_, flatMap, List·Memᴰ, Memᴰ·append-left, Memᴰ·append-right}
@@ -22,15 +23,18 @@ use Rattle.tree.proofs.LookupLaws.{TerminalBytes, bytes-lookup}
 use Rattle.rules.specs.Limits.{vrfOutputLength}
 use Rattle.rules.specs.VrfOutputs.{VrfOutput, outputOf}
 use Rattle.rules.specs.State.{State, HasBytes}
-use Rattle.rules.specs.Response.{Target, Finding, searched, monitored, Step, Result, included, absent, otherLeaf, Lookup, Entry, logEntry}
+use Rattle.rules.specs.Response.{Target, Finding, searched, monitored, Step, Result, included, absent}
+use Rattle.rules.specs.Response.{otherLeaf, Lookup, Entry, targetOf, logEntry}
 use Rattle.rules.specs.Encoding.{opaque}
 use Rattle.rules.specs.Commitment.{commitmentKey, commitmentValue, commitmentTo, commitmentStrings}
-use Rattle.rules.specs.Refusals.{Inputs, Call, passed, known, logWalk, terminal, stepCommitment, commitmentBy, commitmentOf, judge}
-use Rattle.rules.specs.Calls.{nextState}
-use Rattle.rules.specs.Hashed.{hashedByLookup, hashedByEntry, hashedByFinding, hashed}
+use Rattle.rules.specs.Refusals.{Inputs, Call, passed, known, logWalk, terminal, stepCommitment}
+use Rattle.rules.specs.Refusals.{commitmentBy, commitmentOf, judge}
+use Rattle.rules.specs.Calls.{nextLog, nextState}
+use Rattle.rules.specs.Hashed.{hashedByLookup, hashedByEntry, hashedForTarget, hashed}
 use Rattle.rules.specs.Consistency.{AreByteInputs, IsByteState}
 use Rattle.rules.proofs.RefusalLaws.{valid-some, accepted-meaning, readings-were}
-use Rattle.rules.proofs.PartsLaws.{CommitmentFits, StepFits, OtherLeafFits, FindingFits, LookupFits, EntryFits, PartsFit, response-fits}
+use Rattle.rules.proofs.PartsLaws.{CommitmentFits, StepFits, OtherLeafFits, FindingFits, LookupFits}
+use Rattle.rules.proofs.PartsLaws.{EntryFits, PartsFit, response-fits}
 use Rattle.rules.proofs.OutputLaws.{outputs-sized, outputs-bytes, output-by}
 
 -- ---- where they stand
@@ -39,26 +43,27 @@ use Rattle.rules.proofs.OutputLaws.{outputs-sized, outputs-bytes, outpu
 pub walk-listed : (c : Call) → Within (walkStrings (known c) (logWalk c) (c .parts .nodes)) (hashed c)
 unfolding hashed
 walk-listed c x m =
-    Memᴰ·append-left (hashedByFinding (c .parts .finding) (c .parts .label)) (Memᴰ·append-left (flatMap (hashedByEntry c) (c .parts .entries)) m)
+    Memᴰ·append-left (hashedForTarget (targetOf (c .parts .finding)) (c .parts .label)) (Memᴰ·append-left (flatMap (hashedByEntry c) (c .parts .entries)) m)
 
 -- those of a lookup
 pub lookup-listed : (c : Call) (e : Entry) (l : Lookup) → List·Memᴰ e (c .parts .entries) → List·Memᴰ l (e .lookups) → Within (hashedByLookup c l) (hashed c)
 unfolding hashed hashedByEntry
 lookup-listed c e l i j x m =
-    Memᴰ·append-left (hashedByFinding (c .parts .finding) (c .parts .label))
+    Memᴰ·append-left (hashedForTarget (targetOf (c .parts .finding)) (c .parts .label))
     (Memᴰ·append-right (walkStrings (known c) (logWalk c) (c .parts .nodes))
     (flat-listed (hashedByEntry c) (c .parts .entries) e x i (flat-listed (hashedByLookup c) (e .lookups) l x j m)))
 
 -- HMAC's two for the target's commitment
 pub strings-listed : (c : Call) (t : Target) → c .parts .finding ≡ searched t → Within (commitmentStrings (t .opening) (c .parts .label) (t .value)) (hashed c)
-unfolding hashed hashedByFinding
+unfolding hashed hashedForTarget targetOf
 strings-listed c t f x m =
-    let n : List·Memᴰ x (hashedByFinding (c .parts .finding) (c .parts .label)) = rw f m in
+    let n : List·Memᴰ x (hashedForTarget (targetOf (c .parts .finding)) (c .parts .label)) = rw f m in
     Memᴰ·append-right (walkStrings (known c) (logWalk c) (c .parts .nodes) ++ flatMap (hashedByEntry c) (c .parts .entries)) n
 
 -- ---- bytes
 
--- the strings of a call that was read have bytes, where what it was given has; outputs and parts have the lengths that reading asks for
+-- the strings of a call that was read have bytes, where what it was given has; outputs and parts
+-- have the lengths that reading asks for
 pub record ByteCall (c : Call) : Type 0 where
   pub state : HasBytes (c .state)
   pub outputs : (x : VrfOutput) → List·Memᴰ x (c .outputs) → AreBytes (x .output)
@@ -94,8 +99,8 @@ bytes-text o l v ho hl hv =
     (bytes-append (bigEndian 4 (length v)) v (bytes-bigEndian 4 (length v)) hv)
 
 -- the strings of the target's commitment
-bytes-finding : (f : Finding) (label : Bytes) → FindingFits f → AreBytes label → ByteStrings (hashedByFinding f label)
-unfolding hashedByFinding commitmentStrings
+bytes-finding : (f : Finding) (label : Bytes) → FindingFits f → AreBytes label → ByteStrings (hashedForTarget (targetOf f) label)
+unfolding hashedForTarget targetOf commitmentStrings
 bytes-finding (searched t) label h b =
     let m = commitmentValue (t .opening) label (t .value) in
     each-cons AreBytes (innerString commitmentKey m) (outerString commitmentKey m ∷ [])
@@ -120,13 +125,13 @@ module _ (c : Call) (b : ByteCall c) where
   -- the commitment of a version
   bytes-commitment : (v : ℕ) → AreBytes (commitmentOf c v)
   unfolding commitmentOf commitmentBy commitmentTo
-  bytes-commitment v = go (c .parts .finding)
+  bytes-commitment v = go (targetOf (c .parts .finding))
     where
-      go : (f : Finding) → AreBytes (commitmentBy f (c .parts .label) (c .parts .steps) v)
-      go (searched t) =
+      go : (o : Option Target) → AreBytes (commitmentBy o (c .parts .label) (c .parts .steps) v)
+      go (some t) =
           choose-by AreBytes (eqb v (t .version)) (λ _. commitmentTo (t .opening) (c .parts .label) (t .value)) (λ _. stepCommitment (c .parts .steps) v)
           (λ _. bytes-hmac commitmentKey (commitmentValue (t .opening) (c .parts .label) (t .value))) (λ _. bytes-step (c .parts .steps) v (b .parts .steps))
-      go monitored = bytes-step (c .parts .steps) v (b .parts .steps)
+      go none = bytes-step (c .parts .steps) v (b .parts .steps)
 
   -- what stands at the place of a lookup
   bytes-place : (v : ℕ) (r : Result) → OtherLeafFits r → TerminalBytes (terminal c v r)
@@ -157,7 +162,7 @@ module _ (c : Call) (b : ByteCall c) where
   unfolding hashed known
   bytes-hashed =
       each-append AreBytes (walkStrings (known c) (logWalk c) (c .parts .nodes) ++ flatMap (hashedByEntry c) (c .parts .entries))
-      (hashedByFinding (c .parts .finding) (c .parts .label))
+      (hashedForTarget (targetOf (c .parts .finding)) (c .parts .label))
       (each-append AreBytes (walkStrings (known c) (logWalk c) (c .parts .nodes)) (flatMap (hashedByEntry c) (c .parts .entries))
       (bytes-walk (known c) (logWalk c) (c .parts .nodes) bytes-roots (b .state .1) (b .parts .nodeBytes))
       (λ x m. let (e, i, j) = listed-flat (hashedByEntry c) (c .parts .entries) x m in bytes-entry e (b .parts .entries e i) x j))
@@ -165,5 +170,5 @@ module _ (c : Call) (b : ByteCall c) where
 
   -- and the new state has bytes
   pub bytes-next : HasBytes (nextState c)
-  unfolding nextState known
-  bytes-next = (b .state .0, full-values-bytes (c .parts .size) (known c) (logWalk c) (c .parts .nodes) (b .state .1) (b .parts .nodeBytes))
+  unfolding nextState nextLog known
+  bytes-next = (b .state .0, full-values-bytes (c .parts .treeSize) (known c) (logWalk c) (c .parts .nodes) (b .state .1) (b .parts .nodeBytes))

@@ -1,6 +1,7 @@
--- What an accepted search shows of the last entry of the log (specs/Search.antt): there the ladder of its target is complete (rule 13), and every lookup leads to the
--- entry's prefix root (rule 12). So of the ladder's versions those not above the target have leaves under that root, the target's with the commitment to what the
--- search yields, and the others have none.
+-- What an accepted search shows of the last entry of the log (specs/Search.antt): there the ladder
+-- of its target is complete (rule 13), and every lookup leads to the entry's prefix root (rule 12).
+-- So of the ladder's versions those not above the target have leaves under that root, the target's
+-- with the commitment to what the search yields, and the others have none.
 use mathlib.Core.Path.{_≡_, refl, sym, ap, _∙_, subst}
 use mathlib.Core.Bool.{Bool, true, false, false≢true}
 use mathlib.Core.List.{List, [], _∷_, map, List·Memᴰ}
@@ -16,13 +17,15 @@ use Rattle.lists.proofs.RisingLaws.{last-largest}
 use Rattle.lists.proofs.MemberLaws.{at-mapped, last-mapped, last-listed}
 use Rattle.hash.specs.Sha256.{digestLength}
 use Rattle.tree.specs.Ladder.{ladder}
-use Rattle.tree.specs.PrefixTree.{Terminal, ownLeaf, terminalFits}
+use Rattle.tree.specs.PrefixTree.{Terminal, searchedLeaf, terminalFits}
 use Rattle.tree.proofs.CollisionLaws.{Within}
 use Rattle.tree.proofs.LadderLaws.{ladder-own}
 use Rattle.tree.proofs.LookupLaws.{LeadsTo, Absent, fits-absent}
 use Rattle.rules.specs.Limits.{openingLength}
 use Rattle.rules.specs.VrfOutputs.{hasOutput, outputOf}
-use Rattle.rules.specs.Response.{Target, Finding, searched, Result, included, absent, otherLeaf, Lookup, Entry, isIncluded, stepVersions, lookupVersions, entryPositions}
+use Rattle.rules.specs.Response.{Target, Finding, searched, Result, included, absent, otherLeaf, Lookup}
+use Rattle.rules.specs.Response.{Entry, isIncluded, stepVersions, lookupVersions, entryPositions}
+use Rattle.rules.specs.Response.{targetOf}
 use Rattle.rules.specs.Commitment.{commitmentTo}
 use Rattle.rules.specs.Search.{resultFits, isComplete, endsEarly, earlyThenComplete}
 use Rattle.rules.specs.Refusals.{Call, outputMissing, commitmentBy, commitmentOf, terminal}
@@ -35,10 +38,11 @@ use Rattle.rules.proofs.HashedLaws.{ByteCall, lookup-listed}
 
 -- ---- what a search shows of a prefix tree
 
--- Under a root, by strings of S: of the ladder's versions not above t that they have leaves, of t itself one with a commitment; of those above t that they have none.
+-- Under a root, by strings of S: of the ladder's versions not above t that they have leaves, of t
+-- itself one with a commitment; of those above t that they have none.
 pub record Shows (S : List Bytes) (output : ℕ → Bytes) (t : ℕ) (root commitment : Bytes) : Type 0 where
-  pub there : (v : ℕ) → List·Memᴰ v (ladder t) → v ≤ t → (d : Bytes) × LeadsTo S (output v) (ownLeaf d) root
-  pub own : LeadsTo S (output t) (ownLeaf commitment) root
+  pub there : (v : ℕ) → List·Memᴰ v (ladder t) → v ≤ t → (d : Bytes) × LeadsTo S (output v) (searchedLeaf d) root
+  pub own : LeadsTo S (output t) (searchedLeaf commitment) root
   pub missing : (v : ℕ) → List·Memᴰ v (ladder t) → t < v → (x : Terminal) × Absent (output v) x × LeadsTo S (output v) x root
 
 -- the outputs of the versions of a ladder have the length of a digest
@@ -65,7 +69,7 @@ last-complete vs t e (x ∷ es) h = go (isComplete vs t e) refl (last-complete v
 pub record LastEntry (c : Call) (t : ℕ) : Type 0 where
   pub entry : Entry
   pub listed : List·Memᴰ entry (c .parts .entries)
-  pub last : entry .position ≡ c .parts .size - 1
+  pub last : entry .position ≡ c .parts .treeSize - 1
   pub complete : isComplete (ladder t) t entry ≡ true
 
 -- a lookup of a version in it
@@ -113,7 +117,7 @@ module _ (c : Call) (h : Accepted c) (b : ByteCall c) (t : Target) (f : c .parts
       go [] q r = absurd (false≢true r)
       go (e ∷ es) q r =
           let s = shown-entries c h in
-          let n = c .parts .size in
+          let n = c .parts .treeSize in
           record {
             entry = lastOr e es;
             listed = rw q (last-listed e es);
@@ -151,7 +155,7 @@ module _ (c : Call) (h : Accepted c) (b : ByteCall c) (t : Target) (f : c .parts
 
   -- the leaf of a version that is found, in the last entry
   way-found : (x : LastEntry c (t .version)) (v : ℕ) → List·Memᴰ v (ladder (t .version)) → v ≤ t .version
-      → LeadsTo S (outputOf (c .outputs) v) (ownLeaf (commitmentOf c v)) (x .entry .prefixRoot)
+      → LeadsTo S (outputOf (c .outputs) v) (searchedLeaf (commitmentOf c v)) (x .entry .prefixRoot)
   unfolding terminal
   way-found x v m k =
       let l = looked-up (t .version) (x .entry) (x .complete) v m in
@@ -162,16 +166,16 @@ module _ (c : Call) (h : Accepted c) (b : ByteCall c) (t : Target) (f : c .parts
 
   -- the commitment of the target is worked out
   target-commitment : commitmentOf c (t .version) ≡ commitmentTo (t .opening) (c .parts .label) (t .value)
-  unfolding commitmentOf commitmentBy
+  unfolding commitmentOf commitmentBy targetOf
   target-commitment =
-      ap (λ (g : Finding). commitmentBy g (c .parts .label) (c .parts .steps) (t .version)) f
+      ap (λ (g : Finding). commitmentBy (targetOf g) (c .parts .label) (c .parts .steps) (t .version)) f
       ∙ choose-true (eqb (t .version) (t .version)) _ _ (eq-eqb (t .version) (t .version) refl)
 
   -- what it shows of its prefix tree
   pub shows : (x : LastEntry c (t .version)) → Shows S (outputOf (c .outputs)) (t .version) (x .entry .prefixRoot) (commitmentTo (t .opening) (c .parts .label) (t .value))
   shows x = record { there = λ v m k. (commitmentOf c v, way-found x v m k); own = of-target; missing = not-there }
     where
-      of-target : LeadsTo S (outputOf (c .outputs) (t .version)) (ownLeaf (commitmentTo (t .opening) (c .parts .label) (t .value))) (x .entry .prefixRoot)
+      of-target : LeadsTo S (outputOf (c .outputs) (t .version)) (searchedLeaf (commitmentTo (t .opening) (c .parts .label) (t .value))) (x .entry .prefixRoot)
       of-target = rw (← target-commitment) (way-found x (t .version) (ladder-own (t .version)) (omega arith))
 
       not-there : (v : ℕ) → List·Memᴰ v (ladder (t .version)) → t .version < v

@@ -6,6 +6,7 @@ pub mod EncodingLaws
 pub mod ConfigurationLaws
 pub mod RefusalLaws
 pub mod PartsLaws
+pub mod KindLaws
 pub mod AcceptedLaws
 pub mod NextStateLaws
 pub mod OutputLaws

@@ -2,7 +2,8 @@
 use mathlib.Core.Path.{_≡_, refl, sym, subst}
 use mathlib.Core.Logic.{_⊎_, inl, inr}
 use mathlib.Core.Bool.{Bool, true, false}
-use mathlib.Core.List.{List, [], _∷_, List·Memᴰ, List·Memᴰ·head, List·Memᴰ·tail, List·Memᴰ·cases-cons, List·Memᴰ·not-nil}
+use mathlib.Core.List.{List, [], _∷_, List·Memᴰ, List·Memᴰ·head, List·Memᴰ·tail, List·Memᴰ·cases-cons}
+use mathlib.Core.List.{List·Memᴰ·not-nil}
 use Prim.Native.Nat.{ℕ, _<_, max}
 use lib.Dec.{eqb, ltb}
 use Rattle.lists.specs.Choice.{choose}
@@ -10,7 +11,7 @@ use Rattle.lists.specs.Lists.{lastOr}
 use Rattle.tree.specs.SearchTree.{frontier, rightAncestors}
 use Rattle.tree.proofs.AncestorLaws.{right-ancestors-end}
 use Rattle.rules.specs.State.{MapEntry}
-use Rattle.rules.specs.Search.{putEntry}
+use Rattle.rules.specs.Kinds.{putEntry}
 use Rattle.rules.specs.Monitoring.{mapAfterMonitoring}
 
 -- a property of positions

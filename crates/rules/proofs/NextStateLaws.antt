@@ -1,14 +1,14 @@
--- The state after an accepted call is valid; the map after a search has at most one pair more than before, after monitoring no more, all on the frontier
--- (specs/Calls.antt).
+-- The state after an accepted call is valid; the map after a search has at most one pair more than
+-- before, after monitoring no more, all on the frontier (specs/Calls.antt).
 use mathlib.Core.Path.{_≡_, refl, sym, ap, _∙_}
 use mathlib.Core.Bool.{Bool, true, false, false≢true}
 use mathlib.Core.List.{List, [], _∷_, map, List·Memᴰ, List·Memᴰ·head, List·Memᴰ·tail}
-use mathlib.Core.Option.{Option, none, some, Option·elim}
+use mathlib.Core.Option.{Option, none, some, Option·elim, Option·map, Option·getD}
 use Prim.Native.Nat.{ℕ, _+_, _≤_, _<_, max}
 use native.Mathlib.Omega.{arith}
 use lib.Dec.{eqb, ltb}
 use lib.ListN.{length}
-use borrow.Author.Tests.{lt-ltb, ltb-false, eqb-true}
+use borrow.Author.Tests.{lt-ltb, le-ltb, ltb-false, eqb-true}
 use Rattle.lists.specs.Choice.{choose}
 use Rattle.lists.specs.Lists.{Bytes, first, lastOr, rising, insert}
 use Rattle.lists.proofs.ChoiceLaws.{or-fails, choose-by}
@@ -26,15 +26,21 @@ use Rattle.tree.proofs.WalkValueLaws.{full-values-length}
 use Rattle.tree.proofs.HistoryLaws.{full-values-count}
 use Rattle.rules.specs.Limits.{greatestVersion, mapLimit, numberBound}
 use Rattle.rules.specs.State.{MapEntry, State, positions, isValid}
-use Rattle.rules.specs.Response.{Kind, search as searchKind, monitor, Target, Finding, searched, monitored, Entry, kindOf, entryPositions}
-use Rattle.rules.specs.Search.{isComplete, putEntry, mapAfterSearch}
-use Rattle.rules.specs.Monitoring.{mapAfterMonitoring}
-use Rattle.rules.specs.Refusals.{Inputs, Call, passed, sameKind, kindAsked, targetWrongIn, targetWrong, logWalk, lastTime, known, mapAfterBy, mapAfter, roomMissingFor, roomMissing, judge}
-use Rattle.rules.specs.Calls.{Arguments, libraryInputs, judgeSearch, judgeMonitoring, nextState}
+use Rattle.rules.specs.Response.{Kind, search as searchKind, monitor, Target, Finding, searched}
+use Rattle.rules.specs.Response.{monitored, Entry, kindOf, targetOf, entryPositions}
+use Rattle.rules.specs.Kinds.{KindRules, putEntry}
+use Rattle.rules.specs.Search.{searchTargetWrong, isComplete, mapAfterSearch, searchRules}
+use Rattle.rules.specs.Monitoring.{mapAfterMonitoring, monitoringRules}
+use Rattle.rules.specs.Refusals.{Inputs, Call, passed, sameKind, kindAsked, targetWrong, logWalk}
+use Rattle.rules.specs.Refusals.{lastTimestamp, known, valueFound, mapAfter, roomMissing, judge}
+use Rattle.rules.specs.Calls.{judgeCall, Arguments, libraryInputs, inputsWithin, judgeSearch}
+use Rattle.rules.specs.Calls.{judgeMonitoring, nextLog, nextState}
 use Rattle.rules.proofs.MapLaws.{Stand, monitored-on-frontier}
 use Rattle.rules.proofs.StateLaws.{valid-was, valid-is}
 use Rattle.rules.proofs.PartsLaws.{response-fits}
-use Rattle.rules.proofs.AcceptedLaws.{Accepted, accepted-call, own-was, rules-passed, size-fits, shown-entries, call-follows}
+use Rattle.rules.proofs.KindLaws.{search-rules, monitoring-rules}
+use Rattle.rules.proofs.AcceptedLaws.{Accepted, accepted-call, requested-was, rules-passed, size-fits}
+use Rattle.rules.proofs.AcceptedLaws.{shown-entries, call-follows}
 
 -- ---- the map
 
@@ -48,7 +54,7 @@ pub record Keepable (n : ℕ) (es : List MapEntry) : Type 0 where
   pub pairs : (e : MapEntry) → List·Memᴰ e es → PairFits n e
 
 module _ (pick : ℕ → ℕ → ℕ) (e : MapEntry) where
-  -- a pair put into a map that has a first one: before it, over it, or behind it
+  -- a pair put into a map that has a first one: before it, over it, or after it
   put-by : (P : List MapEntry → Type 0) (x : MapEntry) (xs : List MapEntry) → P (e ∷ x ∷ xs)
       → P (record { position = e .position; version = pick (e .version) (x .version) } ∷ xs) → P (x ∷ putEntry pick e xs) → P (putEntry pick e (x ∷ xs))
   unfolding putEntry
@@ -123,42 +129,65 @@ monitored-length n (e ∷ es) =
     let k = put-length max (record { position = lastOr (e .position) (rightAncestors n (e .position)); version = e .version }) (mapAfterMonitoring n es) in
     omega arith
 
+-- ---- 16
+
+-- the new map of monitoring
+pub monitoring-map : (c : Call) → c .parts .finding ≡ monitored
+    → mapAfter c ≡ mapAfterMonitoring (c .parts .treeSize) (c .state .monitoringMap)
+unfolding mapAfter monitoringRules
+monitoring-map c f = ap (λ (k : KindRules). k .mapAfter) (monitoring-rules c f)
+
+-- monitoring finds no value
+pub monitoring-value : (c : Call) → c .parts .finding ≡ monitored → valueFound c ≡ none
+unfolding valueFound targetOf
+monitoring-value c f = ap (λ (g : Finding). Option·map (λ (t : Target). t .value) (targetOf g)) f
+
+-- and its map has no more pairs than before: 16 does not apply
+pub monitoring-room : (c : Call) → isValid (c .state) ≡ true → c .parts .finding ≡ monitored → roomMissing c ≡ false
+unfolding roomMissing
+monitoring-room c v f =
+    let few = valid-was (c .state) v .mapFits in
+    let l = monitored-length (c .parts .treeSize) (c .state .monitoringMap) in
+    let m = mapAfterMonitoring (c .parts .treeSize) (c .state .monitoringMap) in
+    let n = le-ltb mapLimit (length m) (omega arith) in
+    rw (monitoring-value c f, monitoring-map c f, n, le-ltb (c .inputs .room) 0 (omega arith)) refl
+
 -- ---- the new state
 
 -- where the times of all entries are in their bound, the last one is
-last-in-bound : (d : ℕ) (es : List Entry) → d ≤ numberBound → ((e : Entry) → List·Memᴰ e es → e .time ≤ numberBound)
-    → lastOr d (map (λ (e : Entry). e .time) es) ≤ numberBound
+last-in-bound : (d : ℕ) (es : List Entry) → d ≤ numberBound → ((e : Entry) → List·Memᴰ e es → e .timestamp ≤ numberBound)
+    → lastOr d (map (λ (e : Entry). e .timestamp) es) ≤ numberBound
 unfolding lastOr
 last-in-bound d [] b h = b
-last-in-bound d (e ∷ es) b h = last-in-bound (e .time) es (h e (List·Memᴰ·head refl)) (λ x m. h x (List·Memᴰ·tail m))
+last-in-bound d (e ∷ es) b h = last-in-bound (e .timestamp) es (h e (List·Memᴰ·head refl)) (λ x m. h x (List·Memᴰ·tail m))
 
 module _ (c : Call) (h : Accepted c) where
   -- there is a value for each full subtree
-  values-count : length (nextState c .values) ≡ length (fullSubtrees (c .parts .size))
-  unfolding nextState logWalk known
+  values-count : length (nextState c .log .values) ≡ length (fullSubtrees (c .parts .treeSize))
+  unfolding nextState nextLog logWalk known
   values-count =
-      full-values-count (c .parts .size) (known c) (entryPositions (c .parts)) (c .parts .nodes) (call-follows c h) (size-fits c h .0) ∙ sym (full-length (c .parts .size))
+      full-values-count (c .parts .treeSize) (known c) (entryPositions (c .parts)) (c .parts .nodes) (call-follows c h) (size-fits c h .0) ∙ sym (full-length (c .parts .treeSize))
 
   -- each as long as a hash
-  value-length : Sized (nextState c .values)
-  unfolding nextState
-  value-length = full-values-length (c .parts .size) (known c) (logWalk c) (c .parts .nodes) (call-follows c h .values-sized) (call-follows c h .nodes-sized)
+  value-length : Sized (nextState c .log .values)
+  unfolding nextState nextLog
+  value-length = full-values-length (c .parts .treeSize) (known c) (logWalk c) (c .parts .nodes) (call-follows c h .values-sized) (call-follows c h .nodes-sized)
 
   -- the time of the last entry is in its bound
-  last-time : lastTime c ≤ numberBound
-  unfolding lastTime
-  last-time = last-in-bound 0 (c .parts .entries) (omega arith) (λ e m. response-fits (c .inputs .response) (c .parts) (h .reads) .entries e m .time)
+  last-timestamp : lastTimestamp c ≤ numberBound
+  unfolding lastTimestamp
+  last-timestamp = last-in-bound 0 (c .parts .entries) (omega arith) (λ e m. response-fits (c .inputs .response) (c .parts) (h .reads) .entries e m .timestamp)
 
   -- the state after the call is valid, if its map is one that may be kept
-  pub next-valid : length (mapAfter c) ≤ mapLimit → Keepable (c .parts .size) (mapAfter c) → isValid (nextState c) ≡ true
-  unfolding nextState
+  pub next-valid : length (mapAfter c) ≤ mapLimit → Keepable (c .parts .treeSize) (mapAfter c) → isValid (nextState c) ≡ true
+  unfolding nextState nextLog
   next-valid l k =
       let (p, n, _) = size-fits c h in
       valid-is (nextState c) (record {
         labelFits = valid-was (c .state) (h .valid) .labelFits;
         sizeFits = n;
-        timeBound = last-time;
-        timeFits = rw (lt-ltb 0 (c .parts .size) p) refl;
+        timeBound = last-timestamp;
+        timestampFits = rw (lt-ltb 0 (c .parts .treeSize) p) refl;
         valuesCount = values-count;
         valueLength = value-length;
         mapFits = l;
@@ -167,8 +196,15 @@ module _ (c : Call) (h : Accepted c) where
         versionFits = λ e m. k .pairs e m .1;
       })
 
+  -- the new map has not too many pairs
+  pub map-few : length (mapAfter c) ≤ mapLimit
+  unfolding roomMissing
+  map-few =
+      let v = ltb (c .inputs .room) (length (Option·getD (valueFound c) [])) in
+      ltb-false mapLimit (length (mapAfter c)) (or-fails v (ltb mapLimit (length (mapAfter c))) (rules-passed c h .room) .1)
+
   -- the old map may be kept
-  old-keepable : Keepable (c .parts .size) (c .state .monitoringMap)
+  old-keepable : Keepable (c .parts .treeSize) (c .state .monitoringMap)
   old-keepable =
       let v = valid-was (c .state) (h .valid) in
       let (_, _, g) = size-fits c h in
@@ -177,20 +213,22 @@ module _ (c : Call) (h : Accepted c) where
   module _ (t : Target) (f : c .parts .finding ≡ searched t) where
     -- the new map of a search
     search-map : mapAfter c ≡ mapAfterSearch (ladder (t .version)) (t .version) (c .parts .entries) (c .state .monitoringMap)
-    unfolding mapAfter mapAfterBy
-    search-map = rw f refl
+    unfolding mapAfter searchRules
+    search-map = ap (λ (k : KindRules). k .mapAfter) (search-rules c t f)
 
     -- its target is a version
     version-fits : t .version ≤ greatestVersion
-    unfolding targetWrong targetWrongIn
-    version-fits = let w = rules-passed c h .target in ltb-false greatestVersion (t .version) (or-fails _ _ (rw f at w) .0)
+    unfolding targetWrong searchRules searchTargetWrong
+    version-fits =
+        let w = sym (ap (λ (k : KindRules). k .targetWrong) (search-rules c t f)) ∙ rules-passed c h .target in
+        ltb-false greatestVersion (t .version) (or-fails _ _ w .0)
 
     -- the old map with the target's version put to a position
     abbrev oldWith : ℕ → List MapEntry
     oldWith p = putEntry (λ (new before : ℕ). new) (record { position = p; version = t .version }) (c .state .monitoringMap)
 
     -- what holds of the old map, and with the version at any entry, holds of the new one
-    search-map-by : (P : List MapEntry → Type 0) → P (c .state .monitoringMap) → ((p : ℕ) → p < c .parts .size → P (oldWith p)) → P (mapAfter c)
+    search-map-by : (P : List MapEntry → Type 0) → P (c .state .monitoringMap) → ((p : ℕ) → p < c .parts .treeSize → P (oldWith p)) → P (mapAfter c)
     unfolding mapAfterSearch Option·elim
     search-map-by P old new = rw search-map (go (first (isComplete (ladder (t .version)) (t .version)) (c .parts .entries)) refl)
       where
@@ -202,9 +240,9 @@ module _ (c : Call) (h : Accepted c) where
             new (e .position) (shown-entries c h .within (e .position) m)
 
     -- the new map may be kept
-    pub search-keepable : Keepable (c .parts .size) (mapAfter c)
-    search-keepable = search-map-by (Keepable (c .parts .size)) old-keepable (λ p l.
-        put-keepable (λ (new before : ℕ). new) (record { position = p; version = t .version }) (c .parts .size) (λ _ _. version-fits) (l, version-fits)
+    pub search-keepable : Keepable (c .parts .treeSize) (mapAfter c)
+    search-keepable = search-map-by (Keepable (c .parts .treeSize)) old-keepable (λ p l.
+        put-keepable (λ (new before : ℕ). new) (record { position = p; version = t .version }) (c .parts .treeSize) (λ _ _. version-fits) (l, version-fits)
         (c .state .monitoringMap) old-keepable)
 
     -- it has at most one pair more than the old one
@@ -212,45 +250,26 @@ module _ (c : Call) (h : Accepted c) where
     search-one-more = search-map-by (λ (l : List MapEntry). length l ≤ length (c .state .monitoringMap) + 1) (omega arith)
         (λ p _. put-length (λ (new before : ℕ). new) (record { position = p; version = t .version }) (c .state .monitoringMap))
 
-    -- and not too many
-    pub search-few : length (mapAfter c) ≤ mapLimit
-    unfolding roomMissing roomMissingFor
-    search-few =
-        let w : roomMissingFor (searched t) c ≡ false = sym (ap (λ (g : Finding). roomMissingFor g c) f) ∙ rules-passed c h .room in
-        ltb-false mapLimit (length (mapAfter c)) (or-fails (ltb (c .inputs .room) (length (t .value))) (ltb mapLimit (length (mapAfter c))) w .1)
-
   module _ (f : c .parts .finding ≡ monitored) where
-    -- the new map of monitoring
-    monitoring-map : mapAfter c ≡ mapAfterMonitoring (c .parts .size) (c .state .monitoringMap)
-    unfolding mapAfter mapAfterBy
-    monitoring-map = rw f refl
-
-    -- it has not too many pairs
-    monitoring-few : length (mapAfter c) ≤ mapLimit
-    monitoring-few =
-        let v = valid-was (c .state) (h .valid) .mapFits in
-        let l = monitored-length (c .parts .size) (c .state .monitoringMap) in
-        rw monitoring-map (omega arith)
-
-    -- it has no more than the old one
+    -- the new map of monitoring has no more pairs than the old one
     pub monitoring-no-more : length (mapAfter c) ≤ length (c .state .monitoringMap)
-    monitoring-no-more = rw monitoring-map (monitored-length (c .parts .size) (c .state .monitoringMap))
+    monitoring-no-more = rw (monitoring-map c f) (monitored-length (c .parts .treeSize) (c .state .monitoringMap))
 
     -- they stand on the frontier
-    pub monitoring-stands : Stand (λ (p : ℕ). List·Memᴰ p (frontier (c .parts .size))) (mapAfter c)
-    monitoring-stands = rw monitoring-map (monitored-on-frontier (c .parts .size) (c .state .monitoringMap) (λ e m. old-keepable .pairs e m .0))
+    pub monitoring-stands : Stand (λ (p : ℕ). List·Memᴰ p (frontier (c .parts .treeSize))) (mapAfter c)
+    monitoring-stands = rw (monitoring-map c f) (monitored-on-frontier (c .parts .treeSize) (c .state .monitoringMap) (λ e m. old-keepable .pairs e m .0))
 
     -- and may be kept
-    monitoring-keepable : Keepable (c .parts .size) (mapAfter c)
-    monitoring-keepable = rw monitoring-map (monitored-keepable (c .parts .size) (c .state .monitoringMap) (old-keepable .pairs))
+    monitoring-keepable : Keepable (c .parts .treeSize) (mapAfter c)
+    monitoring-keepable = rw (monitoring-map c f) (monitored-keepable (c .parts .treeSize) (c .state .monitoringMap) (old-keepable .pairs))
 
   -- the state after an accepted call is valid
   pub accepted-valid : isValid (nextState c) ≡ true
   accepted-valid = go (c .parts .finding) refl
     where
       go : (f : Finding) → c .parts .finding ≡ f → isValid (nextState c) ≡ true
-      go (searched t) f = next-valid (search-few t f) (search-keepable t f)
-      go monitored f = next-valid (monitoring-few f) (monitoring-keepable f)
+      go (searched t) f = next-valid map-few (search-keepable t f)
+      go monitored f = next-valid map-few (monitoring-keepable f)
 
 -- ---- the calls
 
@@ -261,21 +280,21 @@ state-valid s i c e = let (_, h) = accepted-call s i c e in accepted-valid c h
 -- after a search
 pub search-state-valid : (s : Option State) (a : Arguments) (signed output : Bytes) (c : Call) → judgeSearch s a signed output ≡ passed c
     → isValid (nextState c) ≡ true
-unfolding judgeSearch
+unfolding judgeSearch judgeCall
 search-state-valid s a signed output c e = state-valid s (libraryInputs (some searchKind) a signed (length output)) c e
 
 -- after monitoring
 pub monitoring-state-valid : (s : Option State) (a : Arguments) (signed : Bytes) (c : Call) → judgeMonitoring s a signed ≡ passed c → isValid (nextState c) ≡ true
-unfolding judgeMonitoring
+unfolding judgeMonitoring judgeCall
 monitoring-state-valid s a signed c e = state-valid s (libraryInputs (some monitor) a signed 0) c e
 
 -- what an accepted call found is of the kind asked for
 kind-was : (s : Option State) (k : Kind) (a : Arguments) (signed : Bytes) (room : ℕ) (c : Call) → judge s (libraryInputs (some k) a signed room) ≡ passed c
     → sameKind (kindOf (c .parts .finding)) k ≡ true
-unfolding kindAsked libraryInputs Option·elim
+unfolding kindAsked libraryInputs inputsWithin Option·elim
 kind-was s k a signed room c e =
     let (q, h) = accepted-call s (libraryInputs (some k) a signed room) c e in
-    let w : Option·elim (c .inputs .kind) false (sameKind (kindOf (c .parts .finding))) ≡ true = own-was c (rules-passed c h .own) .0 in
+    let w : Option·elim (c .inputs .kind) false (sameKind (kindOf (c .parts .finding))) ≡ true = requested-was c (rules-passed c h .own) .0 in
     let j : c .inputs .kind ≡ some k = ap (λ (i : Inputs). i .kind) q in
     sym (ap (λ (o : Option Kind). Option·elim o false (sameKind (kindOf (c .parts .finding)))) j) ∙ w
 
@@ -288,7 +307,7 @@ found-by-search monitored h = absurd (false≢true h)
 -- so has an accepted search
 pub search-target : (s : Option State) (a : Arguments) (signed output : Bytes) (c : Call) → judgeSearch s a signed output ≡ passed c
     → (t : Target) × (c .parts .finding ≡ searched t)
-unfolding judgeSearch
+unfolding judgeSearch judgeCall
 search-target s a signed output c e = found-by-search (c .parts .finding) (kind-was s searchKind a signed (length output) c e)
 
 -- what is of the kind of monitoring has none
@@ -299,22 +318,22 @@ found-by-monitoring monitored h = refl
 
 -- nor has accepted monitoring
 pub monitoring-finding : (s : Option State) (a : Arguments) (signed : Bytes) (c : Call) → judgeMonitoring s a signed ≡ passed c → c .parts .finding ≡ monitored
-unfolding judgeMonitoring
+unfolding judgeMonitoring judgeCall
 monitoring-finding s a signed c e = found-by-monitoring (c .parts .finding) (kind-was s monitor a signed 0 c e)
 
 -- the map after a search has at most one pair more than the old one, and not too many
 pub search-map-length : (s : Option State) (a : Arguments) (signed output : Bytes) (c : Call) → judgeSearch s a signed output ≡ passed c
     → (length (mapAfter c) ≤ length (c .state .monitoringMap) + 1) × (length (mapAfter c) ≤ mapLimit)
-unfolding judgeSearch
+unfolding judgeSearch judgeCall
 search-map-length s a signed output c e =
     let (_, h) = accepted-call s (libraryInputs (some searchKind) a signed (length output)) c e in
     let (t, f) = search-target s a signed output c e in
-    (search-one-more c h t f, search-few c h t f)
+    (search-one-more c h t f, map-few c h)
 
 -- after monitoring every pair stands on the frontier, and there are no more than before
 pub monitoring-map-stands : (s : Option State) (a : Arguments) (signed : Bytes) (c : Call) → judgeMonitoring s a signed ≡ passed c
-    → Stand (λ (p : ℕ). List·Memᴰ p (frontier (c .parts .size))) (mapAfter c) × (length (mapAfter c) ≤ length (c .state .monitoringMap))
-unfolding judgeMonitoring
+    → Stand (λ (p : ℕ). List·Memᴰ p (frontier (c .parts .treeSize))) (mapAfter c) × (length (mapAfter c) ≤ length (c .state .monitoringMap))
+unfolding judgeMonitoring judgeCall
 monitoring-map-stands s a signed c e =
     let (_, h) = accepted-call s (libraryInputs (some monitor) a signed 0) c e in
     let f = monitoring-finding s a signed c e in

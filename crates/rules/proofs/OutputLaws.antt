@@ -1,4 +1,5 @@
--- What reading the sheet of VRF outputs yields (specs/VrfOutputs.antt): outputs of their length, of bytes if the sheet is.
+-- What reading the sheet of VRF outputs yields (specs/VrfOutputs.antt): outputs of their length, of
+-- bytes if the sheet is.
 use mathlib.Core.Path.{_≡_, refl}
 use mathlib.Core.Bool.{true}
 use mathlib.Core.List.{List, [], List·Memᴰ}
@@ -15,7 +16,8 @@ use Rattle.hash.specs.Bytes.{AreBytes}
 use Rattle.hash.proofs.BytesLaws.{bytes-drop}
 use Rattle.tree.proofs.RunLaws.{runs-sized, runs-bytes}
 use Rattle.rules.specs.Limits.{vrfOutputLength}
-use Rattle.rules.specs.VrfOutputs.{VrfOutput, recordLength, readRecord, readRecords, readOutputs, hasOutput, outputOf}
+use Rattle.rules.specs.VrfOutputs.{VrfOutput, recordLength, readRecord, readRecords, readOutputs}
+use Rattle.rules.specs.VrfOutputs.{hasOutput, outputOf}
 
 -- what holds of the output of each record of a sheet that reads holds of each output
 outputs-by : (P : Bytes → Type 0) (s : Bytes) (xs : List VrfOutput) → readOutputs s ≡ some xs

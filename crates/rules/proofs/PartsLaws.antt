@@ -1,4 +1,5 @@
--- What reading a response yields (specs/ResponseText.antt): every byte string has bytes, and numbers and strings keep the limits of their fields.
+-- What reading a response yields (specs/ResponseText.antt): every byte string has bytes, and
+-- numbers and strings keep the limits of their fields.
 use mathlib.Core.Path.{_≡_, refl, subst}
 use mathlib.Core.Logic.{⊎-elim}
 use mathlib.Core.List.{List, [], _∷_, List·Memᴰ, List·Memᴰ·head, List·Memᴰ·tail}
@@ -17,9 +18,13 @@ use Rattle.lines.proofs.LineLaws.{line-read, leading-each}
 use Rattle.tree.proofs.CollisionLaws.{Sized, ByteStrings}
 use Rattle.tree.proofs.RunLaws.{runs-sized, runs-bytes}
 use Rattle.rules.specs.Limits.{hashLength, vrfOutputLength, numberBound, openingLength, valueLimit}
-use Rattle.rules.specs.Response.{Kind, search, monitor, Target, Finding, searched, monitored, Step, Result, included, absent, otherLeaf, Lookup, Entry, Parts}
-use Rattle.rules.specs.ResponseText.{ktForm, headForm, targetForm, stepForm, entryForm, inForm, noForm, nlForm, nodeForm, readSiblings, readCommitment, readStep, readIn, readNo, readNl, readNode}
-use Rattle.rules.specs.ResponseText.{Item, entryItem, lookupItem, readEntryLine, readItem, grouped, readBody, readRest, readKindLine, readParts, readResponse}
+use Rattle.rules.specs.Response.{Kind, search, monitor, Target, Finding, searched, monitored, Step}
+use Rattle.rules.specs.Response.{Result, included, absent, otherLeaf, Lookup, Entry, Parts}
+use Rattle.rules.specs.ResponseText.{ktForm, headForm, targetForm, stepForm, entryForm, inForm, noForm}
+use Rattle.rules.specs.ResponseText.{nlForm, nodeForm, readSiblings, readCommitment, readStep, readIn}
+use Rattle.rules.specs.ResponseText.{readNo, readNl, readNode}
+use Rattle.rules.specs.ResponseText.{Item, entryItem, lookupItem, readEntryLine, readItem, grouped}
+use Rattle.rules.specs.ResponseText.{readBody, readRest, readKindLine, readParts, readResponse}
 
 -- ---- steps
 
@@ -91,7 +96,7 @@ nl-fits l k e =
 
 -- an entry's time is in its bound, and its prefix root has bytes
 pub record EntryFits (e : Entry) : Type 0 where
-  pub time : e .time ≤ numberBound
+  pub timestamp : e .timestamp ≤ numberBound
   pub root : AreBytes (e .prefixRoot)
   pub lookups : (l : Lookup) → List·Memᴰ l (e .lookups) → LookupFits l
 
@@ -104,7 +109,7 @@ unfolding readEntryLine
 entry-line-fits l i e =
     let ((p, (t, (r, _))), q, u) = bind-some (readLine entryForm l) _ i e in
     let (_, (_, (h, (b, _)))) = line-read entryForm l (p, (t, (r, tt))) q in
-    subst ItemFits (Option·some-injective _ i u) (record { time = h; root = b .1; lookups = each-nil LookupFits })
+    subst ItemFits (Option·some-injective _ i u) (record { timestamp = h; root = b .1; lookups = each-nil LookupFits })
 
 item-fits : (l : Bytes) (i : Item) → readItem l ≡ some i → ItemFits i
 unfolding readItem
@@ -129,8 +134,8 @@ grouped-fit (entryItem e ∷ is) h =
     let (f, g) = grouped-fit is (λ i m. h i (List·Memᴰ·tail m)) in
     let x = h (entryItem e) (List·Memᴰ·head refl) in (
       each-nil LookupFits,
-      each-cons EntryFits (record { position = e .position; time = e .time; prefixRoot = e .prefixRoot; lookups = grouped is .0 }) (grouped is .1)
-          (record { time = x .time; root = x .root; lookups = f }) g,
+      each-cons EntryFits (record { position = e .position; timestamp = e .timestamp; prefixRoot = e .prefixRoot; lookups = grouped is .0 }) (grouped is .1)
+          (record { timestamp = x .timestamp; root = x .root; lookups = f }) g,
     )
 
 -- ---- nodes

@@ -1,5 +1,6 @@
--- Laws of the program's judgement (specs/Program.antt): a file that is missing or too long is 1, one byte more than is allowed shows that a file is too long, and a
--- request that asks for nothing is 6 where none of 1 to 5 applies.
+-- Laws of the program's judgement (specs/Program.antt): a file that is missing or too long is 1,
+-- one byte more than is allowed shows that a file is too long, and 6 applies to a request that asks
+-- for nothing.
 use mathlib.Core.Path.{_≡_, refl, sym, ap, _∙_}
 use mathlib.Core.Logic.{inl}
 use mathlib.Core.Bool.{Bool, true, false, _&&_, false≢true}
@@ -11,18 +12,18 @@ use lib.Dec.{leb}
 use lib.ListN.{length, take}
 use lib.Seq.{take-all, length-take-le}
 use borrow.Author.Tests.{leb-true, leb-false, lt-leb}
-use Rattle.lists.specs.Choice.{_>>_, given}
+use Rattle.lists.specs.Choice.{_>>_, isSome}
 use Rattle.lists.specs.Lists.{Bytes, every}
 use Rattle.lists.proofs.ChoiceLaws.{test-true, given-none}
 use Rattle.lists.proofs.ListLaws.{every-cons}
-use Rattle.rules.specs.Limits.{programResponseLimit, configurationLimit, signedTextLimit, vrfOutputsLimit, stateTextLimit, requestLimit}
+use Rattle.rules.specs.Limits.{programResponseLimit, configurationLimit, signedTextLimit}
+use Rattle.rules.specs.Limits.{vrfOutputsLimit, valueLimit}
+use Rattle.rules.specs.Limits.{stateTextLimit, requestLimit}
 use Rattle.rules.specs.State.{State}
 use Rattle.rules.specs.StateText.{readState}
-use Rattle.rules.specs.Refusals.{Inputs, Call, Judgement, refused, passed, reading, readCall, kindAsked, foreign, checks, lastChecks, triedAfter, judge}
-use Rattle.rules.specs.Calls.{Arguments, libraryInputs, numberOf}
-use Rattle.rules.specs.Program.{Files, within, readRequest, requested, judgeAsked, judgeFiles}
-use Rattle.rules.proofs.RefusalLaws.{refuses, sixteen-numbers, number-refused}
-use Rattle.rules.proofs.AcceptedLaws.{call-read}
+use Rattle.rules.specs.Refusals.{Call, Judgement, refused, reading, kindAsked, foreign}
+use Rattle.rules.specs.Calls.{judgeCall}
+use Rattle.rules.specs.Program.{Files, within, readRequest, requested, judgeFiles}
 
 -- ---- a file
 
@@ -43,7 +44,7 @@ within-fails limit none e = refl
 within-fails limit (some s) e = rw e refl
 
 -- one that is missing is not
-within-missing : (limit : ℕ) (o : Option Bytes) → given o ≡ false → within limit o ≡ none
+within-missing : (limit : ℕ) (o : Option Bytes) → isSome o ≡ false → within limit o ≡ none
 within-missing limit o e = ap (within limit) (given-none o e) ∙ within-fails limit none refl
 
 -- the first bytes of a file, one more than are allowed
@@ -109,8 +110,8 @@ module _ (t : ℕ → Option Bytes → Bool) (h : (limit : ℕ) (o : Option Byte
       test-refused signedTextLimit (f .signed) _ _ λ _ e. absurd (no-test e)
 
 -- a file that is missing, whichever it is, is 1
-pub missing-refused : (f : Files) → every (tests (λ _ o. given o) f) ≡ false → judgeFiles f ≡ refused 1
-missing-refused = tests-refused (λ _ o. given o) within-missing
+pub missing-refused : (f : Files) → every (tests (λ _ o. isSome o) f) ≡ false → judgeFiles f ≡ refused 1
+missing-refused = tests-refused (λ _ o. isSome o) within-missing
 
 -- so is one that is too long
 pub unfit-refused : (f : Files) → every (tests fits f) ≡ false → judgeFiles f ≡ refused 1
@@ -127,7 +128,7 @@ fit-read limit s bs next j g e =
 -- where all six fit, the call asked for is judged
 pub fit-judged : (request response settings state sheet signed : Bytes) → every (tests fits (filesThere request response settings state sheet signed)) ≡ true
     → judgeFiles (filesThere request response settings state sheet signed)
-    ≡ judgeAsked (readRequest request .kind) (readState state) (requested (readRequest request) response settings sheet) signed
+    ≡ judgeCall (readRequest request .kind) (readState state) (requested (readRequest request) response settings sheet) signed valueLimit
 unfolding judgeFiles
 fit-judged request response settings state sheet signed =
     fit-read requestLimit request _ _ _
@@ -164,31 +165,7 @@ cut-judged f =
 
 -- ---- a request that asks for nothing
 
--- 6 applies to a call for which no kind is asked
+-- 6 applies to it, so that it is the answer where none of 1 to 5 is
 pub kind-foreign : (c : Call) → c .inputs .kind ≡ none → foreign c ≡ true
 unfolding foreign kindAsked Option·elim
 kind-foreign c e = rw e refl
-
--- the number of the first of 1 to 5 that applies, or 0
-module _ (st : Option State) (a : Arguments) (signed : Bytes) (n : ℕ) (e : n ≡ numberOf (readCall st (libraryInputs none a signed 0))) where
-  abbrev inputs : Inputs
-  inputs = libraryInputs none a signed 0
-
-  -- it is the answer, if one applies
-  pub unasked-refused : (n ≡ 0 → ⊥) → judgeAsked none st a signed ≡ refused n
-  unfolding judgeAsked judge triedAfter
-  unasked-refused z = ap (triedAfter (checks ++ lastChecks)) (number-refused (readCall st inputs) n e z)
-
-  -- else 6
-  pub unasked-foreign : n ≡ 0 → judgeAsked none st a signed ≡ refused 6
-  unfolding judgeAsked judge triedAfter numberOf libraryInputs checks
-  unasked-foreign z = go (readCall st inputs) refl
-    where
-      go : (j : Judgement) → readCall st inputs ≡ j → judge st inputs ≡ refused 6
-      go (refused k) q =
-          let h = sixteen-numbers st inputs k (ap (triedAfter (checks ++ lastChecks)) q) in
-          let y : k ≡ 0 = sym (ap numberOf q) ∙ sym e ∙ z in
-          absurd (omega arith)
-      go (passed c) q =
-          let k : c .inputs .kind ≡ none = ap (λ (i : Inputs). i .kind) (call-read st inputs c q .0) in
-          ap (triedAfter (checks ++ lastChecks)) q ∙ refuses (checks ++ lastChecks) c 6 (inl (kind-foreign c k, refl))

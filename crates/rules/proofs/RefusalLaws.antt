@@ -1,4 +1,5 @@
--- What a judgement means: acceptance is that everything reads and no rule applies, a refusal has the number of the first that applies, and leaves everything.
+-- What a judgement means: acceptance is that everything reads and no rule applies, a refusal has
+-- the number of the first that applies, and leaves everything.
 use mathlib.Core.Path.{_≡_, refl, sym, ap, _∙_, subst}
 use mathlib.Core.Logic.{_⊎_, inl, inr}
 use mathlib.Core.Bool.{Bool, true, false}
@@ -13,8 +14,11 @@ use Rattle.rules.specs.Configuration.{readConfiguration}
 use Rattle.rules.specs.VrfOutputs.{readOutputs}
 use Rattle.rules.specs.State.{State, isValid}
 use Rattle.rules.specs.ResponseText.{readResponse}
-use Rattle.rules.specs.Refusals.{Inputs, Call, Judgement, refused, passed, reading, lengthsFit, validState, readCall, Rule, checks, lastChecks, tried, triedAfter, judge}
-use Rattle.rules.specs.Calls.{numberOf, stateAfter, valueOf, writtenFirst, outputAfter, textOf, textAfter}
+use Rattle.rules.specs.Refusals.{Inputs, Call, Judgement, refused, passed, reading, lengthsFit}
+use Rattle.rules.specs.Refusals.{validState, readCall, Rule, checks, lastChecks, tried, triedAfter}
+use Rattle.rules.specs.Refusals.{judge}
+use Rattle.rules.specs.Calls.{numberOf, stateAfter, valueOf, writtenFirst, outputAfter, textOf}
+use Rattle.rules.specs.Calls.{textAfter}
 use Rattle.rules.specs.Consistency.{accepted, acceptedCalls}
 
 -- no rule of a list applies to a call
@@ -219,13 +223,15 @@ number-refused (passed c) k e z = absurd (z e)
 
 -- ---- chains
 
--- an accepted call is the first of the accepted ones, and the rest of the chain goes on from the state it gave
+-- an accepted call is the first of the accepted ones, and the rest of the chain goes on from the
+-- state it gave
 pub chain-accepted : (s : Option State) (i : Inputs) (is : List Inputs) (c : Call) → judge s i ≡ passed c
     → acceptedCalls s (i ∷ is) ≡ c ∷ acceptedCalls (stateAfter s (judge s i)) is
 unfolding acceptedCalls accepted
 chain-accepted s i is c q = ap (λ (j : Judgement). accepted j ++ acceptedCalls (stateAfter s (judge s i)) is) q
 
--- a refused call is not among the accepted ones, and the rest of the chain goes on from the state that it was given
+-- a refused call is not among the accepted ones, and the rest of the chain goes on from the state
+-- that it was given
 pub chain-refused : (s : Option State) (i : Inputs) (is : List Inputs) (k : ℕ) → judge s i ≡ refused k → acceptedCalls s (i ∷ is) ≡ acceptedCalls s is
 unfolding acceptedCalls accepted stateAfter
 chain-refused s i is k q = ap (λ (j : Judgement). accepted j ++ acceptedCalls (stateAfter s j) is) q

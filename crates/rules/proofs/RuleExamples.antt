@@ -5,7 +5,8 @@ use mathlib.Core.List.{List, [], _∷_}
 use Prim.Native.Nat.{ℕ}
 use Rattle.tree.specs.Ladder.{ladder}
 use Rattle.rules.specs.Response.{Lookup, Entry, included, absent}
-use Rattle.rules.specs.Search.{Asked, askedBySearch, earlyThenComplete, mapAfterSearch}
+use Rattle.rules.specs.Kinds.{Asked}
+use Rattle.rules.specs.Search.{askedBySearch, earlyThenComplete, mapAfterSearch}
 use Rattle.rules.specs.Monitoring.{askedByMonitoring, versionsOf, mapAfterMonitoring}
 use Rattle.rules.proofs.Running.{opened, pair}
 
@@ -27,7 +28,8 @@ pub record MonitoringExamples : Type 0 where
   pub steps-merged : versionsOf (askedByMonitoring 14 (pair 4 2 ∷ pair 8 5 ∷ [])) ≡ 0 ∷ 1 ∷ 2 ∷ 3 ∷ 5 ∷ []
   -- where a pair stands, its own version is not asked for
   pub on-the-entry : askedByMonitoring 4 (pair 1 0 ∷ pair 3 9 ∷ []) ≡ ask 3 (0 ∷ []) ∷ []
-  -- pairs move to the ends of their right paths; where they meet the larger version is kept, from whichever it comes
+  -- pairs move to the ends of their right paths; where they meet the larger version is kept, from
+  -- whichever it comes
   pub moved : mapAfterMonitoring 14 (pair 4 1 ∷ pair 8 0 ∷ pair 13 3 ∷ []) ≡ pair 7 1 ∷ pair 11 0 ∷ pair 13 3 ∷ []
   pub met : mapAfterMonitoring 4 (pair 1 5 ∷ pair 2 2 ∷ []) ≡ pair 3 5 ∷ []
   pub met-standing : mapAfterMonitoring 4 (pair 1 0 ∷ pair 3 9 ∷ []) ≡ pair 3 9 ∷ []
@@ -53,7 +55,7 @@ abbrev shows : ℕ → Bool → Lookup
 shows v b = record { version = v; result = cond b included absent; siblings = [] }
 
 abbrev entry : ℕ → List Lookup → Entry
-entry p ls = record { position = p; time = 0; prefixRoot = []; lookups = ls }
+entry p ls = record { position = p; timestamp = 0; prefixRoot = []; lookups = ls }
 
 -- of the ladder 0 1 3 2 of version 1
 abbrev whole : ℕ → Entry

@@ -24,7 +24,8 @@ x s = unhex (ascii s)
 abbrev pub pair : ℕ → ℕ → MapEntry
 pair p v = record { position = p; version = v }
 
--- inputs of which a rule looks at the clock and the output bytes only, and a configuration with its two bounds
+-- inputs of which a rule looks at the clock and the output bytes only, and a configuration with its
+-- two bounds
 abbrev pub blank-inputs : ℕ → ℕ → Inputs
 blank-inputs clock room =
     record {

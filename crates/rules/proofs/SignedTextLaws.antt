@@ -1,5 +1,5 @@
--- The signed text (specs/Calls.antt, judgeUnsigned and treeHeadOf): how long it is, and that the search or monitoring that is given it goes through,
--- but for 16 in a search.
+-- The signed text (specs/Calls.antt, judgeUnsigned and treeHeadOf): how long it is, and that the
+-- search or monitoring that is given it goes through, but for 16 in a search.
 use mathlib.Core.Path.{_≡_, refl, sym, ap, _∙_}
 use mathlib.Core.Logic.{_⊎_, inl, inr}
 use mathlib.Core.Bool.{Bool, true, false, not}
@@ -16,23 +16,31 @@ use Rattle.lists.proofs.ChoiceLaws.{choose-true, choose-by}
 use Rattle.lists.proofs.ListLaws.{all-implied, every-cons, equal-same}
 use Rattle.hash.specs.Sha256.{digestLength}
 use Rattle.tree.proofs.WalkValueLaws.{value-length}
-use Rattle.rules.specs.Limits.{responseLimit, configurationLimit, signedTextLimit, vrfOutputsLimit, identifierLength, stateTextLimit}
+use Rattle.rules.specs.Limits.{responseLimit, configurationLimit, signedTextLimit, vrfOutputsLimit}
+use Rattle.rules.specs.Limits.{identifierLength, stateTextLimit}
 use Rattle.rules.specs.State.{State}
 use Rattle.rules.specs.StateText.{readState}
 use Rattle.rules.specs.Response.{Kind, search as searchKind, monitor}
 use Rattle.rules.specs.Response.{Result, included, absent, otherLeaf, Lookup, Entry}
 use Rattle.rules.specs.Refusals.{Inputs, Call, Judgement, refused, passed, lengthsFit, readCall}
-use Rattle.rules.specs.Refusals.{kindAsked, foreign, sizeWrong, targetWrong, asked, logWalk, notAsAsked, outputMissing, lastTime, timesWrong}
-use Rattle.rules.specs.Refusals.{commitmentOf, terminal, lookupHolds, lookupsHold, lookupFails, resultsWrong, known, historyDiffers, logRoot, treeHeadOf}
-use Rattle.rules.specs.Refusals.{headDiffers, roomMissingFor, roomMissing, checks, lastChecks, tried, triedAfter, judge, judgeWithoutHead}
-use Rattle.rules.specs.Calls.{Arguments, libraryInputs, judgeSearch, judgeMonitoring, numberOf, judgeUnsigned, placed, signedTextAfter}
-use Rattle.rules.specs.Calls.{textJudged, roomJudged, ktSearch, ktMonitor, kindNumbered, ktSignedText}
+use Rattle.rules.specs.Refusals.{kindRules, kindAsked, foreign, sizeWrong, targetWrong, asked, logWalk}
+use Rattle.rules.specs.Refusals.{notAsAsked, outputMissing, lastTimestamp, timestampsWrong}
+use Rattle.rules.specs.Refusals.{commitmentOf, terminal, lookupHolds, lookupPasses, lookupsHold}
+use Rattle.rules.specs.Refusals.{lookupFails, resultsWrong, known, historyDiffers, logRoot, treeHeadOf}
+use Rattle.rules.specs.Refusals.{headDiffers, roomMissing, checks, lastChecks, tried, triedAfter, judge}
+use Rattle.rules.specs.Refusals.{judgeWithoutHead}
+use Rattle.rules.specs.Calls.{judgeCall, Arguments, libraryInputs, inputsWithin, judgeSearch}
+use Rattle.rules.specs.Calls.{judgeMonitoring, numberOf, judgeUnsigned, placed, signedTextAfter}
+use Rattle.rules.specs.Calls.{textJudged, roomJudged, ktCall, ktSearch, ktMonitor, kindNumbered}
+use Rattle.rules.specs.Calls.{ktSignedText}
 use Rattle.rules.proofs.ConfigurationLaws.{configuration-least, head-length}
 use Rattle.rules.proofs.StateLaws.{valid-was}
-use Rattle.rules.proofs.RefusalLaws.{Readings, readings-were, readings-pass, NoneApplies, IsNumber, refused-not-passed, after-passed, after-refused, rest-tried, sixteen-numbers}
+use Rattle.rules.proofs.RefusalLaws.{valid-some, Readings, readings-were, readings-pass, NoneApplies}
+use Rattle.rules.proofs.RefusalLaws.{IsNumber, refused-not-passed, after-passed, after-refused}
+use Rattle.rules.proofs.RefusalLaws.{rest-tried, sixteen-numbers}
 use Rattle.rules.proofs.PartsLaws.{response-fits}
-use Rattle.rules.proofs.AcceptedLaws.{call-read, own-was}
-use Rattle.rules.proofs.NextStateLaws.{found-by-monitoring}
+use Rattle.rules.proofs.AcceptedLaws.{call-read, requested-was}
+use Rattle.rules.proofs.NextStateLaws.{monitoring-room, found-by-monitoring}
 
 -- bytes of the shortest signed text: more than any refusal's number
 abbrev pub signedTextLeast : ℕ
@@ -65,7 +73,7 @@ module _ (st : Option State) (kind : Option Kind) (a : Arguments) (c : Call) (e 
 
   -- the configuration is as given
   given-configuration : c .inputs .configuration ≡ a .configuration
-  unfolding libraryInputs
+  unfolding libraryInputs inputsWithin
   given-configuration = ap (λ (i : Inputs). i .configuration) (unsigned-readings .inputs)
 
   -- the inputs are within their lengths
@@ -73,7 +81,7 @@ module _ (st : Option State) (kind : Option Kind) (a : Arguments) (c : Call) (e 
       × (leb (length (a .configuration)) configurationLimit ≡ true)
       × (leb (length (a .vrfOutputs)) vrfOutputsLimit ≡ true)
       × (eqb (length (a .identifier)) identifierLength ≡ true)
-  unfolding lengthsFit libraryInputs
+  unfolding lengthsFit libraryInputs inputsWithin
   lengths-were =
       let (r, f1) = every-cons _ _ (unsigned-readings .fits) in
       let (g, f2) = every-cons _ _ f1 in
@@ -82,12 +90,13 @@ module _ (st : Option State) (kind : Option Kind) (a : Arguments) (c : Call) (e 
       let (i, _) = every-cons _ _ f4 in
       (r, g, o, i)
 
-  -- The signed text is within its least and its greatest length: a configuration that reads has 32 bytes to its limit, the size 8, the root 32.
+  -- The signed text is within its least and its greatest length: a configuration that reads has 32
+  -- bytes to its limit, the size 8, the root 32.
   pub signed-length : (signedTextLeast ≤ length (treeHeadOf c)) × (length (treeHeadOf c) ≤ signedTextLimit)
-  unfolding treeHeadOf libraryInputs
+  unfolding treeHeadOf libraryInputs inputsWithin
   signed-length =
       let s = c .inputs .configuration in
-      let t : length (treeHeadOf c) ≡ length s + 8 + length (logRoot c) = head-length s (c .parts .size) (logRoot c) in
+      let t : length (treeHeadOf c) ≡ length s + 8 + length (logRoot c) = head-length s (c .parts .treeSize) (logRoot c) in
       let k = ap length given-configuration in
       let g = configuration-least (a .configuration) (c .configuration) (unsigned-readings .configuration) in
       let (_, w, _, _) = lengths-were in
@@ -116,7 +125,7 @@ module _ (st : Option State) (kind : Option Kind) (a : Arguments) (c : Call) (e 
 
     -- its lengths fit
     signed-fits : lengthsFit signedInputs ≡ true
-    unfolding lengthsFit libraryInputs every
+    unfolding lengthsFit libraryInputs inputsWithin every
     signed-fits =
         let (r, g, o, i) = lengths-were in
         let t : leb (length (treeHeadOf c)) signedTextLimit ≡ true = le-leb _ _ (signed-length .1) in
@@ -124,7 +133,7 @@ module _ (st : Option State) (kind : Option Kind) (a : Arguments) (c : Call) (e 
 
     -- it is read
     signed-read : readCall st signedInputs ≡ passed signedCall
-    unfolding libraryInputs
+    unfolding libraryInputs inputsWithin
     signed-read =
         let h = unsigned-readings in
         readings-pass st signedInputs signedCall (record {
@@ -150,7 +159,7 @@ module _ (st : Option State) (kind : Option Kind) (a : Arguments) (c : Call) (e 
 
     -- so do those of an entry
     signed-lookups : (x : Entry) → lookupsHold c x ≡ true → lookupsHold signedCall x ≡ true
-    unfolding lookupsHold
+    unfolding lookupsHold lookupPasses kindRules
     signed-lookups x = all-implied _ _ (x .lookups) (λ l h. rw (signed-lookup (x .prefixRoot) l) h)
 
     -- and those of all entries
@@ -160,29 +169,29 @@ module _ (st : Option State) (kind : Option Kind) (a : Arguments) (c : Call) (e 
 
     -- kind, identifier and label are compared as before
     signed-own : foreign signedCall ≡ foreign c
-    unfolding foreign kindAsked libraryInputs
+    unfolding foreign kindAsked libraryInputs inputsWithin
     signed-own = rw (unsigned-readings .inputs) refl
 
     -- so are the times
-    signed-times : timesWrong signedCall ≡ timesWrong c
-    unfolding timesWrong lastTime libraryInputs
-    signed-times = rw (unsigned-readings .inputs) refl
+    signed-timestamps : timestampsWrong signedCall ≡ timestampsWrong c
+    unfolding timestampsWrong lastTimestamp libraryInputs inputsWithin
+    signed-timestamps = rw (unsigned-readings .inputs) refl
 
     -- none of 6 to 14 applies to it
     signed-checks : NoneApplies checks signedCall
-    unfolding checks sizeWrong targetWrong notAsAsked asked logWalk outputMissing resultsWrong historyDiffers known
+    unfolding checks sizeWrong kindRules targetWrong notAsAsked asked logWalk outputMissing resultsWrong historyDiffers known
     signed-checks =
         let (h6, (h7, (h8, (h9, (h10, (h11, (h12, h))))))) = unsigned-meaning .1 in
-        (signed-own ∙ h6, (h7, (h8, (h9, (h10, (signed-times ∙ h11, (signed-entries h12, h)))))))
+        (signed-own ∙ h6, (h7, (h8, (h9, (h10, (signed-timestamps ∙ h11, (signed-entries h12, h)))))))
 
     -- the signed text that it must have is the one that it has
     signed-text : treeHeadOf signedCall ≡ treeHeadOf c
-    unfolding treeHeadOf logRoot known logWalk libraryInputs
+    unfolding treeHeadOf logRoot known logWalk libraryInputs inputsWithin
     signed-text = rw given-configuration refl
 
     -- so 15 does not apply either
     signed-head : headDiffers signedCall ≡ false
-    unfolding headDiffers libraryInputs
+    unfolding headDiffers libraryInputs inputsWithin
     signed-head = ap not (equal-same (treeHeadOf c) (treeHeadOf signedCall) (sym signed-text))
 
     -- 16 alone is left
@@ -195,17 +204,17 @@ module _ (st : Option State) (kind : Option Kind) (a : Arguments) (c : Call) (e 
 -- monitoring that yields a signed text is accepted with it
 pub monitoring-accepted : (st : Option State) (a : Arguments) (c : Call) → judgeUnsigned st (some monitor) a ≡ passed c
     → numberOf (judgeMonitoring st a (treeHeadOf c)) ≡ 0
-unfolding judgeMonitoring numberOf roomMissing roomMissingFor kindAsked checks libraryInputs choose Option·elim
+unfolding judgeMonitoring judgeCall numberOf kindAsked checks libraryInputs inputsWithin choose Option·elim
 monitoring-accepted st a c e =
     let d = signedCall st (some monitor) a c e 0 in
-    let k : kindAsked d ≡ true = own-was d (signed-checks st (some monitor) a c e 0 .0) .0 in
-    let r : roomMissing d ≡ false = rw (found-by-monitoring (c .parts .finding) k) refl in
+    let k : kindAsked d ≡ true = requested-was d (signed-checks st (some monitor) a c e 0 .0) .0 in
+    let r = monitoring-room d (valid-some st (c .state) (unsigned-readings st (some monitor) a c e .state) .1) (found-by-monitoring (c .parts .finding) k) in
     rw (signed-judged st (some monitor) a c e 0, r) refl
 
 -- a search that yields one is accepted with it, or refused with 16
 pub search-accepted : (st : Option State) (a : Arguments) (c : Call) (output : Bytes) → judgeUnsigned st (some searchKind) a ≡ passed c
     → (numberOf (judgeSearch st a (treeHeadOf c) output) ≡ 0) ⊎ (numberOf (judgeSearch st a (treeHeadOf c) output) ≡ 16)
-unfolding judgeSearch numberOf
+unfolding judgeSearch judgeCall numberOf
 search-accepted st a c output e =
     rw (signed-judged st (some searchKind) a c e (length output))
     (choose-by (λ (j : Judgement). (numberOf j ≡ 0) ⊎ (numberOf j ≡ 16)) (roomMissing (signedCall st (some searchKind) a c e (length output))) _ _
@@ -213,7 +222,8 @@ search-accepted st a c output e =
 
 -- ---- for C programs
 
--- what kt_signed_text may answer: the number of a refusal, or the length of a text, which is greater
+-- what kt_signed_text may answer: the number of a refusal, or the length of a text, which is
+-- greater
 abbrev pub Answer : ℕ → Type 0
 Answer r = IsNumber r ⊎ ((signedTextLeast ≤ r) × (r ≤ signedTextLimit))
 
@@ -250,7 +260,7 @@ text-judged text newText j t r = rw (t, le-leb stateTextLimit (length newText) r
 pub kt-monitor-accepted : (text : Bytes) (a : Arguments) (newText : Bytes) (c : Call)
     → textJudged text (judgeUnsigned (readState text) (some monitor) a) ≡ passed c → stateTextLimit ≤ length newText
     → numberOf (ktMonitor text a (treeHeadOf c) newText) ≡ 0
-unfolding ktMonitor
+unfolding ktMonitor ktCall judgeMonitoring
 kt-monitor-accepted text a newText c e r =
     let (t, q) = text-fitted text (judgeUnsigned (readState text) (some monitor) a) c e in
     rw (text-judged text newText (judgeMonitoring (readState text) a (treeHeadOf c)) t r) (monitoring-accepted (readState text) a c q)
@@ -259,7 +269,7 @@ kt-monitor-accepted text a newText c e r =
 pub kt-search-accepted : (text : Bytes) (a : Arguments) (output newText : Bytes) (c : Call)
     → textJudged text (judgeUnsigned (readState text) (some searchKind) a) ≡ passed c → stateTextLimit ≤ length newText
     → (numberOf (ktSearch text a (treeHeadOf c) output newText) ≡ 0) ⊎ (numberOf (ktSearch text a (treeHeadOf c) output newText) ≡ 16)
-unfolding ktSearch
+unfolding ktSearch ktCall judgeSearch
 kt-search-accepted text a output newText c e r =
     let (t, q) = text-fitted text (judgeUnsigned (readState text) (some searchKind) a) c e in
     rw (text-judged text newText (judgeSearch (readState text) a (treeHeadOf c) output) t r) (search-accepted (readState text) a c output q)

@@ -1,4 +1,5 @@
--- Laws of a state's text (specs/StateText.antt): a state that is written reads as itself, a text that reads is what is written, and it is never too long.
+-- Laws of a state's text (specs/StateText.antt): a state that is written reads as itself, a text
+-- that reads is what is written, and it is never too long.
 use mathlib.Core.Path.{_≡_, refl, sym, _∙_, ap, ap₂}
 use mathlib.Core.Bool.{true}
 use mathlib.Core.List.{List, [], _∷_, _++_, map, append-assoc, append-nil, List·Memᴰ, List·Memᴰ·head}
@@ -18,21 +19,25 @@ use Rattle.lines.specs.Hex.{hexField}
 use Rattle.lines.specs.Field.{writeField, writeFields}
 use Rattle.lines.specs.Line.{tab, newline, Read, readLines, readLine, leading, joined}
 use Rattle.lines.proofs.FieldLaws.{Fits}
-use Rattle.lines.proofs.LineLaws.{isPlainForm, lineText, write-line, read-line, line-read, line-lacks, read-other, AllLack, all-lack-append, all-lack-map}
-use Rattle.lines.proofs.LineLaws.{linesText, text-append, text-written, text-short, lines-joined, joined-lines}
+use Rattle.lines.proofs.LineLaws.{isPlainForm, lineText, write-line, read-line, line-read, line-lacks}
+use Rattle.lines.proofs.LineLaws.{read-other, AllLack, all-lack-append, all-lack-map}
+use Rattle.lines.proofs.LineLaws.{linesText, text-append, text-written, text-short, lines-joined}
+use Rattle.lines.proofs.LineLaws.{joined-lines}
 use Rattle.lines.proofs.LineLaws.{leading-end, leading-none, leading-all, leading-was, leading-each}
 use Rattle.lines.proofs.NumberLaws.{decimal-short}
 use Rattle.lines.proofs.HexLaws.{length-hexField}
 use Rattle.rules.specs.Limits.{labelLimit, hashLength, stateTextLimit}
 use Rattle.rules.specs.State.{MapEntry, State, isValid, HasBytes}
-use Rattle.rules.specs.StateText.{sizeForm, keepForm, pairForm, readKeep, readPair, readStateLines, readState, writeKeep, writePair, writeState}
+use Rattle.rules.specs.StateText.{sizeForm, keepForm, pairForm, readKeep, readPair, readStateLines}
+use Rattle.rules.specs.StateText.{readState, writeKeep, writePair, writeState}
 use Rattle.rules.proofs.StateLaws.{Valid, valid-was, values-few}
 
 -- ---- lines
 
--- the lines of a state, without their newlines: the `size` line, a `keep` line, a `pair` line, and all of them
+-- the lines of a state, without their newlines: the `size` line, a `keep` line, a `pair` line, and
+-- all of them
 unfoldable pub sizeText : State → Bytes
-sizeText s = lineText sizeForm (s .size, (s .time, (s .label, tt)))
+sizeText s = lineText sizeForm (s .log .size, (s .log .timestamp, (s .label, tt)))
 
 unfoldable pub keepText : Bytes → Bytes
 keepText v = lineText keepForm (v, tt)
@@ -41,7 +46,7 @@ unfoldable pub pairText : MapEntry → Bytes
 pairText e = lineText pairForm (e .position, (e .version, tt))
 
 unfoldable pub stateLines : State → List Bytes
-stateLines s = sizeText s ∷ (map keepText (s .values) ++ map pairText (s .monitoringMap))
+stateLines s = sizeText s ∷ (map keepText (s .log .values) ++ map pairText (s .monitoringMap))
 
 -- the forms of a state's lines have a word, and their words no tab and no newline
 size-plain : isPlainForm sizeForm ≡ true
@@ -60,23 +65,23 @@ pair-plain = refl
 pub state-text : (s : State) → writeState s ≡ linesText (stateLines s)
 unfolding writeState writeKeep writePair stateLines sizeText keepText pairText
 state-text s =
-    let k = linesText (map keepText (s .values)) in
+    let k = linesText (map keepText (s .log .values)) in
     let p = linesText (map pairText (s .monitoringMap)) in
     ap₂ _++_
-    (ap₂ _++_ (write-line sizeForm (s .size, (s .time, (s .label, tt)))) (text-written writeKeep keepText (λ v. write-line keepForm (v, tt)) (s .values)))
+    (ap₂ _++_ (write-line sizeForm (s .log .size, (s .log .timestamp, (s .label, tt)))) (text-written writeKeep keepText (λ v. write-line keepForm (v, tt)) (s .log .values)))
     (text-written writePair pairText (λ e. write-line pairForm (e .position, (e .version, tt))) (s .monitoringMap))
     ∙ append-assoc (sizeText s ++ newline ∷ []) k p
     ∙ append-assoc (sizeText s) (newline ∷ []) (k ++ p)
-    ∙ ap (λ (t : Bytes). sizeText s ++ newline ∷ t) (sym (text-append (map keepText (s .values)) (map pairText (s .monitoringMap))))
+    ∙ ap (λ (t : Bytes). sizeText s ++ newline ∷ t) (sym (text-append (map keepText (s .log .values)) (map pairText (s .monitoringMap))))
 
 -- ---- values that fit
 
 -- the values of the `size` line of a valid state fit it
-size-fits : (s : State) → Valid s → HasBytes s → Fits (sizeForm .fields) (s .size, (s .time, (s .label, tt)))
+size-fits : (s : State) → Valid s → HasBytes s → Fits (sizeForm .fields) (s .log .size, (s .log .timestamp, (s .label, tt)))
 size-fits s v h = let a = v .sizeFits in (omega arith, (v .timeBound, ((le-leb (length (s .label)) labelLimit (v .labelFits), h .0), tt)))
 
 -- so does each value of a `keep` line
-keep-fits : (s : State) (v : Bytes) → Valid s → HasBytes s → List·Memᴰ v (s .values) → Fits (keepForm .fields) (v, tt)
+keep-fits : (s : State) (v : Bytes) → Valid s → HasBytes s → List·Memᴰ v (s .log .values) → Fits (keepForm .fields) (v, tt)
 keep-fits s v a h m = ((eq-eqb (length v) hashLength (a .valueLength v m), h .1 v m), tt)
 
 -- and each pair its line
@@ -115,18 +120,18 @@ pairs-no-keep (e ∷ es) h = leading-none readKeep (pairText e) (map pairText es
 read-lines : (s : State) → Valid s → HasBytes s → readStateLines (stateLines s) ≡ some s
 unfolding readStateLines stateLines sizeText bind _>>_
 read-lines s v h =
-    let k = leading-all readKeep keepText (s .values) (map pairText (s .monitoringMap)) (λ a m. read-keep a (keep-fits s a v h m))
+    let k = leading-all readKeep keepText (s .log .values) (map pairText (s .monitoringMap)) (λ a m. read-keep a (keep-fits s a v h m))
     (pairs-no-keep (s .monitoringMap) (λ e m. pair-fits s e v m)) in
     let p = leading-all readPair pairText (s .monitoringMap) [] (λ e m. read-pair e (pair-fits s e v m)) (leading-end readPair) in
-    rw (read-line sizeForm (s .size, (s .time, (s .label, tt))) size-plain (size-fits s v h), k, rw append-nil at p) refl
+    rw (read-line sizeForm (s .log .size, (s .log .timestamp, (s .label, tt))) size-plain (size-fits s v h), k, rw append-nil at p) refl
 
 -- no line of a state has a newline within it
 lines-lack : (s : State) → Valid s → HasBytes s → AllLack newline (stateLines s)
 unfolding stateLines sizeText keepText pairText
 lines-lack s v h = (
-  line-lacks sizeForm (s .size, (s .time, (s .label, tt))) size-plain (size-fits s v h),
-  all-lack-append newline (map keepText (s .values)) (map pairText (s .monitoringMap))
-      (all-lack-map newline keepText (s .values) (λ a m. line-lacks keepForm (a, tt) keep-plain (keep-fits s a v h m)))
+  line-lacks sizeForm (s .log .size, (s .log .timestamp, (s .label, tt))) size-plain (size-fits s v h),
+  all-lack-append newline (map keepText (s .log .values)) (map pairText (s .monitoringMap))
+      (all-lack-map newline keepText (s .log .values) (λ a m. line-lacks keepForm (a, tt) keep-plain (keep-fits s a v h m)))
       (all-lack-map newline pairText (s .monitoringMap) (λ e m. line-lacks pairForm (e .position, (e .version, tt)) pair-plain (pair-fits s e v m))),
 )
 
@@ -163,7 +168,7 @@ lines-read [] s e = absurd (Option·none-ne-some s e)
 lines-read (l ∷ ls) s e =
     let k = leading readKeep ls in
     let p = leading readPair (k .1) in
-    let st : Read sizeForm → State = λ x. record { label = x .1 .1 .0; size = x .0; time = x .1 .0; values = k .0; monitoringMap = p .0 } in
+    let st : Read sizeForm → State = λ x. record { label = x .1 .1 .0; log = record { size = x .0; timestamp = x .1 .0; values = k .0 }; monitoringMap = p .0 } in
     let (x, r, u) = bind-some (readLine sizeForm l) (λ (x : Read sizeForm). eqb (length (p .1)) 0 >> some (st x)) s e in
     let (n, q) = test-some (eqb (length (p .1)) 0) (some (st x)) s u in
     let i : st x ≡ s = Option·some-injective (st x) s q in
@@ -205,11 +210,11 @@ unfolding sizeText lineText joined writeFields writeField ascii
 size-short s v =
     let b = v .sizeFits in
     let t = v .timeBound in
-    let m = decimal-short 12 (s .size) (omega arith) in
-    let n = decimal-short 19 (s .time) (omega arith) in
+    let m = decimal-short 12 (s .log .size) (omega arith) in
+    let n = decimal-short 19 (s .log .timestamp) (omega arith) in
     let l = length-hexField 255 (s .label) (omega arith) (v .labelFits) in
     let r = tab ∷ hexField (s .label) in
-    omega (arith, length-append (decimal (s .size)) (tab ∷ (decimal (s .time) ++ r)), length-append (decimal (s .time)) r)
+    omega (arith, length-append (decimal (s .log .size)) (tab ∷ (decimal (s .log .timestamp) ++ r)), length-append (decimal (s .log .timestamp)) r)
 
 -- a `keep` line has at most 69
 keep-short : (v : Bytes) → length v ≡ hashLength → length (keepText v) ≤ 69
@@ -232,10 +237,10 @@ pub state-short : (s : State) → isValid s ≡ true → length (writeState s) �
 unfolding stateLines
 state-short s e =
     let v = valid-was s e in
-    let k = map keepText (s .values) in
+    let k = map keepText (s .log .values) in
     let p = map pairText (s .monitoringMap) in
     let a = size-short s v in
-    let b = text-short 69 keepText (s .values) (λ w m. keep-short w (v .valueLength w m)) in
+    let b = text-short 69 keepText (s .log .values) (λ w m. keep-short w (v .valueLength w m)) in
     let c = text-short 29 pairText (s .monitoringMap) (λ w m. pair-short s w v m) in
     let f = values-few s v in
     let g = v .mapFits in

@@ -1,4 +1,5 @@
--- Of an accepted call every lookup was tried (specs/Refusals.antt, 12 and 13), so that no string is listed which was not hashed, and every lookup holds.
+-- Of an accepted call every lookup was tried (specs/Refusals.antt, 12 and 13), so that no string is
+-- listed which was not hashed, and every lookup holds.
 use mathlib.Core.Path.{_≡_, refl, sym, ap, _∙_}
 use mathlib.Core.Bool.{Bool, true, false, _&&_, not, and-false}
 use mathlib.Core.List.{List, [], _∷_, List·Memᴰ}
@@ -16,9 +17,15 @@ use Rattle.lists.proofs.MemberLaws.{each-nil, each-cons}
 use Rattle.tree.specs.Ladder.{ladder}
 use Rattle.tree.specs.PrefixTree.{lookupRoot, terminalFits}
 use Rattle.rules.specs.VrfOutputs.{outputOf}
-use Rattle.rules.specs.Response.{Target, Finding, searched, monitored, Lookup, Entry, isIncluded, lookupVersions}
-use Rattle.rules.specs.Search.{resultFits, isComplete, endsEarly, earlyThenComplete}
-use Rattle.rules.specs.Refusals.{Call, terminal, untried, lookupHolds, lookupsHold, lookupFails, resultsWrongIn, resultsWrong}
+use Rattle.rules.specs.Response.{Target, Finding, searched, monitored, Lookup, Entry, isIncluded}
+use Rattle.rules.specs.Response.{lookupVersions}
+use Rattle.rules.specs.Kinds.{KindRules}
+use Rattle.rules.specs.Search.{isIncludedAbove, resultFits, isComplete, endsEarly, earlyThenComplete}
+use Rattle.rules.specs.Search.{searchRules}
+use Rattle.rules.specs.Monitoring.{monitoringRules}
+use Rattle.rules.specs.Refusals.{Call, terminal, kindRules, rulesFor, lookupHolds, lookupPasses}
+use Rattle.rules.specs.Refusals.{lookupsHold, lookupFails, resultsWrong}
+use Rattle.rules.proofs.KindLaws.{search-rules, monitoring-rules}
 use Rattle.rules.proofs.AcceptedLaws.{Accepted, rules-passed}
 
 -- ---- tried
@@ -78,26 +85,29 @@ entries-tried vs t (x ∷ es) h = go (isComplete vs t x) refl (entries-tried vs 
 module _ (c : Call) (h : Accepted c) where
   -- the entries of a search are short, then whole
   pub results-fit : (t : Target) → c .parts .finding ≡ searched t → earlyThenComplete (ladder (t .version)) (t .version) (c .parts .entries) ≡ true
-  unfolding resultsWrong resultsWrongIn
-  results-fit t f = not-false _ (sym (ap (λ (g : Finding). resultsWrongIn g (c .parts .entries)) f) ∙ rules-passed c h .results)
+  unfolding resultsWrong searchRules
+  results-fit t f = sym (ap (λ (k : KindRules). k .resultsFit) (search-rules c t f)) ∙ not-false _ (rules-passed c h .results)
 
   module _ (e : Entry) (i : List·Memᴰ e (c .parts .entries)) (l : Lookup) (j : List·Memᴰ l (e .lookups)) where
     -- every lookup was tried
-    pub lookup-tried : untried (c .parts .finding) l ≡ false
-    unfolding untried
+    pub lookup-tried : kindRules c .untried l ≡ false
+    unfolding searchRules monitoringRules isIncludedAbove
     lookup-tried = go (c .parts .finding) refl
       where
-        go : (f : Finding) → c .parts .finding ≡ f → untried f l ≡ false
-        go (searched t) q = entries-tried (ladder (t .version)) (t .version) (c .parts .entries) (results-fit t q) e i l j
-        go monitored q = refl
+        go : (f : Finding) → c .parts .finding ≡ f → kindRules c .untried l ≡ false
+        go (searched t) q =
+            ap (λ (k : KindRules). k .untried l) (search-rules c t q)
+            ∙ entries-tried (ladder (t .version)) (t .version) (c .parts .entries) (results-fit t q) e i l j
+        go monitored q = ap (λ (k : KindRules). k .untried l) (monitoring-rules c q)
 
-    -- so it holds: what stands at its place fits, and its siblings lead to the prefix root of its entry
+    -- so it holds: what stands at its place fits, and its siblings lead to the prefix root of its
+    -- entry
     lookup-held : lookupHolds c (e .prefixRoot) l ≡ true
-    unfolding lookupFails lookupsHold
+    unfolding lookupFails lookupsHold lookupPasses
     lookup-held =
         let p = all-at (lookupsHold c) (c .parts .entries) e (not-false _ (rules-passed c h .lookups)) i in
-        let q = all-at (λ (x : Lookup). choose (untried (c .parts .finding) x) (λ _. true) (λ _. lookupHolds c (e .prefixRoot) x)) (e .lookups) l p j in
-        sym (choose-false (untried (c .parts .finding) l) (λ _. true) (λ _. lookupHolds c (e .prefixRoot) l) lookup-tried) ∙ q
+        let q = all-at (lookupPasses c (e .prefixRoot)) (e .lookups) l p j in
+        sym (choose-false (kindRules c .untried l) (λ _. true) (λ _. lookupHolds c (e .prefixRoot) l) lookup-tried) ∙ q
 
     pub place-fits : terminalFits (outputOf (c .outputs) (l .version)) (terminal c (l .version) (l .result)) (length (l .siblings)) ≡ true
     unfolding lookupHolds

@@ -6,7 +6,9 @@ use Rattle.rules.specs.Encoding.{opaque}
 
 -- 15.1: Kc, the key of both suites
 unfoldable pub commitmentKey : Bytes
-commitmentKey = 0xd8 ∷ 0x21 ∷ 0xf8 ∷ 0x79 ∷ 0x0d ∷ 0x97 ∷ 0x70 ∷ 0x97 ∷ 0x96 ∷ 0xb4 ∷ 0xd7 ∷ 0x90 ∷ 0x33 ∷ 0x57 ∷ 0xc3 ∷ 0xf5 ∷ []
+commitmentKey =
+    0xd8 ∷ 0x21 ∷ 0xf8 ∷ 0x79 ∷ 0x0d ∷ 0x97 ∷ 0x70 ∷ 0x97 ∷ 0x96 ∷ 0xb4 ∷ 0xd7 ∷ 0x90 ∷ 0x33 ∷ 0x57 ∷ 0xc3
+    ∷ 0xf5 ∷ []
 
 -- 10.6: CommitmentValue; the UpdateValue of 10.5 has an empty prefix in contact monitoring
 unfoldable pub commitmentValue : Bytes → Bytes → Bytes → Bytes
@@ -18,4 +20,5 @@ commitmentTo opening label value = hmac commitmentKey (commitmentValue opening l
 -- the two strings that HMAC hashes for it
 unfoldable pub commitmentStrings : Bytes → Bytes → Bytes → List Bytes
 commitmentStrings opening label value =
-    innerString commitmentKey (commitmentValue opening label value) ∷ outerString commitmentKey (commitmentValue opening label value) ∷ []
+    innerString commitmentKey (commitmentValue opening label value)
+    ∷ outerString commitmentKey (commitmentValue opening label value) ∷ []

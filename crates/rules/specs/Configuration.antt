@@ -1,4 +1,5 @@
--- The Configuration of a log (001, 10.2), which paper 01 calls the settings, for contact monitoring; and TreeHeadTBS.
+-- The Configuration of a log (001, 10.2), which paper 01 calls the settings, for contact
+-- monitoring; and TreeHeadTBS.
 use mathlib.Core.List.{[], _∷_, _++_}
 use mathlib.Core.Option.{Option, none, some, bind as _>>=_}
 use Prim.Native.Nat.{ℕ, zero, suc}
@@ -41,7 +42,8 @@ readOptional s = do
   (present, rest) ← readUint 1 s
   readPresent present rest
 
--- the fields in order and nothing after them; another suite or mode is not taken. In this mode there is no leaf_public_key.
+-- the fields in order and nothing after them; another suite or mode is not taken. In this mode
+-- there is no leaf_public_key.
 unfoldable pub readConfiguration : Bytes → Option Configuration
 readConfiguration s = do
   (suite, s1) ← readUint 2 s
@@ -75,7 +77,8 @@ writeOptional (some n) = 1 ∷ bigEndian 8 n
 unfoldable pub writeConfiguration : Configuration → Bytes
 writeConfiguration c =
     bigEndian 2 (c .suite) ++ bigEndian 1 (c .mode) ++ opaque 2 (c .signatureKey) ++ opaque 2 (c .vrfKey)
-    ++ bigEndian 8 (c .maxAhead) ++ bigEndian 8 (c .maxBehind) ++ bigEndian 8 (c .monitoringWindow) ++ writeOptional (c .maximumLifetime)
+    ++ bigEndian 8 (c .maxAhead) ++ bigEndian 8 (c .maxBehind) ++ bigEndian 8 (c .monitoringWindow)
+    ++ writeOptional (c .maximumLifetime)
 
 -- TreeHeadTBS: the configuration as given, the size, the root
 unfoldable pub treeHead : Bytes → ℕ → Bytes → Bytes

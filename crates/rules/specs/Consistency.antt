@@ -1,4 +1,5 @@
--- Demand 3 (paper 01, What the contracts owe): the two claims, stated whole. They are about acceptance as `judge` has it, and about the real SHA-256.
+-- Demand 3 (paper 01, What the contracts owe): the two claims, stated whole. They are about
+-- acceptance as `judge` has it, and about the real SHA-256.
 use mathlib.Core.Path.{_≡_}
 use mathlib.Core.Logic.{_⊎_}
 use mathlib.Core.List.{List, [], _∷_, _++_, map, flatMap, List·Memᴰ}
@@ -14,7 +15,8 @@ use Rattle.rules.specs.Refusals.{Inputs, Call, Judgement, refused, passe
 use Rattle.rules.specs.Calls.{stateAfter}
 use Rattle.rules.specs.Hashed.{hashed}
 
--- ---- what is given are bytes: numbers below 256. Lists of other numbers stand for nothing that a call can get.
+-- ---- what is given are bytes: numbers below 256. Lists of other numbers stand for nothing that a
+-- ---- call can get.
 
 pub record AreByteInputs (i : Inputs) : Type 0 where
   pub response : AreBytes (i .response)
@@ -31,16 +33,20 @@ IsByteState (some s) = HasBytes s
 
 -- the sheets give equal outputs for each version that both searches use
 abbrev pub OutputsAgree : Call → Call → Type 0
-OutputsAgree c d = (v : ℕ) → List·Memᴰ v (stepVersions (c .parts)) → List·Memᴰ v (stepVersions (d .parts)) → outputOf (c .outputs) v ≡ outputOf (d .outputs) v
+OutputsAgree c d =
+    (v : ℕ) → List·Memᴰ v (stepVersions (c .parts)) → List·Memᴰ v (stepVersions (d .parts))
+    → outputOf (c .outputs) v ≡ outputOf (d .outputs) v
 
--- two accepted searches, from any two states, for one label, with one tree size and one log root, whose sheets agree, yield one version, opening and value
+-- two accepted searches, from any two states, for one label, with one tree size and one log root,
+-- whose sheets agree, yield one version, opening and value
 abbrev pub SearchesAgree : Type 0
 SearchesAgree =
     (s s′ : Option State) (i i′ : Inputs) (c c′ : Call) (t t′ : Target)
     → IsByteState s → IsByteState s′ → AreByteInputs i → AreByteInputs i′
     → judge s i ≡ passed c → judge s′ i′ ≡ passed c′
     → c .parts .finding ≡ searched t → c′ .parts .finding ≡ searched t′
-    → c .parts .label ≡ c′ .parts .label → c .parts .size ≡ c′ .parts .size → logRoot c ≡ logRoot c′ → OutputsAgree c c′
+    → c .parts .label ≡ c′ .parts .label → c .parts .treeSize ≡ c′ .parts .treeSize
+    → logRoot c ≡ logRoot c′ → OutputsAgree c c′
     → (t ≡ t′) ⊎ Broken (hashed c ++ hashed c′)
 
 -- ---- the second claim: on a chain of calls each entry is shown with one time and one prefix root
@@ -61,7 +67,9 @@ shownBy cs = flatMap (λ (c : Call). map logEntry (c .parts .entries)) cs
 
 -- any two entries with one position have one time and one prefix root
 abbrev pub Alike : List LogEntry → Type 0
-Alike es = (x y : LogEntry) → List·Memᴰ x es → List·Memᴰ y es → x .position ≡ y .position → (x .time ≡ y .time) × (x .prefixRoot ≡ y .prefixRoot)
+Alike es =
+    (x y : LogEntry) → List·Memᴰ x es → List·Memᴰ y es → x .position ≡ y .position
+    → (x .timestamp ≡ y .timestamp) × (x .prefixRoot ≡ y .prefixRoot)
 
 -- any list of calls, from any state
 abbrev pub ChainsAgree : Type 0

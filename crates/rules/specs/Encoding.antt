@@ -1,4 +1,5 @@
--- The encodings of 001 that are read or hashed here (RFC 8446, 3): numbers of fixed width, byte strings with their length before them.
+-- The encodings of 001 that are read or hashed here (RFC 8446, 3): numbers of fixed width, byte
+-- strings with their length before them.
 use mathlib.Core.List.{[], _∷_, _++_}
 use mathlib.Core.Option.{Option, some, bind as _>>=_}
 use Prim.Native.Nat.{ℕ, _+_, _*_}
@@ -12,7 +13,7 @@ use Rattle.hash.specs.Bytes.{bigEndian}
 unfoldable pub opaque : ℕ → Bytes → Bytes
 opaque k s = bigEndian k (length s) ++ s
 
--- the number that bytes spell after those of n, the highest first
+-- the number that bytes encode after those of n, the highest first
 unfoldable pub bytesAfter : ℕ → Bytes → ℕ
 bytesAfter n [] = n
 bytesAfter n (b ∷ s) = bytesAfter (n * 256 + b) s

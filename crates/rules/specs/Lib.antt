@@ -7,6 +7,7 @@ pub mod StateText
 pub mod Response
 pub mod ResponseText
 pub mod Commitment
+pub mod Kinds
 pub mod Search
 pub mod Monitoring
 pub mod Refusals

@@ -1,4 +1,5 @@
--- The limits of paper 01, one name each: the table of what a call is given, then lengths and bounds that stand in its text.
+-- The limits of paper 01, one name each: the table of what a call is given, then lengths and bounds
+-- that stand in its text.
 use Prim.Native.Nat.{ℕ, _-_, _^_}
 use Rattle.hash.specs.Sha256.{digestLength}
 use Rattle.tree.specs.LogHead.{levelLimit, blockLength}

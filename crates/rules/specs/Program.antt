@@ -10,13 +10,15 @@ use Rattle.lists.specs.Lists.{Bytes}
 use Rattle.lines.specs.Number.{ascii, decimal}
 use Rattle.lines.specs.Field.{number, bytes}
 use Rattle.lines.specs.Line.{Form, Read, readLines, readLine, line}
-use Rattle.rules.specs.Limits.{programResponseLimit, configurationLimit, signedTextLimit, vrfOutputsLimit, valueLimit, identifierLength, stateTextLimit, requestLimit, numberBound}
+use Rattle.rules.specs.Limits.{programResponseLimit, configurationLimit, signedTextLimit}
+use Rattle.rules.specs.Limits.{vrfOutputsLimit, valueLimit, identifierLength, stateTextLimit}
+use Rattle.rules.specs.Limits.{requestLimit, numberBound}
 use Rattle.rules.specs.State.{State}
 use Rattle.rules.specs.StateText.{readState}
-use Rattle.rules.specs.Response.{Kind, search, monitor, Finding, searched, monitored}
+use Rattle.rules.specs.Response.{Kind, search, monitor, Target, targetOf}
 use Rattle.rules.specs.ResponseText.{kindWord}
-use Rattle.rules.specs.Refusals.{Judgement, refused, passed, reading, judge}
-use Rattle.rules.specs.Calls.{Arguments, libraryInputs, judgeMonitoring, nextState}
+use Rattle.rules.specs.Refusals.{Judgement, refused, passed, reading}
+use Rattle.rules.specs.Calls.{Arguments, judgeCall, nextState}
 
 -- ---- the files
 
@@ -44,7 +46,8 @@ pub record Request : Type 0 where
   pub clock : ℕ
 
 abbrev pub requestForm : Kind → Form
-requestForm kind = record { words = kindWord kind ∷ []; fields = bytes (λ (n : ℕ). true) ∷ number numberBound ∷ [] }
+requestForm kind =
+    record { words = kindWord kind ∷ []; fields = bytes (λ (n : ℕ). true) ∷ number numberBound ∷ [] }
 
 unfoldable pub requestOf : Kind → Read (requestForm search) → Request
 requestOf kind (identifier, (clock, _)) = record { kind = some kind; identifier = identifier; clock = clock }
@@ -53,9 +56,11 @@ unfoldable pub readRequestLine : List Bytes → Option Request
 readRequestLine [] = none
 readRequestLine (l ∷ m ∷ ls) = none
 readRequestLine (l ∷ []) =
-    orElse (Option·map (requestOf search) (readLine (requestForm search) l)) (Option·map (requestOf monitor) (readLine (requestForm monitor) l))
+    orElse (Option·map (requestOf search) (readLine (requestForm search) l))
+    (Option·map (requestOf monitor) (readLine (requestForm monitor) l))
 
--- a broken line asks for no kind, so that 6 applies where none of 1 to 5 does; its identifier and clock stand for none
+-- a broken line asks for no kind, so that 6 applies where none of 1 to 5 does; its identifier and
+-- clock stand for none
 unfoldable pub brokenRequest : Request
 brokenRequest = record { kind = none; identifier = replicate identifierLength 0; clock = 0 }
 
@@ -67,15 +72,16 @@ readRequest s = Option·getD (bind (readLines s) readRequestLine) brokenRequest
 -- what a request asks for, with the other files
 unfoldable pub requested : Request → Bytes → Bytes → Bytes → Arguments
 requested q response settings sheet =
-    record { response = response; configuration = settings; identifier = q .identifier; clock = q .clock; vrfOutputs = sheet }
+    record {
+      response = response;
+      configuration = settings;
+      identifier = q .identifier;
+      clock = q .clock;
+      vrfOutputs = sheet;
+    }
 
--- the library's call of the kind asked for, with room for every value
-unfoldable pub judgeAsked : Option Kind → Option State → Arguments → Bytes → Judgement
-judgeAsked (some search) st a signed = judge st (libraryInputs (some search) a signed valueLimit)
-judgeAsked (some monitor) st a signed = judgeMonitoring st a signed
-judgeAsked none st a signed = judge st (libraryInputs none a signed 0)
-
--- it is made where each file is there and not too long
+-- the library's call of the kind asked for, with room for every value, is made where each file is
+-- there and not too long
 unfoldable pub judgeFiles : Files → Judgement
 judgeFiles f =
     reading 1 (within requestLimit (f .request)) λ request.
@@ -84,17 +90,21 @@ judgeFiles f =
     reading 1 (within stateTextLimit (f .state)) λ state.
     reading 1 (within vrfOutputsLimit (f .sheet)) λ sheet.
     reading 1 (within signedTextLimit (f .signed)) λ signed.
-    judgeAsked (readRequest request .kind) (readState state) (requested (readRequest request) response settings sheet) signed
+    judgeCall (readRequest request .kind) (readState state)
+    (requested (readRequest request) response settings sheet)
+    signed valueLimit
 
--- ---- what is printed; the file `state.new` gets what `textOf` gives, the file `value` what `valueOf` gives, and neither is written where that is none
+-- ---- what is printed; the file `state.new` gets what `textOf` gives, the file `value` what
+-- ---- `valueOf` gives, and neither is written where that is none
 
-unfoldable pub printedVersion : Finding → Bytes
-printedVersion (searched t) = decimal (t .version)
-printedVersion monitored = ascii "-"
+unfoldable pub printedVersion : Option Target → Bytes
+printedVersion none = ascii "-"
+printedVersion (some t) = decimal (t .version)
 
 -- `yes`, t or `-`, n and the number of pairs; or `no` and the number
 unfoldable pub printed : Judgement → Bytes
 printed (refused k) = line (ascii "no" ∷ decimal k ∷ [])
 printed (passed c) =
     line
-    (ascii "yes" ∷ printedVersion (c .parts .finding) ∷ decimal (c .parts .size) ∷ decimal (length (nextState c .monitoringMap)) ∷ [])
+    (ascii "yes" ∷ printedVersion (targetOf (c .parts .finding)) ∷ decimal (c .parts .treeSize)
+    ∷ decimal (length (nextState c .monitoringMap)) ∷ [])

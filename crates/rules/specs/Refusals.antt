@@ -1,25 +1,32 @@
--- The sixteen refusals, in the order of trial (paper 01, Sixteen numbers). First what a call is given is read, each reading with a number of its own (1 to 5);
--- then come the rules about what was read (6 to 16). The number of the first that applies is the answer.
+-- The sixteen refusals, in the order of trial (paper 01, Sixteen numbers). First what a call is
+-- given is read, each reading with a number of its own (1 to 5); then come the rules about what was
+-- read (6 to 16). The number of the first that applies is the answer.
 use mathlib.Core.Bool.{Bool, true, false, _&&_, _||_, not, cond}
 use mathlib.Core.List.{List, [], _∷_, _++_, map}
-use mathlib.Core.Option.{Option, none, some, Option·elim, Option·getD, bind}
+use mathlib.Core.Option.{Option, none, some, Option·elim, Option·getD, Option·map, bind}
 use Prim.Native.Nat.{ℕ, _+_}
 use lib.Dec.{eqb, leb, ltb}
 use lib.ListN.{length}
 use Rattle.lists.specs.Choice.{choose, provided}
-use Rattle.lists.specs.Lists.{Bytes, all, any, every, first, lastOr, same, begins, unfalling}
-use Rattle.tree.specs.Ladder.{ladder}
+use Rattle.lists.specs.Lists.{Bytes, all, every, first, lastOr, same, unfalling}
 use Rattle.tree.specs.LogTree.{Known, Walk, walkOf, nodeCount, value, keptValuesMet}
-use Rattle.tree.specs.PrefixTree.{Terminal, ownLeaf, emptyPlace, foreignLeaf, lookupRoot, terminalFits}
-use Rattle.rules.specs.Limits.{configurationLimit, signedTextLimit, vrfOutputsLimit, treeSizeLimit, greatestVersion, mapLimit, identifierLength}
+use Rattle.tree.specs.PrefixTree.{Terminal, searchedLeaf, emptyPlace, foreignLeaf, lookupRoot, terminalFits}
+use Rattle.rules.specs.Limits.{configurationLimit, signedTextLimit, vrfOutputsLimit, treeSizeLimit}
+use Rattle.rules.specs.Limits.{mapLimit}
+use Rattle.rules.specs.Limits.{identifierLength}
 use Rattle.rules.specs.Configuration.{Configuration, readConfiguration, treeHead}
 use Rattle.rules.specs.VrfOutputs.{VrfOutput, readOutputs, hasOutput, outputOf}
-use Rattle.rules.specs.State.{MapEntry, State, isValid, versions}
-use Rattle.rules.specs.Response.{Kind, search, monitor, Finding, searched, monitored, Step, Result, included, absent, otherLeaf, Lookup, Entry, Parts, kindOf, isIncluded, stepVersions, lookupVersions, entryPositions, entryTimes, logEntry}
+use Rattle.rules.specs.State.{MapEntry, KeptLog, State, isValid}
+use Rattle.rules.specs.Response.{Kind, search, monitor, Target, Finding, searched, monitored, Step}
+use Rattle.rules.specs.Response.{Lookup, Entry, Parts}
+use Rattle.rules.specs.Response.{Result, included, absent, otherLeaf, kindOf, targetOf, stepVersions}
+use Rattle.rules.specs.Response.{lookupVersions}
+use Rattle.rules.specs.Response.{entryPositions, entryTimestamps, logEntry}
 use Rattle.rules.specs.ResponseText.{readResponse}
 use Rattle.rules.specs.Commitment.{commitmentTo}
-use Rattle.rules.specs.Search.{Asked, askedBySearch, earlyThenComplete, mapAfterSearch}
-use Rattle.rules.specs.Monitoring.{askedByMonitoring, versionsOf, mapAfterMonitoring}
+use Rattle.rules.specs.Kinds.{Asked, KindRules}
+use Rattle.rules.specs.Search.{searchRules}
+use Rattle.rules.specs.Monitoring.{monitoringRules}
 
 -- ---- what is given, and what is read of it
 
@@ -76,7 +83,22 @@ readCall st i =
     reading 3 (validState st) λ state.
     reading 4 (readOutputs (i .vrfOutputs)) λ outputs.
     reading 5 (readResponse (i .response)) λ parts.
-    passed (record { inputs = i; configuration = configuration; state = state; outputs = outputs; parts = parts })
+    passed (record {
+      inputs = i;
+      configuration = configuration;
+      state = state;
+      outputs = outputs;
+      parts = parts;
+    })
+
+-- ---- what the kind of the response asks, from all that was read
+
+unfoldable pub rulesFor : Finding → Configuration → State → Parts → KindRules
+rulesFor (searched t) configuration state parts = searchRules t configuration state parts
+rulesFor monitored configuration state parts = monitoringRules configuration state parts
+
+unfoldable pub kindRules : Call → KindRules
+kindRules c = rulesFor (c .parts .finding) (c .configuration) (c .state) (c .parts)
 
 -- ---- 6: kind, identifier or label is not the asked one
 
@@ -90,63 +112,53 @@ unfoldable pub kindAsked : Call → Bool
 kindAsked c = Option·elim (c .inputs .kind) false (sameKind (kindOf (c .parts .finding)))
 
 unfoldable pub foreign : Call → Bool
-foreign c = not (kindAsked c && same (c .parts .identifier) (c .inputs .identifier) && same (c .parts .label) (c .state .label))
+foreign c =
+    not (kindAsked c && same (c .parts .identifier) (c .inputs .identifier)
+    && same (c .parts .label) (c .state .label))
 
 -- ---- 7: n is 0, too large, or below m
 
 unfoldable pub sizeWrong : Call → Bool
-sizeWrong c = eqb (c .parts .size) 0 || ltb treeSizeLimit (c .parts .size) || ltb (c .parts .size) (c .state .size)
+sizeWrong c =
+    eqb (c .parts .treeSize) 0 || ltb treeSizeLimit (c .parts .treeSize)
+    || ltb (c .parts .treeSize) (c .state .log .size)
 
 -- ---- 8: a search's t is no version, or below a version in the map
 
-unfoldable pub targetWrongIn : List MapEntry → Finding → Bool
-targetWrongIn entries (searched t) = ltb greatestVersion (t .version) || any (λ (v : ℕ). ltb (t .version) v) (versions entries)
-targetWrongIn entries monitored = false
-
 unfoldable pub targetWrong : Call → Bool
-targetWrong c = targetWrongIn (c .state .monitoringMap) (c .parts .finding)
+targetWrong c = kindRules c .targetWrong
 
--- ---- 9: something is not as asked: steps or their commitments, entries, the versions looked up, the number of nodes
-
-unfoldable pub askedBy : Finding → ℕ → List MapEntry → List Asked
-askedBy (searched t) n entries = askedBySearch n (t .version)
-askedBy monitored n entries = askedByMonitoring n entries
+-- ---- 9: something is not as asked: steps or their commitments, entries, the versions looked up,
+-- ---- the number of nodes
 
 unfoldable pub asked : Call → List Asked
-asked c = askedBy (c .parts .finding) (c .parts .size) (c .state .monitoringMap)
+asked c = kindRules c .entries
 
--- the versions of the steps
-unfoldable pub stepsAskedBy : Finding → List Asked → List ℕ
-stepsAskedBy (searched t) entries = ladder (t .version)
-stepsAskedBy monitored entries = versionsOf entries
+-- a step has a commitment exactly where its version is to have one
+unfoldable pub commitmentAsked : (ℕ → Bool) → Step → Bool
+commitmentAsked isCommitted s =
+    Option·elim (s .commitment) (not (isCommitted (s .version))) (λ _. isCommitted (s .version))
 
--- a commitment is given for versions below t, or for all in monitoring
-unfoldable pub commitmentAsked : Finding → Step → Bool
-commitmentAsked (searched t) s = Option·elim (s .commitment) (leb (t .version) (s .version)) (λ _. ltb (s .version) (t .version))
-commitmentAsked monitored s = Option·elim (s .commitment) false (λ _. true)
-
--- in a search one version or more, from the front of the ladder; in monitoring all versions
-unfoldable pub lookupsAsked : Finding → List ℕ → List ℕ → Bool
-lookupsAsked (searched t) wanted shown = ltb 0 (length shown) && begins shown wanted
-lookupsAsked monitored wanted shown = same shown wanted
-
-unfoldable pub entriesAsked : Finding → List Asked → List Entry → Bool
-entriesAsked f [] [] = true
-entriesAsked f [] (e ∷ es) = false
-entriesAsked f (a ∷ rest) [] = false
-entriesAsked f (a ∷ rest) (e ∷ es) = eqb (e .position) (a .position) && lookupsAsked f (a .versions) (lookupVersions e) && entriesAsked f rest es
+-- the entries at the positions asked, the versions looked up in each as asked
+unfoldable pub entriesAsked : (List ℕ → List ℕ → Bool) → List Asked → List Entry → Bool
+entriesAsked versionsFit [] [] = true
+entriesAsked versionsFit [] (e ∷ es) = false
+entriesAsked versionsFit (a ∷ rest) [] = false
+entriesAsked versionsFit (a ∷ rest) (e ∷ es) =
+    eqb (e .position) (a .position) && versionsFit (a .versions) (lookupVersions e)
+    && entriesAsked versionsFit rest es
 
 -- the walk over the log tree, with the entries that the response shows
 unfoldable pub logWalk : Call → Walk
-logWalk c = walkOf (c .parts .size) (c .state .size) (entryPositions (c .parts))
+logWalk c = walkOf (c .parts .treeSize) (c .state .log .size) (entryPositions (c .parts))
 
 unfoldable pub notAsAsked : Call → Bool
 notAsAsked c =
     not
     (every
-    (same (stepVersions (c .parts)) (stepsAskedBy (c .parts .finding) (asked c))
-    ∷ all (commitmentAsked (c .parts .finding)) (c .parts .steps)
-    ∷ entriesAsked (c .parts .finding) (asked c) (c .parts .entries)
+    (same (stepVersions (c .parts)) (kindRules c .steps)
+    ∷ all (commitmentAsked (kindRules c .isCommitted)) (c .parts .steps)
+    ∷ entriesAsked (kindRules c .versionsFit) (asked c) (c .parts .entries)
     ∷ eqb (length (c .parts .nodes)) (nodeCount (logWalk c))
     ∷ []))
 
@@ -158,73 +170,80 @@ outputMissing c = not (all (hasOutput (c .outputs)) (stepVersions (c .parts)))
 -- ---- 11: times
 
 -- a position below m is not later, one from m on not earlier, than the kept time
-unfoldable pub timeFits : State → Entry → Bool
-timeFits s e = cond (ltb (e .position) (s .size)) (leb (e .time) (s .time)) (leb (s .time) (e .time))
+unfoldable pub timestampFits : KeptLog → Entry → Bool
+timestampFits log e =
+    cond (ltb (e .position) (log .size)) (leb (e .timestamp) (log .timestamp))
+    (leb (log .timestamp) (e .timestamp))
 
 -- the time of the last entry
-unfoldable pub lastTime : Call → ℕ
-lastTime c = lastOr 0 (entryTimes (c .parts))
+unfoldable pub lastTimestamp : Call → ℕ
+lastTimestamp c = lastOr 0 (entryTimestamps (c .parts))
 
-unfoldable pub timesWrong : Call → Bool
-timesWrong c =
+unfoldable pub timestampsWrong : Call → Bool
+timestampsWrong c =
     not
     (every
-    (unfalling (entryTimes (c .parts))
-    ∷ all (timeFits (c .state)) (c .parts .entries)
-    ∷ leb (lastTime c) (c .inputs .clock + c .configuration .maxAhead)
-    ∷ leb (c .inputs .clock) (lastTime c + c .configuration .maxBehind)
+    (unfalling (entryTimestamps (c .parts))
+    ∷ all (timestampFits (c .state .log)) (c .parts .entries)
+    ∷ leb (lastTimestamp c) (c .inputs .clock + c .configuration .maxAhead)
+    ∷ leb (c .inputs .clock) (lastTimestamp c + c .configuration .maxBehind)
     ∷ []))
 
 -- ---- 12: a lookup does not reach its prefix root, or the other leaf is not as said
 
 -- the commitment in the step of a version; the empty string where there is none
 unfoldable pub stepCommitment : List Step → ℕ → Bytes
-stepCommitment steps v = Option·getD (bind (first (λ (s : Step). eqb (s .version) v) steps) (λ s. s .commitment)) []
+stepCommitment steps v =
+    Option·getD (bind (first (λ (s : Step). eqb (s .version) v) steps) (λ s. s .commitment)) []
 
--- the commitment of a version that is there: of t it is computed, of others it is in the step
-unfoldable pub commitmentBy : Finding → Bytes → List Step → ℕ → Bytes
-commitmentBy (searched t) label steps v = choose (eqb v (t .version)) (λ _. commitmentTo (t .opening) label (t .value)) (λ _. stepCommitment steps v)
-commitmentBy monitored label steps v = stepCommitment steps v
+-- the commitment of a version that is there: of the target's it is worked out, of others it is in
+-- the step
+unfoldable pub commitmentBy : Option Target → Bytes → List Step → ℕ → Bytes
+commitmentBy none label steps v = stepCommitment steps v
+commitmentBy (some t) label steps v =
+    choose (eqb v (t .version)) (λ _. commitmentTo (t .opening) label (t .value))
+    (λ _. stepCommitment steps v)
 
 unfoldable pub commitmentOf : Call → ℕ → Bytes
-commitmentOf c v = commitmentBy (c .parts .finding) (c .parts .label) (c .parts .steps) v
+commitmentOf c v = commitmentBy (targetOf (c .parts .finding)) (c .parts .label) (c .parts .steps) v
 
 -- what a lookup says stands at its place
 unfoldable pub terminal : Call → ℕ → Result → Terminal
-terminal c v included = ownLeaf (commitmentOf c v)
+terminal c v included = searchedLeaf (commitmentOf c v)
 terminal c v absent = emptyPlace
 terminal c v (otherLeaf output commitment) = foreignLeaf output commitment
 
--- in a search there is no commitment with which an `in` above t could be tried
-unfoldable pub untried : Finding → Lookup → Bool
-untried (searched t) l = ltb (t .version) (l .version) && isIncluded (l .result)
-untried monitored l = false
-
 unfoldable pub lookupHolds : Call → Bytes → Lookup → Bool
 lookupHolds c root l =
-    terminalFits (outputOf (c .outputs) (l .version)) (terminal c (l .version) (l .result)) (length (l .siblings))
-    && same (lookupRoot (outputOf (c .outputs) (l .version)) (terminal c (l .version) (l .result)) (l .siblings)) root
+    let output = outputOf (c .outputs) (l .version) in
+    let there = terminal c (l .version) (l .result) in
+    terminalFits output there (length (l .siblings)) && same (lookupRoot output there (l .siblings)) root
+
+-- a lookup holds, if it can be tried
+unfoldable pub lookupPasses : Call → Bytes → Lookup → Bool
+lookupPasses c root l = choose (kindRules c .untried l) (λ _. true) (λ _. lookupHolds c root l)
 
 unfoldable pub lookupsHold : Call → Entry → Bool
-lookupsHold c e = all (λ (l : Lookup). choose (untried (c .parts .finding) l) (λ _. true) (λ _. lookupHolds c (e .prefixRoot) l)) (e .lookups)
+lookupsHold c e = all (lookupPasses c (e .prefixRoot)) (e .lookups)
 
 unfoldable pub lookupFails : Call → Bool
 lookupFails c = not (all (lookupsHold c) (c .parts .entries))
 
 -- ---- 13: whole and short entries not as asked; a lookup in monitoring not `in`
 
-unfoldable pub resultsWrongIn : Finding → List Entry → Bool
-resultsWrongIn (searched t) es = not (earlyThenComplete (ladder (t .version)) (t .version) es)
-resultsWrongIn monitored es = not (all (λ (e : Entry). all (λ (l : Lookup). isIncluded (l .result)) (e .lookups)) es)
-
 unfoldable pub resultsWrong : Call → Bool
-resultsWrong c = resultsWrongIn (c .parts .finding) (c .parts .entries)
+resultsWrong c = not (kindRules c .resultsFit)
 
 -- ---- 14: a kept value differs
 
 -- what the walk knows: the kept values and the entries shown
 unfoldable pub known : Call → Known
-known c = record { size = c .state .size; values = c .state .values; entries = map logEntry (c .parts .entries) }
+known c =
+    record {
+      size = c .state .log .size;
+      values = c .state .log .values;
+      entries = map logEntry (c .parts .entries);
+    }
 
 unfoldable pub historyDiffers : Call → Bool
 historyDiffers c = not (keptValuesMet (known c) (logWalk c) (c .parts .nodes))
@@ -236,27 +255,25 @@ unfoldable pub logRoot : Call → Bytes
 logRoot c = value (known c) (logWalk c) (c .parts .nodes)
 
 unfoldable pub treeHeadOf : Call → Bytes
-treeHeadOf c = treeHead (c .inputs .configuration) (c .parts .size) (logRoot c)
+treeHeadOf c = treeHead (c .inputs .configuration) (c .parts .treeSize) (logRoot c)
 
 unfoldable pub headDiffers : Call → Bool
 headDiffers c = not (same (c .inputs .signedText) (treeHeadOf c))
 
--- ---- 16: a search's output is shorter than the value, or the map would need one pair too many
+-- ---- 16: the output is shorter than the value that a search found, or the new map has a pair too
+-- ---- many
 
-unfoldable pub mapAfterBy : Finding → Call → List MapEntry
-mapAfterBy (searched t) c = mapAfterSearch (ladder (t .version)) (t .version) (c .parts .entries) (c .state .monitoringMap)
-mapAfterBy monitored c = mapAfterMonitoring (c .parts .size) (c .state .monitoringMap)
+-- the value, which a search alone yields
+unfoldable pub valueFound : Call → Option Bytes
+valueFound c = Option·map (λ (t : Target). t .value) (targetOf (c .parts .finding))
 
--- the new map
+-- the new map; monitoring never makes it longer
 unfoldable pub mapAfter : Call → List MapEntry
-mapAfter c = mapAfterBy (c .parts .finding) c
-
-unfoldable pub roomMissingFor : Finding → Call → Bool
-roomMissingFor (searched t) c = ltb (c .inputs .room) (length (t .value)) || ltb mapLimit (length (mapAfter c))
-roomMissingFor monitored c = false
+mapAfter c = kindRules c .mapAfter
 
 unfoldable pub roomMissing : Call → Bool
-roomMissing c = roomMissingFor (c .parts .finding) c
+roomMissing c =
+    ltb (c .inputs .room) (length (Option·getD (valueFound c) [])) || ltb mapLimit (length (mapAfter c))
 
 -- ---- the order of trial
 
@@ -275,7 +292,7 @@ checks =
     ∷ rule 8 targetWrong
     ∷ rule 9 notAsAsked
     ∷ rule 10 outputMissing
-    ∷ rule 11 timesWrong
+    ∷ rule 11 timestampsWrong
     ∷ rule 12 lookupFails
     ∷ rule 13 resultsWrong
     ∷ rule 14 historyDiffers

@@ -1,7 +1,8 @@
--- The parts of a response, as reading yields them (paper 01, Response lines). Every rule after refusal 5 is about these parts.
+-- The parts of a response, as reading yields them (paper 01, Response lines). Every rule after
+-- refusal 5 is about these parts.
 use mathlib.Core.Bool.{Bool, true, false}
 use mathlib.Core.List.{List, map}
-use mathlib.Core.Option.{Option}
+use mathlib.Core.Option.{Option, none, some}
 use Prim.Native.Nat.{ℕ}
 use Rattle.lists.specs.Lists.{Bytes}
 use Rattle.tree.specs.LogTree.{LogEntry}
@@ -40,14 +41,14 @@ pub record Lookup : Type 0 where
 -- an `entry` line, and the lookups after it
 pub record Entry : Type 0 where
   pub position : ℕ
-  pub time : ℕ
+  pub timestamp : ℕ
   pub prefixRoot : Bytes
   pub lookups : List Lookup
 
 pub record Parts : Type 0 where
   pub identifier : Bytes
   pub label : Bytes
-  pub size : ℕ  -- n
+  pub treeSize : ℕ  -- n
   pub finding : Finding
   pub steps : List Step
   pub entries : List Entry
@@ -56,6 +57,10 @@ pub record Parts : Type 0 where
 unfoldable pub kindOf : Finding → Kind
 kindOf (searched t) = search
 kindOf monitored = monitor
+
+unfoldable pub targetOf : Finding → Option Target
+targetOf (searched t) = some t
+targetOf monitored = none
 
 unfoldable pub isIncluded : Result → Bool
 isIncluded included = true
@@ -71,8 +76,8 @@ lookupVersions e = map (λ (l : Lookup). l .version) (e .lookups)
 abbrev pub entryPositions : Parts → List ℕ
 entryPositions parts = map (λ (e : Entry). e .position) (parts .entries)
 
-abbrev pub entryTimes : Parts → List ℕ
-entryTimes parts = map (λ (e : Entry). e .time) (parts .entries)
+abbrev pub entryTimestamps : Parts → List ℕ
+entryTimestamps parts = map (λ (e : Entry). e .timestamp) (parts .entries)
 
 unfoldable pub logEntry : Entry → LogEntry
-logEntry e = record { position = e .position; time = e .time; prefixRoot = e .prefixRoot }
+logEntry e = record { position = e .position; timestamp = e .timestamp; prefixRoot = e .prefixRoot }

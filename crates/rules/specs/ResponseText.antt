@@ -1,4 +1,5 @@
--- A response as text: the forms of its lines, how it is read and written (paper 01, Response lines).
+-- A response as text: the forms of its lines, how it is read and written (paper 01, Response
+-- lines).
 use mathlib.Core.Bool.{_&&_, _||_}
 use mathlib.Core.List.{List, [], _∷_, _++_, flatMap, flatten}
 use mathlib.Core.Option.{Option, none, some, Option·getD, Option·map, bind as _>>=_}
@@ -10,8 +11,10 @@ use Rattle.lists.specs.Lists.{Bytes, runs}
 use Rattle.lines.specs.Number.{ascii}
 use Rattle.lines.specs.Field.{Field, number, bytes, exactly, upTo}
 use Rattle.lines.specs.Line.{Form, Read, readLines, readLine, leading, writeLine}
-use Rattle.rules.specs.Limits.{labelLimit, valueLimit, siblingLimit, identifierLength, hashLength, vrfOutputLength, openingLength, numberBound, versionBound}
-use Rattle.rules.specs.Response.{Kind, search, monitor, Finding, searched, monitored, Step, Result, included, absent, otherLeaf, Lookup, Entry, Parts, kindOf}
+use Rattle.rules.specs.Limits.{labelLimit, valueLimit, siblingLimit, identifierLength, hashLength}
+use Rattle.rules.specs.Limits.{vrfOutputLength, openingLength, numberBound, versionBound}
+use Rattle.rules.specs.Response.{Kind, search, monitor, Finding, searched, monitored, Step, Result}
+use Rattle.rules.specs.Response.{included, absent, otherLeaf, Lookup, Entry, Parts, kindOf}
 
 -- ---- the fields
 
@@ -33,19 +36,31 @@ kindWord search = ascii "search"
 kindWord monitor = ascii "monitor"
 
 abbrev pub ktForm : Kind → Form
-ktForm kind = record { words = ascii "kt" ∷ kindWord kind ∷ []; fields = exactly identifierLength ∷ upTo labelLimit ∷ [] }
+ktForm kind =
+    record {
+      words = ascii "kt" ∷ kindWord kind ∷ [];
+      fields = exactly identifierLength ∷ upTo labelLimit ∷ [];
+    }
 
 abbrev pub headForm : Form
 headForm = record { words = ascii "head" ∷ []; fields = number numberBound ∷ [] }
 
 abbrev pub targetForm : Form
-targetForm = record { words = ascii "target" ∷ []; fields = versionField ∷ exactly openingLength ∷ upTo valueLimit ∷ [] }
+targetForm =
+    record {
+      words = ascii "target" ∷ [];
+      fields = versionField ∷ exactly openingLength ∷ upTo valueLimit ∷ [];
+    }
 
 abbrev pub stepForm : Form
 stepForm = record { words = ascii "step" ∷ []; fields = versionField ∷ commitmentField ∷ [] }
 
 abbrev pub entryForm : Form
-entryForm = record { words = ascii "entry" ∷ []; fields = number numberBound ∷ number numberBound ∷ exactly hashLength ∷ [] }
+entryForm =
+    record {
+      words = ascii "entry" ∷ [];
+      fields = number numberBound ∷ number numberBound ∷ exactly hashLength ∷ [];
+    }
 
 abbrev pub inForm : Form
 inForm = record { words = ascii "in" ∷ []; fields = versionField ∷ siblingsField ∷ [] }
@@ -54,7 +69,11 @@ abbrev pub noForm : Form
 noForm = record { words = ascii "no" ∷ []; fields = versionField ∷ siblingsField ∷ [] }
 
 abbrev pub nlForm : Form
-nlForm = record { words = ascii "nl" ∷ []; fields = versionField ∷ exactly vrfOutputLength ∷ exactly hashLength ∷ siblingsField ∷ [] }
+nlForm =
+    record {
+      words = ascii "nl" ∷ [];
+      fields = versionField ∷ exactly vrfOutputLength ∷ exactly hashLength ∷ siblingsField ∷ [];
+    }
 
 abbrev pub nodeForm : Form
 nodeForm = record { words = ascii "node" ∷ []; fields = exactly hashLength ∷ [] }
@@ -104,17 +123,25 @@ pub data Item : Type 0 where
 unfoldable pub readEntryLine : Bytes → Option Item
 readEntryLine l = do
   (p, (t, (r, _))) ← readLine entryForm l
-  some (entryItem (record { position = p; time = t; prefixRoot = r; lookups = [] }))
+  some (entryItem (record { position = p; timestamp = t; prefixRoot = r; lookups = [] }))
 
 unfoldable pub readItem : Bytes → Option Item
-readItem l = orElse (readEntryLine l) (Option·map lookupItem (orElse (readIn l) (orElse (readNo l) (readNl l))))
+readItem l =
+    orElse (readEntryLine l) (Option·map lookupItem (orElse (readIn l) (orElse (readNo l) (readNl l))))
 
 -- lookups that follow no entry, and the entries, each with the lookups that follow it
 unfoldable pub grouped : List Item → List Lookup × List Entry
 grouped [] = ([], [])
 grouped (lookupItem l ∷ is) = (l ∷ grouped is .0, grouped is .1)
-grouped (entryItem e ∷ is) =
-    ([], record { position = e .position; time = e .time; prefixRoot = e .prefixRoot; lookups = grouped is .0 } ∷ grouped is .1)
+grouped (entryItem e ∷ is) = (
+  [],
+  record {
+    position = e .position;
+    timestamp = e .timestamp;
+    prefixRoot = e .prefixRoot;
+    lookups = grouped is .0;
+  } ∷ grouped is .1,
+)
 
 -- the steps, the entries with their lookups, the nodes, `end`, and nothing more
 unfoldable pub readBody : Bytes → Bytes → ℕ → Finding → List Bytes → Option Parts
@@ -125,7 +152,15 @@ readBody identifier label n finding ls = do
   let (ends, ls4) = leading (readLine endForm) ls3
   let (loose, entries) = grouped items
   eqb (length ends) 1 && eqb (length ls4) 0 && eqb (length loose) 0
-  some (record { identifier = identifier; label = label; size = n; finding = finding; steps = steps; entries = entries; nodes = nodes })
+  some (record {
+    identifier = identifier;
+    label = label;
+    treeSize = n;
+    finding = finding;
+    steps = steps;
+    entries = entries;
+    nodes = nodes;
+  })
 
 -- a search has its target line first
 unfoldable pub readRest : Kind → Bytes → Bytes → ℕ → List Bytes → Option Parts
@@ -169,12 +204,16 @@ unfoldable pub writeLookup : Lookup → Bytes
 writeLookup l = writeResult (l .version) (l .result) (flatten (l .siblings))
 
 unfoldable pub writeEntry : Entry → Bytes
-writeEntry e = writeLine entryForm (e .position, (e .time, (e .prefixRoot, tt))) ++ flatMap writeLookup (e .lookups)
+writeEntry e =
+    writeLine entryForm (e .position, (e .timestamp, (e .prefixRoot, tt)))
+    ++ flatMap writeLookup (e .lookups)
 
 unfoldable pub writeNode : Bytes → Bytes
 writeNode v = writeLine nodeForm (v, tt)
 
 unfoldable pub writeResponse : Parts → Bytes
 writeResponse p =
-    writeLine (ktForm (kindOf (p .finding))) (p .identifier, (p .label, tt)) ++ writeLine headForm (p .size, tt) ++ writeTarget (p .finding)
-    ++ flatMap writeStep (p .steps) ++ flatMap writeEntry (p .entries) ++ flatMap writeNode (p .nodes) ++ writeLine endForm tt
+    writeLine (ktForm (kindOf (p .finding))) (p .identifier, (p .label, tt))
+    ++ writeLine headForm (p .treeSize, tt) ++ writeTarget (p .finding)
+    ++ flatMap writeStep (p .steps) ++ flatMap writeEntry (p .entries) ++ flatMap writeNode (p .nodes)
+    ++ writeLine endForm tt

@@ -1,4 +1,5 @@
--- A state as text: a `size` line, a `keep` line for each value, a `pair` line for each pair of the map (paper 01, What a call is given).
+-- A state as text: a `size` line, a `keep` line for each value, a `pair` line for each pair of the
+-- map (paper 01, What a call is given).
 use mathlib.Core.List.{List, [], _∷_, _++_, flatMap}
 use mathlib.Core.Option.{Option, none, some, Option·elim, bind as _>>=_}
 use lib.Dec.{eqb, leb}
@@ -13,7 +14,11 @@ use Rattle.rules.specs.State.{MapEntry, State, isValid, emptyState, Numb
 
 -- m, time, label
 abbrev pub sizeForm : Form
-sizeForm = record { words = ascii "size" ∷ []; fields = number numberBound ∷ number numberBound ∷ upTo labelLimit ∷ [] }
+sizeForm =
+    record {
+      words = ascii "size" ∷ [];
+      fields = number numberBound ∷ number numberBound ∷ upTo labelLimit ∷ [];
+    }
 
 abbrev pub keepForm : Form
 keepForm = record { words = ascii "keep" ∷ []; fields = exactly hashLength ∷ [] }
@@ -41,7 +46,11 @@ readStateLines (l ∷ ls) = do
   let (values, ls1) = leading readKeep ls
   let (entries, ls2) = leading readPair ls1
   eqb (length ls2) 0
-  some (record { label = label; size = m; time = t; values = values; monitoringMap = entries })
+  some (record {
+    label = label;
+    log = record { size = m; timestamp = t; values = values };
+    monitoringMap = entries;
+  })
 
 -- a text of this form that gives a valid state
 unfoldable pub readState : Bytes → Option State
@@ -55,7 +64,9 @@ readState s = do
 unfoldable pub readStateText : Bytes → NumberedState
 readStateText s =
     choose (leb (length s) stateTextLimit)
-    (λ _. Option·elim (readState s) (record { number = 3; state = emptyState [] }) (λ st. record { number = 0; state = st }))
+    (λ _.
+    Option·elim (readState s) (record { number = 3; state = emptyState [] })
+    (λ st. record { number = 0; state = st }))
     (λ _. record { number = 1; state = emptyState [] })
 
 -- ---- writing
@@ -67,4 +78,7 @@ unfoldable pub writePair : MapEntry → Bytes
 writePair e = writeLine pairForm (e .position, (e .version, tt))
 
 unfoldable pub writeState : State → Bytes
-writeState s = writeLine sizeForm (s .size, (s .time, (s .label, tt))) ++ flatMap writeKeep (s .values) ++ flatMap writePair (s .monitoringMap)
+writeState s =
+    writeLine sizeForm (s .log .size, (s .log .timestamp, (s .label, tt)))
+    ++ flatMap writeKeep (s .log .values)
+    ++ flatMap writePair (s .monitoringMap)

@@ -1,4 +1,5 @@
--- The VRF outputs that the chip approved, which paper 01 calls the sheet (What a call is given): records of a version in 4 bytes and its output, versions rising.
+-- The VRF outputs that the chip approved, which paper 01 calls the sheet (What a call is given):
+-- records of a version in 4 bytes and its output, versions rising.
 use mathlib.Core.Bool.{Bool, _&&_}
 use mathlib.Core.List.{List, [], map}
 use mathlib.Core.Option.{Option, Option·elim}
@@ -25,7 +26,9 @@ readRecords s = map readRecord (runs (length s / recordLength) recordLength s)
 
 -- whole records, versions strictly rising
 unfoldable pub readOutputs : Bytes → Option (List VrfOutput)
-readOutputs s = provided (eqb (length s % recordLength) 0 && rising (map (λ (x : VrfOutput). x .version) (readRecords s))) (readRecords s)
+readOutputs s =
+    provided (eqb (length s % recordLength) 0
+    && rising (map (λ (x : VrfOutput). x .version) (readRecords s))) (readRecords s)
 
 unfoldable pub hasOutput : List VrfOutput → ℕ → Bool
 hasOutput outputs v = any (λ (x : VrfOutput). eqb (x .version) v) outputs

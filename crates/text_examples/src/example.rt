@@ -1,5 +1,6 @@
-// An example: a line of fields with a tab between two. In its texts `\t`, `\n` and `\r` stand for a tab, a newline and a return.
-// A line whose first field is not empty is a heading: that field is the number of the kind of the examples below it.
+// An example: a line of fields with a tab between two. In its texts `\t`, `\n` and `\r` stand for a
+// tab, a newline and a return. A line whose first field is not empty is a heading: that field is
+// the number of the kind of the examples below it.
 use crate::fields;
 use crate::given;
 use crate::line;
@@ -47,11 +48,12 @@ fn field(line: &[u8], column: usize) -> &[u8] {
 pub(crate) fn said(field: &[u8]) -> u64 {
     match read_number(field, u64::MAX) {
         Number::Value(n) => n,
-        Number::Broken => 0,
+        Number::Unread => 0,
     }
 }
 
-// Puts what a letter of a field stands for behind a text of so many bytes, if there is room, and gives its new length; `\` itself puts nothing.
+// Puts what a letter of a field stands for after a text of so many bytes, if there is room, and
+// gives its new length; `\` itself puts nothing.
 fn added(text: &mut [u8], length: usize, escaped: bool, letter: u8) -> usize {
     if letter == b'\\' {
         return length;

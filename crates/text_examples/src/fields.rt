@@ -5,9 +5,9 @@ use lines::cursor::NextBytes;
 use lines::cursor::NextLine;
 use lines::cursor::NextNumber;
 use lines::cursor::NextWord;
-use lines::hex::Spelling;
+use lines::hex::HexLength;
+use lines::hex::decoded_length;
 use lines::hex::read_digest;
-use lines::hex::spelled_length;
 use lines::line::span;
 use lines::number::Number;
 use lines::number::read_number;
@@ -15,14 +15,14 @@ use lines::number::read_number;
 pub(crate) fn number(bound: u64, s: &[u8]) {
     match read_number(s, bound) {
         Number::Value(n) => line::number(n),
-        Number::Broken => line::broken(),
+        Number::Unread => line::broken(),
     }
 }
 
 pub(crate) fn spelling(s: &[u8]) {
-    match spelled_length(s) {
-        Spelling::Length(n) => line::number(n as u64),
-        Spelling::NotHex => line::broken(),
+    match decoded_length(s) {
+        HexLength::Read(n) => line::number(n as u64),
+        HexLength::Unread => line::broken(),
     }
 }
 
@@ -37,7 +37,7 @@ pub(crate) fn word_at(at: usize, s: &[u8], word: &[u8]) {
     let c = Cursor { at };
     match c.word(s, word) {
         NextWord::Same(next) => line::number(next.at as u64),
-        NextWord::Other => line::word(b" other"),
+        NextWord::Unread => line::word(b" other"),
     }
 }
 
@@ -52,8 +52,8 @@ pub(crate) fn number_at(at: usize, bound: u64, s: &[u8]) {
 pub(crate) fn bytes_at(at: usize, s: &[u8]) {
     let c = Cursor { at };
     match c.bytes(s) {
-        NextBytes::Spelled { length, next } => line::numbers(length as u64, next.at as u64),
-        NextBytes::Unspelled => line::broken(),
+        NextBytes::Read { length, next } => line::numbers(length as u64, next.at as u64),
+        NextBytes::Unread => line::broken(),
     }
 }
 
@@ -70,6 +70,6 @@ pub(crate) fn line_at(at: usize, s: &[u8]) {
     let c = Cursor { at };
     match c.line(s) {
         NextLine::Ended { stop, next } => line::numbers(stop as u64, next.at as u64),
-        NextLine::Open => line::word(b" open"),
+        NextLine::Unread => line::word(b" open"),
     }
 }

@@ -9,8 +9,8 @@ use inputs::configuration::read_configuration;
 use inputs::state::State;
 use inputs::vrf_outputs::find_output;
 use inputs::vrf_outputs::outputs_rise;
-use lines::writing::next_place;
-use lines::writing::put_spelled;
+use lines::writing::next_offset;
+use lines::writing::put_decoded;
 
 // Room for the longest byte string.
 const ROOM: usize = 256;
@@ -27,10 +27,8 @@ fn lifetime(l: Lifetime) {
 
 fn fields(s: &[u8], c: Configuration) {
     line::numbers(c.suite as u64, c.mode as u64);
-    let signature = c.signature;
-    let vrf = c.vrf;
-    line::bytes(signature.of(s));
-    line::bytes(vrf.of(s));
+    line::bytes(c.signature.of(s));
+    line::bytes(c.vrf.of(s));
     line::numbers(c.ahead, c.behind);
     line::number(c.window);
     let limit = c.lifetime;
@@ -40,7 +38,7 @@ fn fields(s: &[u8], c: Configuration) {
 fn configuration(s: &[u8]) {
     match read_configuration(s) {
         ReadConfiguration::Read(c) => fields(s, c),
-        ReadConfiguration::Broken => line::broken(),
+        ReadConfiguration::Unread => line::broken(),
     }
 }
 
@@ -65,10 +63,10 @@ fn by_kind(kind: u64, at: usize, number: u64, bytes: &[u8], other: &[u8]) {
     }
 }
 
-// What comes back of the bytes that a text spells.
+// What comes back of the bytes that a text encodes.
 pub(crate) fn spelled(kind: u64, at: usize, number: u64, text: &[u8], other: &[u8]) {
     let mut bytes = [0u8; ROOM];
-    let length = next_place(put_spelled(&mut bytes, 0, text), 0);
+    let length = next_offset(put_decoded(&mut bytes, 0, text), 0);
     if length <= ROOM {
         by_kind(kind, at, number, &bytes[0..length], other);
     }

@@ -5,7 +5,6 @@ use inputs::response::Response;
 use inputs::response::Section;
 use inputs::response::read_response;
 use inputs::response_lines::Kind;
-use inputs::response_lines::Target;
 use lines::part::Part;
 
 fn part(text: &[u8], p: Part) {
@@ -19,12 +18,6 @@ fn kind(k: Kind) {
     }
 }
 
-fn target(text: &[u8], t: Target) {
-    line::number(t.version as u64);
-    part(text, t.opening);
-    part(text, t.value);
-}
-
 fn section(s: Section) {
     line::numbers(s.part.start as u64, s.part.stop as u64);
     line::number(s.count as u64);
@@ -35,8 +28,10 @@ fn fields(text: &[u8], r: Response) {
     kind(asked);
     part(text, r.identifier);
     part(text, r.label);
-    line::number(r.size);
-    target(text, r.target);
+    line::number(r.tree_size);
+    line::number(r.target.version as u64);
+    part(text, r.target.opening);
+    part(text, r.target.value);
     section(r.steps);
     section(r.entries);
     section(r.nodes);
@@ -45,6 +40,6 @@ fn fields(text: &[u8], r: Response) {
 pub(crate) fn response(text: &[u8]) {
     match read_response(text) {
         ReadResponse::Read(r) => fields(text, r),
-        ReadResponse::Broken => line::number(5),
+        ReadResponse::Unread => line::number(5),
     }
 }

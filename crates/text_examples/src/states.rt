@@ -9,7 +9,8 @@ use lines::part::equal;
 // Room for more than the text of any state.
 const LENT: usize = 8200;
 
-// The length of a state's text, whether that is the text given, and whether the last byte lent stays.
+// The length of a state's text, whether that is the text given, and whether the last byte lent
+// stays.
 fn written(s: State, text: &[u8]) {
     let mut lent = [b'.'; LENT];
     let length = write_state(s, &mut lent);
@@ -23,9 +24,9 @@ fn written(s: State, text: &[u8]) {
 // The number, what the state holds, and its text.
 pub(crate) fn state(n: NumberedState, text: &[u8]) {
     let s = n.state;
-    line::numbers(n.number, s.length as u64);
-    line::numbers(s.size, s.time);
-    line::number(s.pairs as u64);
+    line::numbers(n.number, s.label.length as u64);
+    line::numbers(s.log.size, s.log.timestamp);
+    line::number(s.map.count as u64);
     written(s, text);
 }
 
@@ -34,34 +35,24 @@ pub(crate) fn of_text(text: &[u8]) {
     state(read_state(text), text);
 }
 
+// One more than there is room for.
+const OVER_PAIRS: usize = State::PAIRS + 1;
+
+const OVER_LABEL: usize = State::LABEL + 1;
+
 // Whether a state of two values and two pairs is valid, with something put where it should not be.
 fn changed(given: State, place: u64) {
-    let mut label = given.label;
-    let mut length = given.length;
-    let mut values = given.values;
-    let mut positions = given.positions;
-    let mut versions = given.versions;
-    let mut pairs = given.pairs;
+    let mut s = given;
     match place {
-        1 => label[State::LABEL - 1] = 1,
-        2 => values[64] = 1,
-        3 => positions[2] = 1,
-        4 => versions[State::PAIRS - 1] = 1,
-        5 => pairs = State::PAIRS + 1,
-        6 => length = State::LABEL + 1,
-        7 => length = 0,
+        1 => s.label.bytes[State::LABEL - 1] = 1,
+        2 => s.log.values[64] = 1,
+        3 => s.map.positions[2] = 1,
+        4 => s.map.versions[State::PAIRS - 1] = 1,
+        5 => s.map.count = OVER_PAIRS,
+        6 => s.label.length = OVER_LABEL,
+        7 => s.label.length = 0,
         _ => {}
     }
-    let s = State {
-        label,
-        length,
-        size: given.size,
-        time: given.time,
-        values,
-        positions,
-        versions,
-        pairs,
-    };
     line::whether(s.is_valid());
 }
 

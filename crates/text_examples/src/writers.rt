@@ -4,13 +4,13 @@ use crate::line;
 use lines::writing::Put;
 use lines::writing::put_bytes;
 use lines::writing::put_decimal;
+use lines::writing::put_decoded;
 use lines::writing::put_hex;
-use lines::writing::put_spelled;
 
 // How many bytes `.` are lent.
 const LENT: usize = 10;
 
-// The place after what was put, and what was lent.
+// The offset after what was put, and what was lent.
 fn after(put: Put, lent: &[u8]) {
     match put {
         Put::Next(at) => line::number(at as u64),
@@ -33,7 +33,7 @@ pub(crate) fn decimal(at: usize, s: &[u8]) {
 
 pub(crate) fn spelled(at: usize, s: &[u8]) {
     let mut lent = [b'.'; LENT];
-    let put = put_spelled(&mut lent, at, s);
+    let put = put_decoded(&mut lent, at, s);
     after(put, &lent);
 }
 

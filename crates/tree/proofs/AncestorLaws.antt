@@ -2,7 +2,8 @@
 use mathlib.Core.Path.{_≡_, refl, sym, ap, _∙_}
 use mathlib.Core.Bool.{Bool, true, false, _&&_}
 use mathlib.Core.Logic.{_⊎_, inl, inr}
-use mathlib.Core.List.{List, [], _∷_, _++_, reverse, reverse-cons, List·Memᴰ, List·Memᴰ·head, List·Memᴰ·not-nil}
+use mathlib.Core.List.{List, [], _∷_, _++_, reverse, reverse-cons, List·Memᴰ, List·Memᴰ·head}
+use mathlib.Core.List.{List·Memᴰ·not-nil}
 use mathlib.Core.List.{List·Memᴰ·append-cases, List·Memᴰ·eq-of-singleton, Memᴰ·append-left, Memᴰ·append-right}
 use Prim.Native.Nat.{ℕ, zero, suc, _+_, _-_, _*_, _/_, _%_, _^_, _≤_, _<_}
 use native.Mathlib.Nat.{pow-succ', div-eq-of-lt, div-eq-of-lt-le}
@@ -125,7 +126,8 @@ path-here : (k f g n p : ℕ) → p < n → ancestor k p ≡ p → blockEnd k p 
 path-here k f g n p h e u =
     rw (move-stay g n (ancestor k p) (omega arith), down-here f n p (ancestor k p) e) (risen-nil p ∙ sym (path-low k n p (omega arith) ∙ path-none k n p u))
 
--- From the node of level k that holds p, moved left to below n, the way down to p goes through the nodes that hold p; those above p are its path.
+-- From the node of level k that holds p, moved left to below n, the way down to p goes through the
+-- nodes that hold p; those above p are its path.
 path-from : (k f g n p : ℕ) → k < f → k ≤ g → p < n → p < blockEnd (suc k) p → risen p (downTo f n p (moveWithin g n (ancestor k p))) ≡ pathTo (suc k) n p
 path-from k zero g n p b c h u = absurd (omega arith)
 path-from zero (suc f) g n p b c h u = path-here 0 f g n p h (omega arith) (omega arith)
@@ -182,7 +184,8 @@ path-root : (k n p : ℕ) → 2 ^ k ≤ n → n < 2 ^ suc k → p < n → rightA
 unfolding rightAncestors directPath choose
 path-root k n p l h u = rw (lt-ltb p n u, root-highest k n l h)
 
--- The right path of p is the list of the nodes above p that hold p and are below n, from the lowest level up.
+-- The right path of p is the list of the nodes above p that hold p and are below n, from the lowest
+-- level up.
 pub right-ancestors-digits : (k n p : ℕ) → n < 2 ^ k → rightAncestors n p ≡ pathTo k n p
 right-ancestors-digits zero n p h = right-ancestors-none n p (omega arith) ∙ sym (path-zero n p)
 right-ancestors-digits (suc k) n p h = by-order n (2 ^ k)
@@ -284,11 +287,13 @@ end-digit k n p z l h =
     let e : n / 2 ^ k ≡ c + 1 = div-eq-of-lt-le (2 ^ k) (omega arith) (omega arith) in
     record { place = k; set = rw e (omega arith); is = rw e (omega arith) }
 
--- what is known of the last node x on the path up to level k: it is on the frontier where p's block reaches n; else it is still p, unless the block ends after p
+-- what is known of the last node x on the path up to level k: it is on the frontier where p's block
+-- reaches n; else it is still p, unless the block ends after p
 abbrev Ends : ℕ → ℕ → ℕ → ℕ → Type 0
 Ends k n p x = ((n ≤ blockEnd k p) × Digit n x) ⊎ ((blockEnd k p < n) × ((x ≡ p) ⊎ (p < blockEnd k p)))
 
--- What is known of the last node is known one level up: a clear digit puts the end of p's block on the path, which is on the frontier if the next block reaches n.
+-- What is known of the last node is known one level up: a clear digit puts the end of p's block on
+-- the path, which is on the frontier if the next block reaches n.
 end-step : (k n p : ℕ) → Ends k n p (lastOr p (pathTo k n p)) → Ends (suc k) n p (lastOr p (pathTo (suc k) n p))
 end-step k n p (inl (o, d)) =
     let same : pathTo (suc k) n p ≡ pathTo k n p = by-step k n p (λ u v. absurd (omega (arith, clear-digit k p (above-clear k p u)))) (λ e. e) in

@@ -1,4 +1,5 @@
--- Laws of entries asked for together: the frontier of a log, and what is put into it (frontierAndPaths of specs/SearchTree.antt).
+-- Laws of entries asked for together: the frontier of a log, and what is put into it
+-- (frontierAndPaths of specs/SearchTree.antt).
 use mathlib.Core.Path.{_≡_, refl, sym, ap, ap₂, _∙_}
 use mathlib.Core.Logic.{⊎-elim}
 use mathlib.Core.Bool.{true}
@@ -8,12 +9,15 @@ use native.Mathlib.Omega.{arith}
 use lib.ListN.{length, getD, drop}
 use lib.Seq.{drop-cons, drop-length}
 use Rattle.lists.specs.Lists.{lastOr, rising, insertAll}
-use Rattle.lists.proofs.RisingLaws.{last-none, insertAll-keeps, insertAll-only, insertAll-rising, insertAll-length}
-use Rattle.tree.specs.SearchTree.{frontier, frontierCapacity, rightAncestors, frontierAndPaths, nextFrom}
+use Rattle.lists.proofs.RisingLaws.{last-none, insertAll-keeps, insertAll-only, insertAll-rising}
+use Rattle.lists.proofs.RisingLaws.{insertAll-length}
+use Rattle.tree.specs.SearchTree.{frontier, frontierCapacity, rightAncestors, frontierAndPaths}
+use Rattle.tree.specs.SearchTree.{nextFrom}
 use Rattle.tree.specs.LogHead.{levelLimit}
 use Rattle.tree.proofs.FrontierLaws.{frontier-below, frontier-rising}
 use Rattle.tree.proofs.FrontierFillLaws.{frontier-fits}
-use Rattle.tree.proofs.AncestorLaws.{right-ancestors-only, right-ancestors-rising, right-ancestors-end, right-ancestors-length}
+use Rattle.tree.proofs.AncestorLaws.{right-ancestors-only, right-ancestors-rising, right-ancestors-end}
+use Rattle.tree.proofs.AncestorLaws.{right-ancestors-length}
 use Rattle.tree.proofs.NextLaws.{next-together}
 
 -- ---- rising entries of a log up to its last
@@ -28,7 +32,8 @@ pub record Entries (n : ℕ) (l : List ℕ) : Type 0 where
 pub path-within : (n p a : ℕ) → List·Memᴰ a (rightAncestors n p) → a < n
 path-within n p a m = right-ancestors-only n p a m .within
 
--- The frontier is such a list, since the right path of the last entry is empty and ends on the frontier.
+-- The frontier is such a list, since the right path of the last entry is empty and ends on the
+-- frontier.
 pub frontier-entries : (n : ℕ) → Entries n (frontier n)
 frontier-entries n = record { rises = frontier-rising n; within = frontier-below n; last = last }
   where
@@ -77,7 +82,8 @@ paths-length n (p ∷ ps) h =
 
 -- ---- the next of them
 
--- With an entry more the next is the smaller of the next on its right path and the next of the others.
+-- With an entry more the next is the smaller of the next on its right path and the next of the
+-- others.
 pub next-paths : (n p x : ℕ) (ps : List ℕ) → nextFrom n (frontierAndPaths n (p ∷ ps)) x ≡ min (nextFrom n (rightAncestors n p) x) (nextFrom n (frontierAndPaths n ps) x)
 next-paths n p x ps =
     let s = paths-entries n ps in
@@ -87,7 +93,8 @@ next-paths n p x ps =
 pub asked-start : (n x : ℕ) (ps : List ℕ) → nextFrom n (frontier n) x ≡ nextFrom n (frontierAndPaths n (drop (length ps) ps)) x
 asked-start n x ps = rw (drop-length ps, paths-nil n)
 
--- The next of the positions from i on, from the next of those after i and the next on the right path of position i.
+-- The next of the positions from i on, from the next of those after i and the next on the right
+-- path of position i.
 pub asked-step : (n x i k next a r : ℕ) (ps : List ℕ) → k ≡ suc i → k ≤ length ps → next ≡ nextFrom n (frontierAndPaths n (drop k ps)) x
     → a ≡ nextFrom n (rightAncestors n (getD ps i 0)) x → r ≡ min a next → r ≡ nextFrom n (frontierAndPaths n (drop i ps)) x
 asked-step n x i k next a r ps z l e f g =

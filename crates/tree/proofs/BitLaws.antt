@@ -1,4 +1,5 @@
--- The bits of a VRF output (specs/PrefixTree.antt): each of them, how many there are, and that they tell outputs apart.
+-- The bits of a VRF output (specs/PrefixTree.antt): each of them, how many there are, and that they
+-- tell outputs apart.
 use mathlib.Core.Path.{_≡_, refl, sym, ap, ap₂, _∙_}
 use mathlib.Core.List.{List, [], _∷_, _++_}
 use Prim.Native.Nat.{ℕ, zero, suc, _+_, _-_, _*_, _/_, _%_, _^_, _<_, _≤_}

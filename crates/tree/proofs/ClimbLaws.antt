@@ -1,4 +1,5 @@
--- The way up from a lookup's place to the root (specs/PrefixTree.antt), one sibling at a time from the deepest.
+-- The way up from a lookup's place to the root (specs/PrefixTree.antt), one sibling at a time from
+-- the deepest.
 use mathlib.Core.Path.{_≡_, refl, sym, ap, _∙_}
 use mathlib.Core.Logic.{_⊎_, inl, inr}
 use mathlib.Core.List.{List, [], _∷_, _++_}
@@ -27,7 +28,8 @@ above-first (suc n) (b ∷ bs) [] v h = refl
 above-first (suc n) (b ∷ bs) (s ∷ ss) v (inl h) = ap (λ (x : Bytes). sha256 (parentOver b x s)) (above-first n bs ss v (inl (omega arith)))
 above-first (suc n) (b ∷ bs) (s ∷ ss) v (inr h) = ap (λ (x : Bytes). sha256 (parentOver b x s)) (above-first n bs ss v (inr (omega arith)))
 
--- The first siblings of a text, as many as there are or as an output has bits, lead to the same value as all of them.
+-- The first siblings of a text, as many as there are or as an output has bits, lead to the same
+-- value as all of them.
 pub climb-start : (o s : Bytes) (v : Bytes) (n : ℕ) → length o ≡ digestLength → n ≡ min (length (valuesIn s)) outputBits
     → valueAbove (take n (bits o)) (take n (valuesIn s)) v ≡ valueAbove (bits o) (valuesIn s) v
 climb-start o s v n h e =

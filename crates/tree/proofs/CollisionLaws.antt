@@ -1,4 +1,5 @@
--- Facts that hold unless SHA-256 is broken (specs/Collisions.antt): each law gives its fact or what breaks SHA-256 among the strings of a list.
+-- Facts that hold unless SHA-256 is broken (specs/Collisions.antt): each law gives its fact or what
+-- breaks SHA-256 among the strings of a list.
 use mathlib.Core.Path.{_≡_, refl, sym, ap, _∙_}
 use mathlib.Core.Logic.{_⊎_, inl, inr}
 use mathlib.Core.Bool.{Bool, true, false}
@@ -26,7 +27,8 @@ pub settled : {A C : Type 0} → A ⊎ C → (A → C) → C
 settled (inl a) f = f a
 settled (inr c) f = c
 
--- A fact of each member of a list, or a way out: it is a fact of all members, or there is a way out.
+-- A fact of each member of a list, or a way out: it is a fact of all members, or there is a way
+-- out.
 pub all-or : {A B : Type 0} (P : A → Type 0) (l : List A) → ((x : A) → List·Memᴰ x l → P x ⊎ B) → ((x : A) → List·Memᴰ x l → P x) ⊎ B
 all-or P [] f = inl (each-nil P)
 all-or P (y ∷ l) f = do

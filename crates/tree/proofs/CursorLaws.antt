@@ -1,21 +1,28 @@
--- Laws of where the walk over the log tree stands (specs/LogWalk.antt): which shown entry comes next, and whether it is in a subtree.
-use mathlib.Core.Path.{_≡_, refl, sym, ap, _∙_}
+-- Laws of where the walk over the log tree stands (specs/LogWalk.antt): which shown entry comes
+-- next, and whether it is in a subtree.
+use mathlib.Core.Path.{_≡_, refl, sym, ap, ap₂, _∙_}
 use mathlib.Core.Bool.{Bool, true, false, _&&_, _||_}
 use mathlib.Core.List.{List, [], _∷_}
 use Prim.Native.Nat.{ℕ, zero, suc, _+_, _≤_, _<_}
+use native.Mathlib.Nat.{add-zero}
 use native.Mathlib.Decide.{decLt}
 use native.Mathlib.Omega.{arith}
 use lib.Dec.{leb, ltb}
 use lib.ListN.{length, drop, getD, length-map, List·getD-eq-default}
+use lib.Seq.{getD-drop}
 use borrow.Author.Tests.{lt-ltb, le-ltb, le-leb, lt-leb, ltb-true, eq-eqb, ne-eqb}
 use Rattle.lists.specs.Choice.{choose}
 use Rattle.lists.specs.Lists.{Bytes, any, rising}
 use Rattle.lists.proofs.ChoiceLaws.{and-holds}
 use Rattle.lists.proofs.RisingLaws.{rising-tail}
+use Rattle.lines.specs.Layout.{entryFields}
+use Rattle.tree.specs.declared.log_tree.WalkCursor.{WalkCursor}
 use Rattle.tree.specs.LogTree.{LogEntry, logLeafString, Range, isShown, stringAt}
-use Rattle.tree.specs.LogText.{entryIn, entriesAt}
+use Rattle.tree.specs.LogText.{entryIn, nextLine, entryOffsets, entriesAt, shownIn}
 use Rattle.tree.specs.LogHead.{positions}
-use Rattle.tree.specs.LogWalk.{range, below, noPosition, cursorAt}
+use Rattle.tree.specs.LogWalk.{range, below, noPosition, cursorAt, cursorFrom}
+use Rattle.tree.proofs.RunLaws.{getD-any}
+use Rattle.tree.proofs.EntryLineLaws.{firstOffset, offset-within, offsets-behind, shown-from}
 
 -- ---- one step
 
@@ -57,7 +64,8 @@ shown-past : (p : ℕ) (ps : List ℕ) (r : Range) → rising (p ∷ ps) ≡ tru
 shown-past p [] r u h = before-first p [] r h (shown-nil r)
 shown-past p (q ∷ ps) r u h = let (a, b) = rising-cons p q ps u in before-first p (q ∷ ps) r h (shown-past q ps r b (omega arith))
 
--- something is shown in a subtree if the next of the shown entries, from its start on, stands before its end
+-- something is shown in a subtree if the next of the shown entries, from its start on, stands
+-- before its end
 pub is-shown : (ps : List ℕ) (s w d : ℕ) → rising ps ≡ true → s + w ≤ d → isShown ps (range s w) ≡ ltb (getD ps (below ps s) d) (s + w)
 is-shown [] s w d u h = shown-nil (range s w) ∙ sym (le-ltb d (s + w) h)
 is-shown (p ∷ ps) s w d u h = go (decLt p s) (decLt p (s + w)) (is-shown ps s w d (rising-tail p ps u) h)
@@ -128,34 +136,81 @@ string-at (e ∷ es) z s d b h = go (decLt (e .position) s) (string-at es z s d 
         let l : e .position < s + 1 = rw m at h in
         string-first e es s (omega arith) ∙ ap (λ (j : ℕ). logLeafString (getD (e ∷ es) j z)) (sym m)
 
--- ---- the entries at places of a text
+-- ---- the entries at offsets of a text
 
--- the entry of a number is that at the place of this number
-pub entry-at : (t : Bytes) (pl : List ℕ) (i : ℕ) (z : LogEntry) → i < length pl → getD (entriesAt t pl) i z ≡ entryIn (drop (getD pl i 0) t)
+-- the entry of a number is that at the offset of this number
+pub entry-at : (t : Bytes) (pl : List ℕ) (i : ℕ) (z : LogEntry) → i < length pl → getD (entriesAt t pl) i z ≡ entryIn (drop (getD pl i 0 + entryFields) t)
 unfolding entriesAt
 entry-at t [] i z h = absurd (omega arith)
 entry-at t (p ∷ pl) zero z h = refl
 entry-at t (p ∷ pl) (suc i) z h = entry-at t pl i z (omega arith)
 
--- and so is its position
-pub position-at : (t : Bytes) (pl : List ℕ) (i d : ℕ) → i < length pl → getD (positions (entriesAt t pl)) i d ≡ entryIn (drop (getD pl i 0) t) .position
-unfolding entriesAt
-position-at t [] i d h = absurd (omega arith)
-position-at t (p ∷ pl) zero d h = refl
-position-at t (p ∷ pl) (suc i) d h = position-at t pl i d (omega arith)
-
--- there are as many entries as places
+-- there are as many entries as offsets
 pub length-positions : (t : Bytes) (pl : List ℕ) → length (positions (entriesAt t pl)) ≡ length pl
 unfolding entriesAt
-length-positions t pl = length-map (entriesAt t pl) (λ (e : LogEntry). e .position) ∙ length-map pl (λ (p : ℕ). entryIn (drop p t))
+length-positions t pl = length-map (entriesAt t pl) (λ (e : LogEntry). e .position) ∙ length-map pl (λ (p : ℕ). entryIn (drop (p + entryFields) t))
 
-module _ (t : Bytes) (pl : List ℕ) (i node : ℕ) where
-  -- the cursor of an entry that is there
-  pub cursor-made : (v : ℕ) → i < length pl → v ≡ entryIn (drop (getD pl i 0) t) .position → record { shown = i; position = v; node = node } ≡ cursorAt (positions (entriesAt t pl)) i node
-  cursor-made v h e = ap (λ (p : ℕ). record { shown = i; position = p; node = node }) (e ∙ sym (position-at t pl i noPosition h))
+-- without the first offsets those without the first entries are left
+entries-drop : (t : Bytes) (i : ℕ) (pl : List ℕ) → entriesAt t (drop i pl) ≡ drop i (entriesAt t pl)
+unfolding entriesAt
+entries-drop t zero pl = refl
+entries-drop t (suc i) [] = refl
+entries-drop t (suc i) (p ∷ pl) = entries-drop t i pl
 
-  -- the cursor past the last entry
-  pub cursor-none : length pl ≤ i → record { shown = i; position = noPosition; node = node } ≡ cursorAt (positions (entriesAt t pl)) i node
+positions-drop : (i : ℕ) (es : List LogEntry) → positions (drop i es) ≡ drop i (positions es)
+positions-drop zero es = refl
+positions-drop (suc i) [] = refl
+positions-drop (suc i) (e ∷ es) = positions-drop i es
+
+-- where the element of a number is asked for, it is the first of those that are left
+pub first-left : {A : Type 0} (xs : List A) (i : ℕ) (d : A) → getD (drop i xs) 0 d ≡ getD xs i d
+first-left xs i d = getD-drop i xs 0 d ∙ ap (λ (j : ℕ). getD xs j d) (add-zero i)
+
+-- ---- the cursor
+
+abbrev cursor : ℕ → ℕ → ℕ → WalkCursor
+cursor node at position = record { at = at; position = position; node = node }
+
+-- the position of the first of some entries
+first-position : (t : Bytes) (pl : List ℕ) (at d : ℕ) → at ≡ getD pl 0 (length t) → at < length t → getD (positions (entriesAt t pl)) 0 d ≡ entryIn (drop (at + entryFields) t) .position
+unfolding entriesAt
+first-position t [] at d e h = absurd (omega arith)
+first-position t (p ∷ pl) at d e h = ap (λ (i : ℕ). entryIn (drop (i + entryFields) t) .position) (sym e)
+
+module _ (t : Bytes) (start node at : ℕ) (e : at ≡ firstOffset t start) where
+  -- the cursor where an entry line comes
+  pub cursor-made : (v : ℕ) → at < length t → v ≡ entryIn (drop (at + entryFields) t) .position → cursor node at v ≡ cursorFrom t start node
+  cursor-made v h ev =
+      ap₂ (cursor node) e
+      (ev ∙ sym (first-position t (entryOffsets t start) at noPosition e h) ∙ ap (λ (es : List LogEntry). getD (positions es) 0 noPosition) (shown-from t start))
+
+  -- the cursor where none is left
+  pub cursor-none : length t ≤ at → cursor node at noPosition ≡ cursorFrom t start node
   cursor-none h =
-      ap (λ (p : ℕ). record { shown = i; position = p; node = node })
-      (sym (List·getD-eq-default (positions (entriesAt t pl)) noPosition (omega (arith, length-positions t pl))))
+      ap₂ (cursor node) e
+      (sym (List·getD-eq-default (positions (entriesAt t (entryOffsets t start))) noPosition (omega (arith, length-positions t (entryOffsets t start), none (entryOffsets t start) refl)))
+      ∙ ap (λ (es : List LogEntry). getD (positions es) 0 noPosition) (shown-from t start))
+    where
+      none : (pl : List ℕ) → entryOffsets t start ≡ pl → length pl ≡ 0
+      none [] n = refl
+      none (p ∷ pl) n =
+          let z = e ∙ ap (λ (ps : List ℕ). getD ps 0 (length t)) n in
+          let l = ap length n in
+          let w = ap (λ (ps : List ℕ). getD ps 0 0) n in
+          absurd (omega (arith, offset-within t start 0 (omega arith)))
+
+-- after so many entry lines the entries after them are left
+pub cursor-from : (t : Bytes) (start i node : ℕ) → drop i (entryOffsets t 0) ≡ entryOffsets t start → cursorFrom t start node ≡ cursorAt t i node
+unfolding shownIn
+cursor-from t start i node e =
+    ap₂ (cursor node)
+    (ap (λ (ps : List ℕ). getD ps 0 (length t)) (sym e) ∙ first-left (entryOffsets t 0) i (length t))
+    (ap (λ (ps : List ℕ). getD ps 0 noPosition)
+    (ap positions (sym (shown-from t start) ∙ ap (entriesAt t) (sym e) ∙ entries-drop t i (entryOffsets t 0)) ∙ positions-drop i (entriesAt t (entryOffsets t 0)))
+    ∙ first-left (positions (entriesAt t (entryOffsets t 0))) i noPosition)
+
+-- after the line of one of them one more is passed
+pub cursor-next : (t : Bytes) (i node at : ℕ) → i < length (entryOffsets t 0) → at ≡ getD (entryOffsets t 0) i (length t) → cursorFrom t (nextLine t at) node ≡ cursorAt t (i + 1) node
+cursor-next t i node at h e =
+    cursor-from t (nextLine t at) (i + 1) node
+    (offsets-behind t 0 i h ∙ ap (λ (p : ℕ). entryOffsets t (nextLine t p)) (getD-any (entryOffsets t 0) i 0 (length t) h ∙ sym e))

@@ -1,4 +1,5 @@
--- Laws of what the walk decides at a whole block (src/log_tree.rt): full or not, holding a full subtree or not, and where its kept value stands.
+-- Laws of what the walk decides at a whole block (src/log_tree.rt): full or not, holding a full
+-- subtree or not, and where its kept value stands.
 use mathlib.Core.Path.{_≡_, refl, sym, ap, ap₂, _∙_, subst}
 use mathlib.Core.Logic.{inl, inr}
 use mathlib.Core.Bool.{Bool, true, false, _&&_, _||_}
@@ -15,11 +16,11 @@ use borrow.Author.Tests.{lt-ltb, le-ltb, eq-eqb, ne-eqb, eqb-true}
 use Rattle.lists.specs.Lists.{Bytes, runs}
 use Rattle.lists.proofs.ChoiceLaws.{and-holds}
 use Rattle.hash.specs.Sha256.{digestLength}
-use Rattle.tree.specs.declared.log_tree.Step.{Step}
-use Rattle.tree.specs.declared.log_tree.Step.the-variants.{Retained, Given, Shown, Parent}
+use Rattle.tree.specs.declared.log_tree.Source.{Source}
+use Rattle.tree.specs.declared.log_tree.Source.the-variants.{Retained, Given, Shown, Parent}
 use Rattle.tree.specs.LogTree.{Range, fullSubtrees, isFull, holdsFull, valueAmong, keptValue, zeros}
 use Rattle.tree.specs.LogHead.{levelLimit, knownIn}
-use Rattle.tree.specs.LogWalk.{range, Whole, Halves, even, uneven, StepFacts}
+use Rattle.tree.specs.LogWalk.{range, Whole, Halves, even, uneven, SourceFacts}
 use Rattle.tree.proofs.DigitLaws.{halved}
 use Rattle.tree.proofs.RunLaws.{runs-at}
 use Rattle.tree.proofs.SubtreeLaws.{block}
@@ -38,8 +39,8 @@ ones-limit l n p h = go (decLt n (2 ^ l))
     go (no a) = let e : n ≡ 1 * 2 ^ l + 0 = omega arith in omega (arith, ap ones e, one)
 
 -- what is known of a step is known of the one that it is
-pub step-told : (b : Bool) (m : ℕ) (r : Range) {x : Step} (y : Step) → x ≡ y → StepFacts b m r x → StepFacts b m r y
-step-told b m r y e = subst (StepFacts b m r) e
+pub step-told : (b : Bool) (m : ℕ) (r : Range) {x : Source} (y : Source) → x ≡ y → SourceFacts b m r x → SourceFacts b m r y
+step-told b m r y e = subst (SourceFacts b m r) e
 
 -- ---- full subtrees
 
@@ -94,7 +95,7 @@ module _ (m s w : ℕ) (h : Whole s w) where
     kept-room = omega (arith, kept-number f, ones-limit l m p u, v)
 
     -- it is the value found among the kept ones
-    pub kept-is : take digestLength (drop (digestLength * ones (m / (2 * w))) b) ≡ keptValue (knownIn [] [] m b) (range s w)
+    pub kept-is : take digestLength (drop (digestLength * ones (m / (2 * w))) b) ≡ keptValue (knownIn [] m b) (range s w)
     unfolding keptValue knownIn
     kept-is =
         let e : ℕ = h .level in
@@ -108,27 +109,27 @@ module _ (m s w : ℕ) (h : Whole s w) where
 
   module _ (p : ℕ) where
     -- a single entry that is shown is hashed
-    pub step-shown : p < s + w → w ≡ 1 → StepFacts (ltb p (s + w)) m (range s w) Shown
+    pub step-shown : p < s + w → w ≡ 1 → SourceFacts (ltb p (s + w)) m (range s w) Shown
     step-shown b e = (lt-ltb p (s + w) b, e)
 
     -- more entries of which one is shown split
-    pub step-parent : p < s + w → (w ≡ 1 → ⊥) → StepFacts (ltb p (s + w)) m (range s w) Parent
+    pub step-parent : p < s + w → (w ≡ 1 → ⊥) → SourceFacts (ltb p (s + w)) m (range s w) Parent
     step-parent b e = (omega (arith, whole-some h, e), inl (lt-ltb p (s + w) b))
 
     -- with nothing shown a full subtree is retained
-    pub step-retained : s + w ≤ p → isFull m (range s w) ≡ true → StepFacts (ltb p (s + w)) m (range s w) Retained
+    pub step-retained : s + w ≤ p → isFull m (range s w) ≡ true → SourceFacts (ltb p (s + w)) m (range s w) Retained
     step-retained b f = (le-ltb p (s + w) b, f)
 
-    -- one behind the m entries is given
-    pub step-after : s + w ≤ p → isFull m (range s w) ≡ false → m ≤ s → StepFacts (ltb p (s + w)) m (range s w) Given
+    -- one after the m entries is given
+    pub step-after : s + w ≤ p → isFull m (range s w) ≡ false → m ≤ s → SourceFacts (ltb p (s + w)) m (range s w) Given
     step-after b f l = (le-ltb p (s + w) b, f, holds-test ∙ rw (f, le-ltb s m l) refl)
 
     -- one among the m entries that is not full is given
-    pub step-before : s + w ≤ p → isFull m (range s w) ≡ false → s < m → s + w ≤ m → StepFacts (ltb p (s + w)) m (range s w) Given
+    pub step-before : s + w ≤ p → isFull m (range s w) ≡ false → s < m → s + w ≤ m → SourceFacts (ltb p (s + w)) m (range s w) Given
     step-before b f l u = (le-ltb p (s + w) b, f, holds-test ∙ rw (f, lt-ltb s m l, le-ltb m (s + w) u) refl)
 
     -- one in which the m entries end splits
-    pub step-within : s + w ≤ p → isFull m (range s w) ≡ false → s < m → m < s + w → StepFacts (ltb p (s + w)) m (range s w) Parent
+    pub step-within : s + w ≤ p → isFull m (range s w) ≡ false → s < m → m < s + w → SourceFacts (ltb p (s + w)) m (range s w) Parent
     step-within b f l u = (omega arith, inr (f, holds-test ∙ rw (f, lt-ltb s m l, lt-ltb m (s + w) u) refl))
 
 -- ---- the halves of a parent

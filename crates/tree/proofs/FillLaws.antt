@@ -1,4 +1,5 @@
--- Laws of an array of zeros that is filled from its front with the elements of a list, one after the other.
+-- Laws of an array of zeros that is filled from its front with the elements of a list, one after
+-- the other.
 use mathlib.Core.Path.{_≡_, refl, sym, ap, _∙_}
 use mathlib.Core.List.{List, [], _∷_}
 use Prim.Native.Nat.{ℕ, suc, _+_, _-_, _≤_, _<_}
@@ -9,7 +10,8 @@ use lib.Seq.{take-suc, take-all, drop-cons, length-take-le}
 use Rattle.hash.specs.Bytes.{padded}
 use Rattle.hash.proofs.BytesLaws.{padded-nil, padded-set}
 
--- an array of n elements in which the first of the whole list, as many as counted, are stored, and what is left of the list
+-- an array of n elements in which the first of the whole list, as many as counted, are stored, and
+-- what is left of the list
 pub record Filling (n : ℕ) (whole array : List ℕ) (count : ℕ) (rest : List ℕ) : Type 0 where
   pub stored : array ≡ padded n (take count whole)
   pub left : drop count whole ≡ rest

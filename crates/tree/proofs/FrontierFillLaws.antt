@@ -12,14 +12,17 @@ use Rattle.hash.specs.Bytes.{padded}
 use Rattle.tree.specs.SearchTree.{power, frontier, frontierCapacity}
 use Rattle.tree.proofs.PowerLaws.{power-at, exponent-below}
 use Rattle.tree.proofs.DigitLaws.{cut, cut-set, cut-clear, cut-bounds, by-digit}
-use Rattle.tree.proofs.FillLaws.{Filling, filling-start, filling-same, filling-next, filling-end, filling-whole}
-use Rattle.tree.proofs.FrontierLaws.{setDigits, digits-set, digits-clear, digits-none, frontier-digits, frontier-length}
+use Rattle.tree.proofs.FillLaws.{Filling, filling-start, filling-same, filling-next, filling-end}
+use Rattle.tree.proofs.FillLaws.{filling-whole}
+use Rattle.tree.proofs.FrontierLaws.{setDigits, digits-set, digits-clear, digits-none, frontier-digits}
+use Rattle.tree.proofs.FrontierLaws.{frontier-length}
 
 -- A log of fewer than 2 ^ 64 entries has a frontier that fits.
 pub frontier-fits : (n : ℕ) → n < 2 ^ 64 → length (frontier n) ≤ frontierCapacity
 frontier-fits n h = omega (arith, frontier-length n, ones-le 64 n h)
 
--- Where the digits of n below k come to a number whose highest digit is j, that digit is the first that is set.
+-- Where the digits of n below k come to a number whose highest digit is j, that digit is the first
+-- that is set.
 first-digit : (k n left j : ℕ) → cut n k + left ≡ n → 2 ^ j ≤ left → left < 2 ^ suc j → (setDigits k n ≡ (cut n j - 1) ∷ setDigits j n) × (cut n j ≡ cut n k + 2 ^ j)
 first-digit zero n left j s l u = absurd (omega (arith, pow-pos j))
 first-digit (suc k) n left j s l u = by-digit (n / 2 ^ k)
@@ -36,7 +39,8 @@ first-digit (suc k) n left j s l u = by-digit (n / 2 ^ k)
     let e : j ≡ k = omega arith in
     rw e (digits-set k n z, c))
 
--- the entries of the frontier are stored for all digits of n but those below a place, which come to the number left
+-- the entries of the frontier are stored for all digits of n but those below a place, which come to
+-- the number left
 pub record Descending (n : ℕ) (positions : List ℕ) (left count : ℕ) : Type 0 where
   pub place : ℕ
   pub parts : cut n place + left ≡ n

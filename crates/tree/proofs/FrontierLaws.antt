@@ -74,7 +74,8 @@ frontier-set k f g n o rest =
     (λ a. rightward-more f n x (omega arith) ∙ ap₂ (λ (y : ℕ) (ys : List ℕ). y ∷ ys) e (rest a))
     (λ a. rightward-end f n x (omega arith) ∙ ap₂ (λ (y : ℕ) (ys : List ℕ). y ∷ ys) e (sym (digits-none k n (omega arith)))))
 
--- From the node that holds n at level k, moved left to below n, the way right goes through the set digits of n up to k.
+-- From the node that holds n at level k, moved left to below n, the way right goes through the set
+-- digits of n up to k.
 frontier-from : (k f g n : ℕ) → k < f → k ≤ g → cut n (suc k) < n → rightward f n (moveWithin g n (node k (n / 2 ^ suc k))) ≡ setDigits (suc k) n
 frontier-from k zero g n b c h = absurd (omega arith)
 frontier-from zero (suc f) g n b c h = frontier-set 0 f g n (omega arith) (λ z. absurd (omega arith))
@@ -102,7 +103,8 @@ frontier-root : (k n : ℕ) → 2 ^ k ≤ n → n < 2 ^ suc k → frontier n ≡
 unfolding frontier
 frontier-root k n l h = rw (root-highest k n l h)
 
--- The frontier is the list of the set digits of n, from the highest down: n up to the digit, less one.
+-- The frontier is the list of the set digits of n, from the highest down: n up to the digit, less
+-- one.
 pub frontier-digits : (k n : ℕ) → n < 2 ^ k → frontier n ≡ setDigits k n
 frontier-digits zero n h = let z : n ≡ 0 = omega arith in ap frontier z ∙ frontier-none ∙ sym (digits-zero n)
 frontier-digits (suc k) n h = by-order n (2 ^ k)

@@ -1,4 +1,5 @@
--- Which subtrees of the log tree are full subtrees of m entries or hold one, by the digits of m, and where their kept values stand (specs/LogTree.antt).
+-- Which subtrees of the log tree are full subtrees of m entries or hold one, by the digits of m,
+-- and where their kept values stand (specs/LogTree.antt).
 use mathlib.Core.Path.{_≡_, refl, sym, ap, ap₂, _∙_, subst}
 use mathlib.Core.Logic.{_⊎_, inl, inr}
 use mathlib.Core.Bool.{Bool, true, false, _&&_, _||_, false≢true}
@@ -19,10 +20,12 @@ use Rattle.lists.specs.Lists.{Bytes}
 use Rattle.lists.proofs.ChoiceLaws.{same-test, and-holds, holds-and, or-holds, never-holds}
 use Rattle.lists.proofs.ListLaws.{any-at, at-any}
 use Rattle.tree.specs.SearchTree.{power}
-use Rattle.tree.specs.LogTree.{Range, sameRange, holds, fullFrom, fullSubtrees, isFull, holdsFull, zeros, valueAmong}
+use Rattle.tree.specs.LogTree.{Range, sameRange, holds, fullFrom, fullSubtrees, isFull, holdsFull}
+use Rattle.tree.specs.LogTree.{zeros, valueAmong}
 use Rattle.tree.proofs.PowerLaws.{below-power, exponent-below, power-at}
 use Rattle.tree.proofs.DigitLaws.{cut-bounds, by-order}
-use Rattle.tree.proofs.FullLaws.{fullFrom-by, full-digit, full-form, digitRange, digit-top, digit-below}
+use Rattle.tree.proofs.FullLaws.{fullFrom-by, full-digit, full-form, digitRange, digit-top}
+use Rattle.tree.proofs.FullLaws.{digit-below}
 use Rattle.tree.specs.LogWalk.{range}
 use Rattle.tree.proofs.SubtreeLaws.{block, exponent-most, start-lower}
 
@@ -60,7 +63,8 @@ full-is-block m r h = full-form m r (full-listed m r h)
 level-one : (e j : ℕ) → 2 ^ e ≡ 2 ^ j → e ≡ j
 level-one e j h = let a = exponent-most e j (omega arith) in let b = exponent-most j e (omega arith) in omega arith
 
--- A block is a full subtree of m entries where it is the last whole block of its level and the left one of its pair.
+-- A block is a full subtree of m entries where it is the last whole block of its level and the left
+-- one of its pair.
 pub full-block : (m e q : ℕ) → isFull m (block e q) ≡ (eqb (m / 2 ^ e) (q + 1) && eqb (q % 2) 0)
 full-block m e q = same-test (isFull m (block e q)) (eqb (m / 2 ^ e) (q + 1) && eqb (q % 2) 0) forth back
   where
@@ -121,7 +125,8 @@ holds-some m r h =
 pub full-holds : (m : ℕ) (r : Range) → isFull m r ≡ true → holdsFull m r ≡ true
 full-holds m r h = held m r r (full-listed m r h) (omega arith) (omega arith)
 
--- Where m ends behind a multiple of 2 ^ e and not beyond the next, a full subtree of m begins there: its width is the largest power in what is behind.
+-- Where m ends after a multiple of 2 ^ e and not beyond the next, a full subtree of m begins there:
+-- its width is the largest power in what is after.
 first-full : (m e q d : ℕ) → m ≡ q * 2 ^ e + d → 0 < d → d < 2 ^ e → (j : ℕ) × (2 ^ j ≤ d) × List·Memᴰ (range (q * 2 ^ e) (2 ^ j)) (fullSubtrees m)
 first-full m e q d h p b = let (j, x, l, u) = power-at d p in go j x l u
   where
@@ -145,8 +150,9 @@ last-run c w h = let z : c ≡ c - 1 + 1 = omega arith in sym (ap (λ (x : ℕ).
 runs-most : (c d w : ℕ) → 0 < w → c * w ≤ d * w → c ≤ d
 runs-most c d w p h = by-order d c (λ l. let y : (d + 1) * w ≤ c * w = mul-le-mul-right w (omega arith) in absurd (omega (arith, add-mul d 1 w))) (λ g. g)
 
--- A block holds a full subtree where it is one, or where m ends within it: a smaller block for which a digit of m stands has an odd number of its own
--- width before its end, so that it does not end where a larger block does, and m ends less than its width behind it.
+-- A block holds a full subtree where it is one, or where m ends within it: a smaller block for
+-- which a digit of m stands has an odd number of its own width before its end, so that it does not
+-- end where a larger block does, and m ends less than its width after it.
 pub holds-block : (m e q : ℕ) → holdsFull m (block e q) ≡ (isFull m (block e q) || (ltb (q * 2 ^ e) m && ltb m (q * 2 ^ e + 2 ^ e)))
 holds-block m e q = same-test (holdsFull m (block e q)) (isFull m (block e q) || (ltb (q * 2 ^ e) m && ltb m (q * 2 ^ e + 2 ^ e))) forth back
   where
@@ -223,7 +229,8 @@ among-later : (x : Range) (xs : List Range) (vs : List Bytes) (r : Range) → sa
 unfolding valueAmong choose
 among-later x xs vs r h = rw h refl
 
--- The power of two at the top of w is one digit more than what is below it has, above any lower place.
+-- The power of two at the top of w is one digit more than what is below it has, above any lower
+-- place.
 ones-above : (e j w : ℕ) → e < j → 2 ^ j ≤ w → w < 2 ^ suc j → ones (w / 2 ^ suc e) ≡ suc (ones ((w - 2 ^ j) / 2 ^ suc e))
 unfolding ones
 ones-above e j w l a b =
@@ -243,7 +250,8 @@ other e j t s p x b = never-holds (sameRange (range t (2 ^ e)) (range s p)) (λ 
     let k : e ≡ j = level-one e j (omega arith) in
     omega arith)
 
--- The values kept of full subtrees stand in the order of their levels, the highest first: before that of level e stand those of the digits above it.
+-- The values kept of full subtrees stand in the order of their levels, the highest first: before
+-- that of level e stand those of the digits above it.
 pub value-among : (m e q : ℕ) (vs : List Bytes) → isFull m (block e q) ≡ true → valueAmong (fullSubtrees m) vs (block e q) ≡ getD vs (ones (m / 2 ^ suc e)) zeros
 unfolding fullSubtrees ones
 value-among m e q vs h =

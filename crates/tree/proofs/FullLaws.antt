@@ -1,7 +1,9 @@
--- Laws of the full subtrees of a tree (specs/LogTree.antt): how many there are, how they lie, and which digit of the number of entries each stands for.
+-- Laws of the full subtrees of a tree (specs/LogTree.antt): how many there are, how they lie, and
+-- which digit of the number of entries each stands for.
 use mathlib.Core.Path.{_≡_, refl, sym, ap, ap₂, _∙_}
 use mathlib.Core.Logic.{_⊎_, inl, inr}
-use mathlib.Core.List.{List, [], _∷_, List·Memᴰ, List·Memᴰ·head, List·Memᴰ·tail, List·Memᴰ·cases-cons, List·Memᴰ·not-nil, Memᴰ·cast}
+use mathlib.Core.List.{List, [], _∷_, List·Memᴰ, List·Memᴰ·head, List·Memᴰ·tail, List·Memᴰ·cases-cons}
+use mathlib.Core.List.{List·Memᴰ·not-nil, Memᴰ·cast}
 use Prim.Native.Nat.{ℕ, zero, suc, _+_, _-_, _*_, _/_, _%_, _^_, _≤_, _<_}
 use native.Mathlib.Nat.{add-mul, zero-add, div-eq-of-lt, mul-add-div-right}
 use native.Mathlib.Numerals.{one-add}
@@ -24,7 +26,8 @@ unfolding fullFrom choose
 fullFrom-none zero start width h = refl
 fullFrom-none (suc k) start width h = rw (eq-eqb width 0 h) refl
 
--- the first full subtree is as wide as the largest power of two not above the width; the others are those of the rest
+-- the first full subtree is as wide as the largest power of two not above the width; the others are
+-- those of the rest
 pub fullFrom-more : (k start width : ℕ) → 0 < width
     → fullFrom (suc k) start width ≡ record { start = start; width = power width } ∷ fullFrom k (start + power width) (width - power width)
 unfolding fullFrom choose
@@ -38,8 +41,8 @@ rest-below k w h b =
     let p : 2 ^ j ≤ 2 ^ k = pow-mono (omega arith) in
     omega arith
 
--- what holds where there are no entries, and of a first full subtree and the others if it holds of the others,
--- holds of full subtrees found in steps enough for the digits of the width
+-- what holds where there are no entries, and of a first full subtree and the others if it holds of
+-- the others, holds of full subtrees found in steps enough for the digits of the width
 pub fullFrom-by : (P : ℕ → ℕ → List Range → Type 0) → ((s w : ℕ) → w ≡ 0 → P s w [])
     → ((s w : ℕ) (l : List Range) → 0 < w → P (s + power w) (w - power w) l → P s w (record { start = s; width = power w } ∷ l))
     → (k s w : ℕ) → w < 2 ^ k → P s w (fullFrom k s w)
@@ -79,7 +82,8 @@ fullFrom-length = fullFrom-by (λ s w rs. length rs ≡ ones w) (λ s w e. sym (
 
 -- ---- how they lie
 
--- ranges side by side: the first begins at the start, each other where the one before it ends, and the last ends at the end
+-- ranges side by side: the first begins at the start, each other where the one before it ends, and
+-- the last ends at the end
 abbrev pub SideBySide : ℕ → ℕ → List Range → Type 0
 SideBySide start end [] = start ≡ end
 SideBySide start end (r ∷ rs) = (r .start ≡ start) × SideBySide (start + r .width) end rs
@@ -101,7 +105,8 @@ fullFrom-narrow k start width bound h = fullFrom-by (λ s w rs. (bound : ℕ) �
 
 -- ---- digits
 
--- the range that the digit e of w stands for, in a tree of w entries from s on: it comes after those of the higher digits
+-- the range that the digit e of w stands for, in a tree of w entries from s on: it comes after
+-- those of the higher digits
 abbrev pub digitRange : ℕ → ℕ → ℕ → Range
 digitRange s w e = record { start = s + (w / 2 ^ e - 1) * 2 ^ e; width = 2 ^ e }
 

@@ -1,4 +1,5 @@
--- The values of the full subtrees that a walk hands on (specs/LogTree.antt): one for each full subtree of n, each the value of a walk of that subtree.
+-- The values of the full subtrees that a walk hands on (specs/LogTree.antt): one for each full
+-- subtree of n, each the value of a walk of that subtree.
 use mathlib.Core.Path.{_≡_, refl, sym, ap, ap₂, _∙_, subst}
 use mathlib.Core.Logic.{_⊎_, inl, inr}
 use mathlib.Core.Bool.{true, false, false≢true}
@@ -10,7 +11,9 @@ use lib.Pow.{pow-pos}
 use Rattle.lists.specs.Lists.{Bytes, any}
 use Rattle.lists.proofs.ChoiceLaws.{choose-by}
 use Rattle.tree.specs.SearchTree.{power}
-use Rattle.tree.specs.LogTree.{Range, sameRange, splitAt, leftHalf, rightHalf, fullFrom, fullSubtrees, isFull, holdsFull, isShown, Walk, parent, nodeCount, Known, valueAmong, value, fullValues, walkOf}
+use Rattle.tree.specs.LogTree.{Range, sameRange, splitAt, leftHalf, rightHalf, fullFrom, fullSubtrees}
+use Rattle.tree.specs.LogTree.{isFull, holdsFull, isShown, Walk, parent, nodeCount, Known, valueAmong}
+use Rattle.tree.specs.LogTree.{value, fullValues, walkOf}
 use Rattle.tree.proofs.CollisionLaws.{Sized}
 use Rattle.tree.proofs.PowerLaws.{power-unique, power-of-power, split-unique, left-half, halves-meet}
 use Rattle.tree.proofs.FullLaws.{fullFrom-none, fullFrom-more}
@@ -107,8 +110,10 @@ module _ (n : ℕ) (k : Known) (ps : List ℕ) (P : Walk → List Bytes → Type
       let h : isFull n r ≡ true = full r (rw (full-from-power f e r q) (List·Memᴰ·head refl)) in
       rw (full-from-power f e r q, full-values-one n r _ k ns (walks-over t) h) (both (part-all t ns d m) none)
 
-  -- The values that a walk of a subtree which ends at n hands on are those of walks of the full subtrees of n in it. If the subtree is as wide as a power of two, it
-  -- is one. Else it is not retained, nor given; it splits, its left half is a full subtree of n, and the others are those of its right half.
+  -- The values that a walk of a subtree which ends at n hands on are those of walks of the full
+  -- subtrees of n in it. If the subtree is as wide as a power of two, it is one. Else it is not
+  -- retained, nor given; it splits, its left half is a full subtree of n, and the others are those
+  -- of its right half.
   full-parts : {r : Range} {w : Walk} → Walks (k .size) ps r w → (f : ℕ) → Subtree n r → r .width ≤ f → r .start + r .width ≡ n
       → AllFull n (fullFrom f (r .start) (r .width)) → (ns : List Bytes) → Sized ns → P w ns
       → Parts (fullFrom f (r .start) (r .width)) (fullValues n k w ns)

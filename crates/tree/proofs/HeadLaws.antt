@@ -1,4 +1,5 @@
--- Laws of the head of a log (specs/LogHead.antt): when there is a walk, what it asks at its beginning, and what it yields at its end.
+-- Laws of the head of a log (specs/LogHead.antt): when there is a walk, what it asks at its
+-- beginning, and what it yields at its end.
 use mathlib.Core.Path.{_≡_, refl, sym, ap, ap₂, _∙_}
 use mathlib.Core.Bool.{Bool, true, false, _&&_}
 use mathlib.Core.List.{List, []}
@@ -14,13 +15,16 @@ use Rattle.lists.proofs.ChoiceLaws.{and-holds, choose-true, choose-false}
 use Rattle.hash.specs.Bytes.{padded}
 use Rattle.hash.specs.Sha256.{digestLength}
 use Rattle.hash.proofs.BytesLaws.{padded-nil}
-use Rattle.tree.specs.declared.log_tree.Cursor.{Cursor}
+use Rattle.tree.specs.declared.log_tree.WalkCursor.{WalkCursor}
 use Rattle.tree.specs.declared.log_tree.Walked.{Walked}
 use Rattle.tree.specs.LogTree.{LogEntry, Known, walkOf, zeros}
+use Rattle.tree.specs.LogText.{shownIn}
 use Rattle.tree.specs.LogHead.{levelLimit, blockLength, positions, isWalkable, logHead, nodesAsked}
-use Rattle.tree.specs.LogWalk.{range, risingBelow, cursorAt, Ready, Tail, endOn, walkedBy, walkedOn, Filled, valuesFrom}
-use Rattle.tree.proofs.CursorLaws.{below-zero}
+use Rattle.tree.specs.LogWalk.{range, risingBelow, cursorAt, cursorFrom, Ready, Tail, endOn, walkedBy}
+use Rattle.tree.specs.LogWalk.{walkedOn, Filled, valuesFrom}
+use Rattle.tree.proofs.CursorLaws.{below-zero, cursor-from}
 use Rattle.tree.proofs.DecisionLaws.{ones-limit}
+use Rattle.tree.proofs.WalkLaws.{known}
 use Rattle.tree.proofs.TailLaws.{tail-all}
 
 -- ---- whether there is a walk
@@ -70,17 +74,17 @@ walkable-values n m vs ws es = refl
 
 -- ---- its beginning and its end
 
-module _ (n : ℕ) (k : Known) (c : Cursor) (h : isWalkable n k ≡ true) (e : c ≡ cursorAt (positions (k .entries)) 0 0) where
+module _ (text : Bytes) (n m : ℕ) (vs : List Bytes) (c : WalkCursor) (h : isWalkable n (known m vs (shownIn text)) ≡ true) (e : c ≡ cursorFrom text 0 0) where
   -- the walk may begin, before the first entry
-  pub head-ready : Tail n 0 × Ready (positions (k .entries)) (k .size) 0 c × (k .size ≤ n)
+  pub head-ready : Tail n 0 × Ready text m 0 c × (m ≤ n)
   head-ready =
-      let (p, l, u, r) = walkable-facts n k h in
-      let z : c .node ≡ 0 = ap (λ (x : Cursor). x .node) e in (
+      let (p, l, u, r) = walkable-facts n (known m vs (shownIn text)) h in
+      let z : c .node ≡ 0 = ap (λ (x : WalkCursor). x .node) e in (
         tail-all n p l,
         record {
           rises = r;
           size-small = omega arith;
-          stands = e ∙ ap₂ (cursorAt (positions (k .entries))) (sym (below-zero (positions (k .entries)))) (sym z);
+          stands = e ∙ cursor-from text 0 0 0 refl ∙ ap₂ (cursorAt text) (sym (below-zero (positions (shownIn text)))) (sym z);
           taken = omega arith;
         },
         u,
@@ -88,25 +92,27 @@ module _ (n : ℕ) (k : Known) (c : Cursor) (h : isWalkable n k ≡ true) (e : c
 
   -- a block has room for all values
   pub head-room : 0 + ones (n - 0) ≤ levelLimit
-  head-room = let (p, l, u, r) = walkable-facts n k h in omega (arith, ones-limit levelLimit (n - 0) (omega arith) (omega arith))
+  head-room = let (p, l, u, r) = walkable-facts n (known m vs (shownIn text)) h in omega (arith, ones-limit levelLimit (n - 0) (omega arith) (omega arith))
 
   -- what it yields is the head
-  pub head-made : (ns : List Bytes) (i : Walked) (b : Bytes) → i ≡ walkedOn k ns (c .node) (range 0 (n - 0))
-      → Filled 0 (replicate blockLength 0) b (valuesFrom n k ns 0 (c .node)) → record { root = i .value; values = b; met = i .met } ≡ logHead n k ns
+  pub head-made : (ns : List Bytes) (i : Walked) (b : Bytes) → i ≡ walkedOn text (known m vs (shownIn text)) ns (c .node) (range 0 (n - 0))
+      → Filled 0 (replicate blockLength 0) b (valuesFrom n (known m vs (shownIn text)) ns 0 (c .node))
+      → record { root = i .value; values = b; met = i .met } ≡ logHead n (known m vs (shownIn text)) ns
   unfolding logHead walkOf walkedBy valuesFrom
   head-made ns i b ei f =
-      let z : c .node ≡ 0 = ap (λ (x : Cursor). x .node) e in
+      let k : Known = known m vs (shownIn text) in
+      let z : c .node ≡ 0 = ap (λ (x : WalkCursor). x .node) e in
       let d : n - 0 ≡ n = omega arith in
       let y : b ≡ padded blockLength (valuesFrom n k ns 0 (c .node)) = f [] (padded-nil blockLength) (omega arith) in
       rw (ei, y, z, d) (sym (choose-true (isWalkable n k) _ _ h))
 
   -- and the number of nodes
-  pub nodes-made : (a : Cursor) → a ≡ endOn k (c .node) (range 0 (n - 0)) → a .node ≡ nodesAsked n k
+  pub nodes-made : (a : WalkCursor) → a ≡ endOn text (known m vs (shownIn text)) (c .node) (range 0 (n - 0)) → a .node ≡ nodesAsked n (known m vs (shownIn text))
   unfolding nodesAsked walkOf
   nodes-made a ea =
-      let z : c .node ≡ 0 = ap (λ (x : Cursor). x .node) e in
+      let z : c .node ≡ 0 = ap (λ (x : WalkCursor). x .node) e in
       let d : n - 0 ≡ n = omega arith in
-      ap (λ (x : Cursor). x .node) ea ∙ rw (z, d, zero-add) (sym (choose-true (isWalkable n k) _ _ h))
+      ap (λ (x : WalkCursor). x .node) ea ∙ rw (z, d, zero-add) (sym (choose-true (isWalkable n (known m vs (shownIn text))) _ _ h))
 
 -- where there is no walk
 pub head-none : (n : ℕ) (k : Known) (ns : List Bytes) → isWalkable n k ≡ false → record { root = replicate digestLength 0; values = replicate blockLength 0; met = false } ≡ logHead n k ns

@@ -1,4 +1,5 @@
--- The history of a log (paper 01, What the contracts owe): what two walks over one log show, and what the values that walks hand on hold fast.
+-- The history of a log (paper 01, What the contracts owe): what two walks over one log show, and
+-- what the values that walks hand on hold fast.
 use mathlib.Core.Path.{_≡_, sym, ap, _∙_, subst}
 use mathlib.Core.Logic.{_⊎_, inl, inr}
 use mathlib.Core.Bool.{true}
@@ -16,16 +17,20 @@ use Rattle.lists.proofs.RisingLaws.{rising-tail, rising-first}
 use Rattle.hash.specs.Bytes.{bigEndian}
 use Rattle.hash.specs.Sha256.{sha256}
 use Rattle.hash.proofs.BytesLaws.{length-bigEndian}
-use Rattle.tree.specs.LogTree.{LogEntry, logLeafString, Range, fullSubtrees, isFull, Walk, walk, walkOf, Known, valueAmong, keptValue, stringAt, value, keptValuesMet, fullValues, walkStrings}
+use Rattle.tree.specs.LogTree.{LogEntry, logLeafString, Range, fullSubtrees, isFull, Walk, walk, walkOf}
+use Rattle.tree.specs.LogTree.{Known, valueAmong, keptValue, stringAt, value, keptValuesMet, fullValues}
+use Rattle.tree.specs.LogTree.{walkStrings}
 use Rattle.tree.specs.LogHead.{positions}
 use Rattle.tree.specs.Collisions.{Broken}
 use Rattle.tree.proofs.CollisionLaws.{Sized, _>>=_, append-split, ByteStrings, Within, same-string}
 use Rattle.tree.proofs.FullLaws.{full-length}
 use Rattle.tree.proofs.SubtreeLaws.{block, Subtree, whole}
-use Rattle.tree.proofs.HoldingLaws.{Inside, range-equal, full-as-block, entry-in-full, full-one, full-ends, full-grows}
+use Rattle.tree.proofs.HoldingLaws.{Inside, range-equal, full-as-block, entry-in-full, full-one}
+use Rattle.tree.proofs.HoldingLaws.{full-ends, full-grows}
 use Rattle.tree.proofs.PathLaws.{Path, path-one, path-from}
 use Rattle.tree.proofs.WalkCaseLaws.{Walks, walk-cases}
-use Rattle.tree.proofs.WalkPathLaws.{met-parent, strings-left, strings-right, shown-path, shown-listed, kept-path}
+use Rattle.tree.proofs.WalkPathLaws.{met-parent, strings-left, strings-right, shown-path, shown-listed}
+use Rattle.tree.proofs.WalkPathLaws.{kept-path}
 use Rattle.tree.proofs.FullValueLaws.{matched-length, matched-among, Part, OfHalves, full-values-parts}
 
 -- ---- the string of an entry
@@ -42,12 +47,12 @@ bigEndian-one (suc n) x y h k e =
     omega arith
 
 -- Entries with one leaf string have one time and one prefix root.
-pub entry-string-one : (e e′ : LogEntry) → e .time < 2 ^ 64 → e′ .time < 2 ^ 64 → logLeafString e ≡ logLeafString e′
-    → (e .time ≡ e′ .time) × (e .prefixRoot ≡ e′ .prefixRoot)
+pub entry-string-one : (e e′ : LogEntry) → e .timestamp < 2 ^ 64 → e′ .timestamp < 2 ^ 64 → logLeafString e ≡ logLeafString e′
+    → (e .timestamp ≡ e′ .timestamp) × (e .prefixRoot ≡ e′ .prefixRoot)
 unfolding logLeafString
 entry-string-one e e′ h h′ q =
-    let (a, b) = append-split (bigEndian 8 (e .time)) (bigEndian 8 (e′ .time)) (e .prefixRoot) (e′ .prefixRoot) (length-bigEndian 8 (e .time) ∙ sym (length-bigEndian 8 (e′ .time))) q in
-    (bigEndian-one 8 (e .time) (e′ .time) h h′ a, b)
+    let (a, b) = append-split (bigEndian 8 (e .timestamp)) (bigEndian 8 (e′ .timestamp)) (e .prefixRoot) (e′ .prefixRoot) (length-bigEndian 8 (e .timestamp) ∙ sym (length-bigEndian 8 (e′ .timestamp))) q in
+    (bigEndian-one 8 (e .timestamp) (e′ .timestamp) h h′ a, b)
 
 -- The string at the position of an entry is the entry's, where the positions rise.
 pub string-of-entry : (es : List LogEntry) (e : LogEntry) → rising (positions es) ≡ true → List·Memᴰ e es → stringAt es (e .position) ≡ logLeafString e
@@ -63,8 +68,9 @@ string-of-entry (a ∷ es) e r i = go (λ j. string-of-entry es e (rising-tail (
 
 -- ---- what a state binds
 
--- The values kept of the full subtrees of m entries bind the entry p to the leaf string x: from the value kept of the full subtree that holds p, parents whose
--- strings stand in S lead down to the digest of x, which stands in S too.
+-- The values kept of the full subtrees of m entries bind the entry p to the leaf string x: from the
+-- value kept of the full subtree that holds p, parents whose strings stand in S lead down to the
+-- digest of x, which stands in S too.
 pub record Binds (m : ℕ) (values : List Bytes) (p : ℕ) (x : Bytes) (S : List Bytes) : Type 0 where
   pub full : Range
   pub is-full : isFull m full ≡ true
@@ -72,15 +78,16 @@ pub record Binds (m : ℕ) (values : List Bytes) (p : ℕ) (x : Bytes) (S : List
   pub listed : List·Memᴰ x S
   pub path : Path S p (sha256 x) full (valueAmong (fullSubtrees m) values full)
 
--- What the laws ask of a walk over n entries: it does not shorten the log, it shows entry n - 1 unless nothing is new, and kept values and nodes are as long as
--- digests.
+-- What the laws ask of a walk over n entries: it does not shorten the log, it shows entry n - 1
+-- unless nothing is new, and kept values and nodes are as long as digests.
 pub record Follows (n : ℕ) (k : Known) (ps : List ℕ) (nodes : List Bytes) : Type 0 where
   pub grown : k .size ≤ n
   pub last : List·Memᴰ (n - 1) ps ⊎ (k .size ≡ n)
   pub values-sized : Sized (k .values)
   pub nodes-sized : Sized nodes
 
--- and of one whose state is to bind what it shows, or what the state before binds: it meets the kept values, and the strings that it hashes stand in a list
+-- and of one whose state is to bind what it shows, or what the state before binds: it meets the
+-- kept values, and the strings that it hashes stand in a list
 pub record Meets (k : Known) (S : List Bytes) (w : Walk) (nodes : List Bytes) : Type 0 where
   pub met : keptValuesMet k w nodes ≡ true
   pub listed : Within (walkStrings k w nodes) S
@@ -103,7 +110,8 @@ handed-part : (n : ℕ) (k : Known) (ps : List ℕ) (ns S : List Bytes) → Foll
 unfolding isFull
 handed-part n k ps ns S w h f g e = matched-among (full-values-parts n k ps (Meets k S) (meets-halves k S) (w .last) h ns (w .nodes-sized) f) g e
 
--- What the state before binds, the value of a walk of the full subtree of n that holds the entry leads down to.
+-- What the state before binds, the value of a walk of the full subtree of n that holds the entry
+-- leads down to.
 part-carries : (n : ℕ) (k : Known) (ps : List ℕ) (S : List Bytes) (p : ℕ) (x : Bytes) (g : Range) (v : Bytes) → k .size ≤ n → Sized (k .values)
     → Binds (k .size) (k .values) p x S → isFull n g ≡ true → Inside g p → Part k ps (Meets k S) g v → Path S p (sha256 x) g v
 unfolding keptValue
@@ -114,8 +122,9 @@ part-carries n k ps S p x g v h d b e i c =
 
 -- ---- the laws
 
--- Two walks over n entries with one root show each entry that both show with one string. From the root both paths lead down to the entry by the same turns, which n
--- alone decides; so at each parent the two strings have one digest.
+-- Two walks over n entries with one root show each entry that both show with one string. From the
+-- root both paths lead down to the entry by the same turns, which n alone decides; so at each
+-- parent the two strings have one digest.
 pub walks-agree : (n : ℕ) (k k′ : Known) (ps ps′ : List ℕ) (ns ns′ S : List Bytes) → Sized (k .values) → Sized (k′ .values) → Sized ns → Sized ns′
     → value k (walkOf n (k .size) ps) ns ≡ value k′ (walkOf n (k′ .size) ps′) ns′
     → ByteStrings S → Within (walkStrings k (walkOf n (k .size) ps) ns) S → Within (walkStrings k′ (walkOf n (k′ .size) ps′) ns′) S
@@ -146,8 +155,8 @@ binds-one {m} {vs} {p} {x} {y} {S} s b c = do
   q ← path-one s (b .path) (subst (λ (f : Range). Path S p (sha256 y) f (valueAmong (fullSubtrees m) vs f)) (full-one m p (c .full) (b .full) (c .is-full) (b .is-full) (c .inside) (b .inside)) (c .path))
   same-string S s x y (b .listed) (c .listed) q
 
--- A walk's new state binds each shown entry to its string. The value handed on of the full subtree that holds the entry is that of a walk of this subtree, which
--- leads down to the entry.
+-- A walk's new state binds each shown entry to its string. The value handed on of the full subtree
+-- that holds the entry is that of a walk of this subtree, which leads down to the entry.
 pub walk-binds : (n : ℕ) (k : Known) (ps : List ℕ) (ns S : List Bytes) → Follows n k ps ns → Meets k S (walkOf n (k .size) ps) ns
     → (p : ℕ) → p < n → List·Memᴰ p ps → Binds n (fullValues n k (walkOf n (k .size) ps) ns) p (stringAt (k .entries) p) S
 walk-binds n k ps ns S w f p h i =
@@ -161,8 +170,9 @@ walk-binds n k ps ns S w f p h i =
       path = path-from (c .is-value) (shown-path k ps (w .values-sized) S (c .walks) (c .nodes) p (c .sized) i j (c .holds .listed));
     }
 
--- A walk's new state binds all that the state before binds. The full subtree of m that holds the entry lies in the full subtree of n that does, and the value handed
--- on of this one leads down to the value kept of that one, and on from there.
+-- A walk's new state binds all that the state before binds. The full subtree of m that holds the
+-- entry lies in the full subtree of n that does, and the value handed on of this one leads down to
+-- the value kept of that one, and on from there.
 pub walk-carries : (n : ℕ) (k : Known) (ps : List ℕ) (ns S : List Bytes) → Follows n k ps ns → Meets k S (walkOf n (k .size) ps) ns
     → (p : ℕ) (x : Bytes) → Binds (k .size) (k .values) p x S → Binds n (fullValues n k (walkOf n (k .size) ps) ns) p x S
 walk-carries n k ps ns S w f p x b =
@@ -172,8 +182,8 @@ walk-carries n k ps ns S w f p x b =
     let c = handed-part n k ps ns S w (omega arith) f g e in
     record { full = g; is-full = e; inside = j; listed = b .listed; path = part-carries n k ps S p x g _ u (w .values-sized) b e j c }
 
--- A walk of one full subtree of n, with entries shown or none, whose value is the one that a state of n entries keeps of this subtree: that state binds all that
--- the state before binds there.
+-- A walk of one full subtree of n, with entries shown or none, whose value is the one that a state
+-- of n entries keeps of this subtree: that state binds all that the state before binds there.
 pub subtree-carries : (n f : ℕ) (k : Known) (ps : List ℕ) (ns S : List Bytes) (g : Range) (vs : List Bytes) → k .size ≤ n → Sized (k .values) → Sized ns
     → isFull n g ≡ true → g .width ≤ f → keptValuesMet k (walk f (k .size) ps g) ns ≡ true → Within (walkStrings k (walk f (k .size) ps g) ns) S
     → value k (walk f (k .size) ps g) ns ≡ valueAmong (fullSubtrees n) vs g

@@ -1,4 +1,5 @@
--- Which subtrees hold which (specs/LogTree.antt): the full subtree of m entries that holds an entry, and where it lies in the subtrees of a larger log.
+-- Which subtrees hold which (specs/LogTree.antt): the full subtree of m entries that holds an
+-- entry, and where it lies in the subtrees of a larger log.
 use mathlib.Core.Path.{_≡_, refl, sym, ap, ap₂, _∙_}
 use mathlib.Core.Bool.{true, _&&_}
 use mathlib.Core.List.{List, [], _∷_, List·Memᴰ, List·Memᴰ·head, List·Memᴰ·tail, List·Memᴰ·not-nil}
@@ -10,7 +11,8 @@ use lib.Pow.{pow-mono}
 use borrow.Author.Tests.{le-leb, lt-ltb}
 use Rattle.lists.proofs.ChoiceLaws.{holds-and}
 use Rattle.lists.proofs.ListLaws.{at-any}
-use Rattle.tree.specs.LogTree.{Range, splitAt, leftHalf, rightHalf, fullSubtrees, isFull, holdsFull, isShown}
+use Rattle.tree.specs.LogTree.{Range, splitAt, leftHalf, rightHalf, fullSubtrees, isFull, holdsFull}
+use Rattle.tree.specs.LogTree.{isShown}
 use Rattle.tree.proofs.DigitLaws.{cut-bounds, by-order}
 use Rattle.tree.proofs.PowerLaws.{split-full, split-unique, left-half, halves-meet}
 use Rattle.tree.proofs.FullLaws.{SideBySide, full-adjoin}
@@ -104,7 +106,8 @@ full-as-block m f h =
     let (a, b) = cut-bounds m e in
     record { level = e; number = m / 2 ^ e - 1; starts = ap (λ (x : Range). x .start) q; wide = ap (λ (x : Range). x .width) q; even = omega arith; ends = omega arith; last = omega arith }
 
--- A block that holds p lies on one side of each boundary between blocks at least as wide: on that on which p lies.
+-- A block that holds p lies on one side of each boundary between blocks at least as wide: on that
+-- on which p lies.
 block-side : (d e i c p : ℕ) → d ≤ e → i * 2 ^ d ≤ p → p < i * 2 ^ d + 2 ^ d
     → (c * 2 ^ e ≤ p → c * 2 ^ e ≤ i * 2 ^ d) × (p < c * 2 ^ e → i * 2 ^ d + 2 ^ d ≤ c * 2 ^ e)
 block-side d e i c p h a b =
@@ -120,8 +123,8 @@ block-side d e i c p h a b =
 pub full-ends : (m : ℕ) (f : Range) → isFull m f ≡ true → f .start + f .width ≤ m
 full-ends m f h = let b = full-as-block m f h in omega arith
 
--- A full subtree of a smaller log lies in the full subtree of a larger one that holds an entry of it: were it wider, the larger log would have more entries
--- than its own full subtree allows.
+-- A full subtree of a smaller log lies in the full subtree of a larger one that holds an entry of
+-- it: were it wider, the larger log would have more entries than its own full subtree allows.
 pub full-grows : (m n p : ℕ) (f g : Range) → m ≤ n → isFull m f ≡ true → isFull n g ≡ true → Inside f p → Inside g p → LiesIn g f
 full-grows m n p f g h x y i j =
     let b = full-as-block m f x in

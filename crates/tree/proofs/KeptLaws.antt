@@ -1,4 +1,5 @@
--- The values of the full subtrees that a walk over the log tree works out, and their comparison with the kept ones (specs/LogTree.antt).
+-- The values of the full subtrees that a walk over the log tree works out, and their comparison
+-- with the kept ones (specs/LogTree.antt).
 use mathlib.Core.Path.{_≡_, refl, sym, ap, ap₂, _∙_}
 use mathlib.Core.Bool.{Bool, true, false, _&&_, false≢true, and-true, and-false}
 use mathlib.Core.List.{List, [], _∷_, _++_, map, nil≢cons, head-eq-of-cons-eq, tail-eq-of-cons-eq}
@@ -13,7 +14,9 @@ use Rattle.lists.specs.Choice.{choose}
 use Rattle.lists.specs.Lists.{Bytes, same}
 use Rattle.lists.proofs.ChoiceLaws.{and-holds, holds-and}
 use Rattle.lists.proofs.ListLaws.{equal-same, same-true}
-use Rattle.tree.specs.LogTree.{Range, sameRange, leftHalf, rightHalf, isFull, fullSubtrees, Walk, retained, given, shown, parent, nodeCount, Known, valueAmong, keptValue, value, agrees, keptValuesMet, fullValues}
+use Rattle.tree.specs.LogTree.{Range, sameRange, leftHalf, rightHalf, isFull, fullSubtrees, Walk}
+use Rattle.tree.specs.LogTree.{retained, given, shown, parent, nodeCount, Known, valueAmong, keptValue}
+use Rattle.tree.specs.LogTree.{value, agrees, keptValuesMet, fullValues}
 use Rattle.tree.proofs.PowerLaws.{left-half, halves-meet}
 use Rattle.tree.proofs.DigitLaws.{cut-bounds}
 use Rattle.tree.proofs.FullLaws.{Narrowing, full-narrow}
@@ -22,7 +25,8 @@ use Rattle.tree.proofs.SubtreeLaws.{block}
 use Rattle.tree.proofs.FullBlockLaws.{full-block, full-holds}
 use Rattle.tree.proofs.WalkCaseLaws.{Walks, keeps, takes, shows, splits, Over}
 use Rattle.tree.proofs.WalkValueLaws.{full-values-one, full-values-both}
-use Rattle.tree.proofs.ReachLaws.{over-halves, over-right, full-behind, fullsFrom, fulls-none, fulls-first, fulls-all, Stops, Reach, starting, ending, left, right}
+use Rattle.tree.proofs.ReachLaws.{over-halves, over-right, full-behind, fullsFrom, fulls-none}
+use Rattle.tree.proofs.ReachLaws.{fulls-first, fulls-all, Stops, Reach, starting, ending, left, right}
 
 -- ---- the values
 
@@ -82,7 +86,7 @@ agrees-full : (k : Known) (r : Range) (v : Bytes) → isFull (k .size) r ≡ tru
 unfolding agrees
 agrees-full k r v h = rw h refl
 
--- Nothing that starts behind the entries that were known is compared.
+-- Nothing that starts after the entries that were known is compared.
 kept-behind : (k : Known) (r : Range) (t : Walk) (nodes : List Bytes) → Over r t → k .size ≤ r .start → keptValuesMet k t nodes ≡ true
 unfolding keptValuesMet
 kept-behind k r (retained x) nodes o h = refl
@@ -249,7 +253,8 @@ true-meet k (r ∷ rs) [] h = absurd (nil≢cons h)
 true-meet k (r ∷ rs) (v ∷ vs) h =
     holds-and (same v (keptValue k r)) (meet k rs vs) (equal-same v (keptValue k r) (head-eq-of-cons-eq h)) (true-meet k rs vs (tail-eq-of-cons-eq h))
 
--- Refusal 14 does not apply exactly where the values of the full subtrees of m, of which the walk gives more than it needs, are the kept values.
+-- Refusal 14 does not apply exactly where the values of the full subtrees of m, of which the walk
+-- gives more than it needs, are the kept values.
 pub kept-values-met : (k : Known) {b : ℕ} {t : Walk} → Reach (k .size) 0 b t → NoneGiven (k .size) t → (nodes : List Bytes)
     → length (k .values) ≡ length (fullSubtrees (k .size))
     → (keptValuesMet k t nodes ≡ true → take (length (k .values)) (fullValues (k .size) k t nodes) ≡ k .values)

@@ -14,8 +14,10 @@ use Rattle.hash.proofs.BytesLaws.{padded-nil}
 use Rattle.tree.specs.Ladder.{halve, climb, ladder, ladderWithin, ladderCapacity}
 use Rattle.tree.proofs.PowerLaws.{exponent-below}
 use Rattle.tree.proofs.DigitLaws.{by-order}
-use Rattle.tree.proofs.LadderLaws.{halve-end, halve-low, halve-high, climb-up, climb-over, ladder-start, ladder-length}
-use Rattle.tree.proofs.FillLaws.{Filling, filling-start, filling-same, filling-within, filling-next, filling-end}
+use Rattle.tree.proofs.LadderLaws.{halve-end, halve-low, halve-high, climb-up, climb-over}
+use Rattle.tree.proofs.LadderLaws.{ladder-start, ladder-length}
+use Rattle.tree.proofs.FillLaws.{Filling, filling-start, filling-same, filling-within, filling-next}
+use Rattle.tree.proofs.FillLaws.{filling-end}
 
 -- ---- length
 

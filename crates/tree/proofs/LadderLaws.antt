@@ -1,4 +1,5 @@
--- Laws of the binary ladder (specs/Ladder.antt): its length, its members, and where two ladders part.
+-- Laws of the binary ladder (specs/Ladder.antt): its length, its members, and where two ladders
+-- part.
 use mathlib.Core.Path.{_≡_, refl, sym, ap, _∙_, subst}
 use mathlib.Core.Logic.{_⊎_, inl, inr, ⊎-elim, ∥∥₁-elim}
 use mathlib.Core.HLevel.{⊥-prop}
@@ -49,7 +50,8 @@ ladder-start t = rw add-two (climb-up (suc t) t 0 0 (omega arith))
 
 -- ---- induction
 
--- what holds between neighbours, and of a middle and what follows it if it holds of that, holds of each halving with steps enough for its gap
+-- what holds between neighbours, and of a middle and what follows it if it holds of that, holds of
+-- each halving with steps enough for its gap
 pub halve-by : (t : ℕ) (P : ℕ → ℕ → List ℕ → Type 0) → ((lo hi : ℕ) → hi ≤ lo + 1 → P lo hi [])
     → ((lo hi m : ℕ) (l : List ℕ) → lo + 1 < hi → m ≡ (lo + hi) / 2 → m ≤ t → P m hi l → P lo hi (m ∷ l))
     → ((lo hi m : ℕ) (l : List ℕ) → lo + 1 < hi → m ≡ (lo + hi) / 2 → t < m → P lo m l → P lo hi (m ∷ l))
@@ -67,7 +69,8 @@ halve-by t P end low high (suc f) lo hi h =
     go (no p) (no q) a b =
         rw (halve-high f t lo hi m (omega arith) refl (omega arith)) (high lo hi m (halve f t lo m) (omega arith) refl (omega arith) (b (omega arith)))
 
--- what holds of the last step of a climb, and of each step before it if it holds of what follows, holds of each climb with steps enough to come above t
+-- what holds of the last step of a climb, and of each step before it if it holds of what follows,
+-- holds of each climb with steps enough to come above t
 pub climb-by : (t : ℕ) (P : ℕ → ℕ → List ℕ → Type 0) → ((lo v : ℕ) → t < v → P lo v (v ∷ halve v t lo v))
     → ((lo v : ℕ) (l : List ℕ) → v ≤ t → P v (2 * v + 1) l → P lo v (v ∷ l)) → (f lo v : ℕ) → t < v + f → P lo v (climb (suc f) t lo v)
 climb-by t P over up zero lo v h = rw (climb-over zero t lo v (omega arith)) (over lo v (omega arith))
@@ -187,7 +190,8 @@ ladder-distinct t = rw ladder-start (nodup-cons .1 (λ i. ∥∥₁-elim i ⊥-p
 
 -- ---- where two ladders part
 
--- two lists agree up to and with a version above the one target and not above the other, and what stands before it is not above both or above both
+-- two lists agree up to and with a version above the one target and not above the other, and what
+-- stands before it is not above both or above both
 pub record Parted (t t′ : ℕ) (a b : List ℕ) : Type 0 where
   pub before : List ℕ
   pub version : ℕ
@@ -227,7 +231,8 @@ parted-tail {t} {t′} x s p = record {
   alike = λ y i. ⊎-elim (λ e. subst (λ (z : ℕ). ((z ≤ t) × (z ≤ t′)) ⊎ ((t < z) × (t′ < z))) (sym e) s) (p .alike y) (List·Memᴰ·cases-cons i);
 }
 
--- two halvings between the same ends part, since their middles are the same until one tells the targets apart
+-- two halvings between the same ends part, since their middles are the same until one tells the
+-- targets apart
 halve-parted : (f t t′ lo hi : ℕ) → t < t′ → lo ≤ t → t′ < hi → hi ≤ suc (lo + f) → Parted t t′ (halve f t lo hi) (halve f t′ lo hi)
 halve-parted zero t t′ lo hi h a b c = absurd (omega arith)
 halve-parted (suc f) t t′ lo hi h a b c =
@@ -267,7 +272,8 @@ climb-parted (suc f) t t′ lo v h a c = go (decLe v t) (decLe v t′) (λ z. cl
         (parted-head v (halve v t lo v) (climb (suc f) t′ v (2 * v + 1)) (omega arith) q)
     go (no p) (no q) up = over-parted (suc f) t t′ lo v h a (omega arith)
 
--- the ladders of two targets agree up to and with the first version that is above the one and not above the other
+-- the ladders of two targets agree up to and with the first version that is above the one and not
+-- above the other
 pub ladder-split : (t t′ : ℕ) → t < t′ → Parted t t′ (ladder t) (ladder t′)
 ladder-split t t′ h =
     rw (ladder-start t, ladder-start t′, climb-fuel t t′ t 0 1 (omega arith) (omega arith))

@@ -27,6 +27,7 @@ pub mod LookupLaws
 pub mod OriginLaws
 pub mod RunLaws
 pub mod LogTextLaws
+pub mod EntryLineLaws
 pub mod CursorLaws
 pub mod DecisionLaws
 pub mod WalkedLaws

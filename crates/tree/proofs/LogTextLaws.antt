@@ -1,6 +1,7 @@
 -- Laws of log entries and values where they stand in a text (specs/LogText.antt).
 use mathlib.Core.Path.{_≡_, refl, sym, _∙_, ap, ap₂}
-use mathlib.Core.List.{List, [], _∷_, _++_, map, flatMap, append-assoc, append-nil, List·Memᴰ, List·Memᴰ·head, List·Memᴰ·tail}
+use mathlib.Core.List.{List, [], _∷_, _++_, map, flatMap, append-assoc, append-nil, List·Memᴰ, List·Memᴰ·head}
+use mathlib.Core.List.{List·Memᴰ·tail}
 use mathlib.Core.Option.{Option, none, some, Option·getD}
 use Prim.Native.Nat.{ℕ, zero, suc, _+_, _-_, _*_, _/_, _%_, _^_, _≤_, _<_}
 use native.Mathlib.Omega.{arith}
@@ -17,14 +18,16 @@ use Rattle.lines.specs.Hex.{dash, hexDigit, hex, hexField}
 use Rattle.lines.specs.Field.{exactly, readField, writeField, writeFields}
 use Rattle.lines.specs.Readings.{asDigest, digestIn}
 use Rattle.lines.specs.Line.{tab, newline, Form, before, after, joined, line, writeLine}
-use Rattle.lines.proofs.PlaceLaws.{before-at, before-lacks, after-lacks}
+use Rattle.lines.proofs.OffsetLaws.{before-at, before-lacks, after-lacks}
 use Rattle.lines.proofs.NumberLaws.{isPlain, read-decimal, decimal-plain}
 use Rattle.lines.proofs.HexLaws.{length-hex, hexField-some}
 use Rattle.lines.proofs.FieldLaws.{read-field}
 use Rattle.lines.proofs.ReadingLaws.{number-empty, digest-long}
+use Rattle.lines.specs.Layout.{nodeFields, nodeLine, valueDigits}
 use Rattle.tree.specs.LogTree.{zeros}
-use Rattle.tree.specs.LogText.{numberIn, valueDigits, valueIn, valuesIn, entryIn, nodeWord, nodeLine, nodesIn}
-use Rattle.tree.proofs.RunLaws.{length-runs, mapped-run, mapped-none, length-texts, runs-texts, drop-take}
+use Rattle.tree.specs.LogText.{numberIn, valueIn, valuesIn, entryIn, nodesIn}
+use Rattle.tree.proofs.RunLaws.{length-runs, mapped-run, mapped-none, length-texts, runs-texts}
+use Rattle.tree.proofs.RunLaws.{drop-take}
 
 -- ---- numbers
 
@@ -33,7 +36,7 @@ pub number-read : (s : Bytes) (o : Option ℕ) → o ≡ readNumber (2 ^ 64 - 1)
 unfolding numberIn
 number-read s o e = rw e refl
 
--- so it is between a place and the first tab from there on
+-- so it is between an offset and the first tab from there on
 pub number-between : (s : Bytes) (at stop : ℕ) (o : Option ℕ) → stop ≡ at + length (before tab (drop at s))
     → o ≡ readNumber (2 ^ 64 - 1) (take (stop - at) (drop at s)) → numberIn (before tab (drop at s)) ≡ Option·getD o 0
 number-between s at stop o e f = number-read (before tab (drop at s)) o (f ∙ ap (readNumber (2 ^ 64 - 1)) (before-at tab s at stop e))
@@ -80,18 +83,18 @@ unfolding valuesIn
 sibling-none s i h = mapped-none valueIn (length s / valueDigits) valueDigits s i zeros h
 
 -- the value of a number among node lines
-pub node-some : (s : Bytes) (i : ℕ) → i < length s / nodeLine → getD (nodesIn s) i zeros ≡ valueIn (take valueDigits (drop (nodeLine * i + nodeWord) s))
+pub node-some : (s : Bytes) (i : ℕ) → i < length s / nodeLine → getD (nodesIn s) i zeros ≡ valueIn (take valueDigits (drop (nodeLine * i + nodeFields) s))
 unfolding nodesIn
 node-some s i h =
     let t = drop (nodeLine * i) s in
-    mapped-run (λ (l : Bytes). valueIn (take valueDigits (drop nodeWord l))) (length s / nodeLine) nodeLine s i zeros h
-    ∙ ap (λ (l : Bytes). valueIn (take valueDigits l)) (drop-take nodeWord (valueDigits + 1) t)
-    ∙ ap valueIn (take-take valueDigits (valueDigits + 1) (drop nodeWord t) (omega arith) ∙ ap (take valueDigits) (drop-drop nodeWord (nodeLine * i) s))
+    mapped-run (λ (l : Bytes). valueIn (take valueDigits (drop nodeFields l))) (length s / nodeLine) nodeLine s i zeros h
+    ∙ ap (λ (l : Bytes). valueIn (take valueDigits l)) (drop-take nodeFields (valueDigits + 1) t)
+    ∙ ap valueIn (take-take valueDigits (valueDigits + 1) (drop nodeFields t) (omega arith) ∙ ap (take valueDigits) (drop-drop nodeFields (nodeLine * i) s))
 
 -- there are zeros beyond them
 pub node-none : (s : Bytes) (i : ℕ) → length s / nodeLine ≤ i → getD (nodesIn s) i zeros ≡ zeros
 unfolding nodesIn
-node-none s i h = mapped-none (λ (l : Bytes). valueIn (take valueDigits (drop nodeWord l))) (length s / nodeLine) nodeLine s i zeros h
+node-none s i h = mapped-none (λ (l : Bytes). valueIn (take valueDigits (drop nodeFields l))) (length s / nodeLine) nodeLine s i zeros h
 
 -- a text holds as many siblings as it has room for their digits
 pub length-siblings : (s : Bytes) → length (valuesIn s) ≡ length s / valueDigits
@@ -100,7 +103,7 @@ length-siblings s = length-map (runs (length s / valueDigits) valueDigits s) val
 
 -- ---- what is written
 
--- the digits of a value spell it
+-- the digits of a value encode it
 pub value-hex : (v : Bytes) → IsValue v → valueIn (hex v) ≡ v
 unfolding valueIn writeField
 value-hex v (l, b) =
@@ -124,7 +127,7 @@ decimal-lacks n = all-lacks isPlain tab (decimal n) refl (decimal-plain n)
 
 -- position, time and prefix root, parted by tabs, are the entry
 pub entry-here : (p t : ℕ) (v rest : Bytes) → p ≤ 2 ^ 64 - 1 → t ≤ 2 ^ 64 - 1 → IsValue v
-    → entryIn (decimal p ++ tab ∷ (decimal t ++ tab ∷ (hex v ++ rest))) ≡ record { position = p; time = t; prefixRoot = v }
+    → entryIn (decimal p ++ tab ∷ (decimal t ++ tab ∷ (hex v ++ rest))) ≡ record { position = p; timestamp = t; prefixRoot = v }
 unfolding entryIn
 entry-here p t v rest g h i =
     let s = decimal t ++ tab ∷ (hex v ++ rest) in
@@ -136,7 +139,7 @@ entry-here p t v rest g h i =
 
 -- so are the fields of an entry line, with more after them
 pub entry-written : (p t : ℕ) (v rest : Bytes) → p ≤ 2 ^ 64 - 1 → t ≤ 2 ^ 64 - 1 → IsValue v
-    → entryIn (joined tab (decimal p ∷ decimal t ∷ hexField v ∷ []) ++ rest) ≡ record { position = p; time = t; prefixRoot = v }
+    → entryIn (joined tab (decimal p ∷ decimal t ∷ hexField v ∷ []) ++ rest) ≡ record { position = p; timestamp = t; prefixRoot = v }
 unfolding joined
 entry-written p t v rest g h i =
     let e : hexField v ≡ hex v = hexField-some v (omega (arith, i .0)) in
@@ -159,9 +162,9 @@ unfolding ascii
 length-node v h = ap length (node-line v h) ∙ omega (arith, length-append (hex v) (newline ∷ []), length-hex v, h .0)
 
 -- and the value in it is its value
-value-node : (v : Bytes) → IsValue v → valueIn (take valueDigits (drop nodeWord (writeLine nodeForm (v, tt)))) ≡ v
+value-node : (v : Bytes) → IsValue v → valueIn (take valueDigits (drop nodeFields (writeLine nodeForm (v, tt)))) ≡ v
 unfolding ascii
-value-node v h = ap (λ (l : Bytes). valueIn (take valueDigits (drop nodeWord l))) (node-line v h) ∙ value-front v (newline ∷ []) h
+value-node v h = ap (λ (l : Bytes). valueIn (take valueDigits (drop nodeFields l))) (node-line v h) ∙ value-front v (newline ∷ []) h
 
 -- a function that takes back what another does to each element of a list
 map-back : {A B : Type 0} (f : A → B) (g : B → A) (xs : List A) → ((x : A) → List·Memᴰ x xs → g (f x) ≡ x) → map g (map f xs) ≡ xs
@@ -173,7 +176,7 @@ pub nodes-written : (vs : List Bytes) → ((v : Bytes) → List·Memᴰ v vs →
 unfolding nodesIn
 nodes-written vs h =
     let write : Bytes → Bytes = λ v. writeLine nodeForm (v, tt) in
-    let read : Bytes → Bytes = λ l. valueIn (take valueDigits (drop nodeWord l)) in
+    let read : Bytes → Bytes = λ l. valueIn (take valueDigits (drop nodeFields l)) in
     let s = flatMap write vs in
     let long : (v : Bytes) → List·Memᴰ v vs → length (write v) ≡ nodeLine = λ v m. length-node v (h v m) in
     let n : length s / nodeLine ≡ length vs = omega (arith, length-texts nodeLine write vs long) in

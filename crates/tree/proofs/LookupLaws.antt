@@ -1,8 +1,10 @@
--- Lookups in one prefix tree (specs/PrefixTree.antt): of one output they show one commitment, and not both a leaf and none, unless SHA-256 is broken.
+-- Lookups in one prefix tree (specs/PrefixTree.antt): of one output they show one commitment, and
+-- not both a leaf and none, unless SHA-256 is broken.
 use mathlib.Core.Path.{_≡_, refl, sym, ap, _∙_, subst}
 use mathlib.Core.Logic.{_⊎_, inl, inr}
 use mathlib.Core.Bool.{true, not}
-use mathlib.Core.List.{List, [], _∷_, _++_, List·Memᴰ, List·Memᴰ·head, List·Memᴰ·tail, Memᴰ·append-left, Memᴰ·append-right}
+use mathlib.Core.List.{List, [], _∷_, _++_, List·Memᴰ, List·Memᴰ·head, List·Memᴰ·tail, Memᴰ·append-left}
+use mathlib.Core.List.{Memᴰ·append-right}
 use Prim.Native.Nat.{ℕ, zero, suc}
 use native.Mathlib.Omega.{arith}
 use lib.ListN.{length, take}
@@ -17,19 +19,24 @@ use Rattle.hash.proofs.BytesLaws.{bytes-append, bytes-zeros}
 use Rattle.hash.proofs.MessageLaws.{length-digest, bytes-digest}
 use Rattle.tree.specs.LogTree.{zeros}
 use Rattle.tree.specs.Collisions.{Broken}
-use Rattle.tree.specs.PrefixTree.{prefixLeafString, prefixParentString, bits, Terminal, ownLeaf, emptyPlace, foreignLeaf, terminalStrings, terminalValue, parentOver, valueAbove, stringsAbove, lookupRoot, lookupStrings, terminalFits}
-use Rattle.tree.proofs.CollisionLaws.{_>>=_, settled, Sized, append-cancel, append-split, ByteStrings, Within, colliding, zero-valued, same-string}
+use Rattle.tree.specs.PrefixTree.{prefixLeafString, prefixParentString, bits, Terminal, searchedLeaf}
+use Rattle.tree.specs.PrefixTree.{emptyPlace, foreignLeaf, terminalStrings, terminalValue, parentOver}
+use Rattle.tree.specs.PrefixTree.{valueAbove, stringsAbove, lookupRoot, lookupStrings, terminalFits}
+use Rattle.tree.proofs.CollisionLaws.{_>>=_, settled, Sized, append-cancel, append-split, ByteStrings}
+use Rattle.tree.proofs.CollisionLaws.{Within, colliding, zero-valued, same-string}
 
--- What is taken from a lookup of an output: siblings along its bits lead from what stands at its place up to the root, by strings of a list.
+-- What is taken from a lookup of an output: siblings along its bits lead from what stands at its
+-- place up to the root, by strings of a list.
 pub record LeadsTo (S : List Bytes) (o : Bytes) (t : Terminal) (root : Bytes) : Type 0 where
   pub siblings : List Bytes
   pub sized : Sized siblings
   pub listed : Within (lookupStrings o t siblings) S
   pub leads : lookupRoot o t siblings ≡ root
 
--- a place shows that the output looked up has no leaf: nothing stands there, or a leaf of another output
+-- a place shows that the output looked up has no leaf: nothing stands there, or a leaf of another
+-- output
 abbrev pub Absent : Bytes → Terminal → Type 0
-Absent o (ownLeaf c) = ⊥
+Absent o (searchedLeaf c) = ⊥
 Absent o emptyPlace = Unit {0}
 Absent o (foreignLeaf o′ c′) = (length o′ ≡ digestLength) × (o ≡ o′ → ⊥)
 
@@ -44,7 +51,7 @@ fits-absent o o′ c′ depth h e =
 -- What stands at a place has a value of a digest's length.
 pub length-terminal : (o : Bytes) (t : Terminal) → length (terminalValue o t) ≡ digestLength
 unfolding terminalValue zeros
-length-terminal o (ownLeaf c) = length-digest (prefixLeafString o c)
+length-terminal o (searchedLeaf c) = length-digest (prefixLeafString o c)
 length-terminal o emptyPlace = refl
 length-terminal o (foreignLeaf o′ c) = length-digest (prefixLeafString o′ c)
 
@@ -92,7 +99,8 @@ record Parent (S : List Bytes) (v : Bytes) : Type 0 where
   listed : List·Memᴰ (0x02 ∷ rest) S
   is : v ≡ sha256 (0x02 ∷ rest)
 
--- How two places on the way down from one root lie: they have one value, or the value of the first, or of the second, is a parent's.
+-- How two places on the way down from one root lie: they have one value, or the value of the first,
+-- or of the second, is a parent's.
 data Meet (S : List Bytes) (u u′ : Bytes) : Type 0 where
   level : u ≡ u′ → Meet S u u′
   above : Parent S u → Meet S u u′
@@ -104,7 +112,8 @@ listed-parent S b v s w h e =
     let t = parent-tag b v s in record { rest = t .0; listed = subst (λ (x : Bytes). List·Memᴰ x S) (t .1) h; is = e ∙ ap sha256 (t .1) }
 
 module _ (S : List Bytes) (bytes : ByteStrings S) where
-  -- Two ways along the same bits to one value meet: the parents' strings are equal from the root down, until one way ends.
+  -- Two ways along the same bits to one value meet: the parents' strings are equal from the root
+  -- down, until one way ends.
   meet : (bs : List ℕ) (ss ss′ : List Bytes) (u u′ : Bytes) → Sized ss → Sized ss′ → length u ≡ digestLength → length u′ ≡ digestLength
       → Within (stringsAbove bs ss u) S → Within (stringsAbove bs ss′ u′) S → valueAbove bs ss u ≡ valueAbove bs ss′ u′ → Meet S u u′ ⊎ Broken S
   unfolding valueAbove stringsAbove
@@ -132,9 +141,9 @@ module _ (S : List Bytes) (bytes : ByteStrings S) where
   place-listed o root t x l m = l .listed x (Memᴰ·append-left (stringsAbove (bits o) (l .siblings) (terminalValue o t)) m)
 
   -- So is that of the leaf looked up.
-  own-listed : (o root c : Bytes) → LeadsTo S o (ownLeaf c) root → List·Memᴰ (prefixLeafString o c) S
+  own-listed : (o root c : Bytes) → LeadsTo S o (searchedLeaf c) root → List·Memᴰ (prefixLeafString o c) S
   unfolding terminalStrings
-  own-listed o root c l = place-listed o root (ownLeaf c) (prefixLeafString o c) l (List·Memᴰ·head refl)
+  own-listed o root c l = place-listed o root (searchedLeaf c) (prefixLeafString o c) l (List·Memᴰ·head refl)
 
   -- So is that of another leaf.
   foreign-listed : (o root o′ c : Bytes) → LeadsTo S o (foreignLeaf o′ c) root → List·Memᴰ (prefixLeafString o′ c) S
@@ -146,10 +155,10 @@ module _ (S : List Bytes) (bytes : ByteStrings S) where
   leaf-parent o c m p = colliding S bytes (prefixLeafString o c) (0x02 ∷ p .rest) m (p .listed) (leaf-parent-differ o c (p .rest)) (p .is)
 
   -- Two lookups of one output that find its leaf find one commitment.
-  pub one-commitment : (o root c c′ : Bytes) → LeadsTo S o (ownLeaf c) root → LeadsTo S o (ownLeaf c′) root → (c ≡ c′) ⊎ Broken S
+  pub one-commitment : (o root c c′ : Bytes) → LeadsTo S o (searchedLeaf c) root → LeadsTo S o (searchedLeaf c′) root → (c ≡ c′) ⊎ Broken S
   unfolding terminalValue
   one-commitment o root c c′ l l′ = do
-    m ← meet-lookups o root (ownLeaf c) (ownLeaf c′) l l′
+    m ← meet-lookups o root (searchedLeaf c) (searchedLeaf c′) l l′
     go m
     where
       own : List·Memᴰ (prefixLeafString o c) S
@@ -180,19 +189,19 @@ module _ (S : List Bytes) (bytes : ByteStrings S) where
   leaf-foreign o c o′ c′ h n m m′ (below p) = leaf-parent o′ c′ m′ p
 
   -- Two lookups of one output do not show both its leaf and that it has none.
-  pub not-both : (o root c : Bytes) (t : Terminal) → length o ≡ digestLength → Absent o t → LeadsTo S o (ownLeaf c) root → LeadsTo S o t root → Broken S
+  pub not-both : (o root c : Bytes) (t : Terminal) → length o ≡ digestLength → Absent o t → LeadsTo S o (searchedLeaf c) root → LeadsTo S o t root → Broken S
   unfolding terminalValue
-  not-both o root c (ownLeaf c′) h n l l′ = absurd n
-  not-both o root c emptyPlace h n l l′ = settled (meet-lookups o root (ownLeaf c) emptyPlace l l′) (leaf-empty o c (own-listed o root c l))
+  not-both o root c (searchedLeaf c′) h n l l′ = absurd n
+  not-both o root c emptyPlace h n l l′ = settled (meet-lookups o root (searchedLeaf c) emptyPlace l l′) (leaf-empty o c (own-listed o root c l))
   not-both o root c (foreignLeaf o′ c′) h n l l′ =
-      settled (meet-lookups o root (ownLeaf c) (foreignLeaf o′ c′) l l′)
+      settled (meet-lookups o root (searchedLeaf c) (foreignLeaf o′ c′) l l′)
       (leaf-foreign o c o′ c′ (h ∙ sym (n .0)) (n .1) (own-listed o root c l) (foreign-listed o root o′ c′ l′))
 
 -- ---- the strings of a lookup are byte strings
 
 -- the values at the place are byte strings
 abbrev pub TerminalBytes : Terminal → Type 0
-TerminalBytes (ownLeaf c) = AreBytes c
+TerminalBytes (searchedLeaf c) = AreBytes c
 TerminalBytes emptyPlace = Unit {0}
 TerminalBytes (foreignLeaf o c) = AreBytes o × AreBytes c
 
@@ -210,7 +219,7 @@ bytes-parent (suc b) v s h k = (omega arith, bytes-append s v k h)
 -- What stands at a place has a value of bytes.
 pub bytes-terminal : (o : Bytes) (t : Terminal) → AreBytes (terminalValue o t)
 unfolding terminalValue zeros
-bytes-terminal o (ownLeaf c) = bytes-digest (prefixLeafString o c)
+bytes-terminal o (searchedLeaf c) = bytes-digest (prefixLeafString o c)
 bytes-terminal o emptyPlace = bytes-zeros digestLength
 bytes-terminal o (foreignLeaf o′ c) = bytes-digest (prefixLeafString o′ c)
 
@@ -224,7 +233,7 @@ bytes-above (b ∷ bs) (s ∷ ss) v h = bytes-digest (parentOver b (valueAbove b
 -- The string at a place is a byte string.
 bytes-place : (o : Bytes) (t : Terminal) → AreBytes o → TerminalBytes t → ByteStrings (terminalStrings o t)
 unfolding terminalStrings
-bytes-place o (ownLeaf c) h k = each-cons AreBytes (prefixLeafString o c) [] (bytes-leaf o c h k) (each-nil AreBytes)
+bytes-place o (searchedLeaf c) h k = each-cons AreBytes (prefixLeafString o c) [] (bytes-leaf o c h k) (each-nil AreBytes)
 bytes-place o emptyPlace h k = each-nil AreBytes
 bytes-place o (foreignLeaf o′ c) h k = each-cons AreBytes (prefixLeafString o′ c) [] (bytes-leaf o′ c (k .0) (k .1)) (each-nil AreBytes)
 
@@ -237,7 +246,8 @@ bytes-way (b ∷ bs) (s ∷ ss) v h k =
     each-cons AreBytes (parentOver b (valueAbove bs ss v) s) (stringsAbove bs ss v) (bytes-parent b (valueAbove bs ss v) s (bytes-above bs ss v h) (k s (List·Memᴰ·head refl)))
     (bytes-way bs ss v h (λ y n. k y (List·Memᴰ·tail n)))
 
--- The strings of a lookup are byte strings if the output, the siblings and the values at the place are.
+-- The strings of a lookup are byte strings if the output, the siblings and the values at the place
+-- are.
 pub bytes-lookup : (o : Bytes) (t : Terminal) (ss : List Bytes) → AreBytes o → TerminalBytes t → ByteStrings ss → ByteStrings (lookupStrings o t ss)
 unfolding lookupStrings
 bytes-lookup o t ss h k f =

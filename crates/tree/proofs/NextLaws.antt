@@ -1,8 +1,10 @@
--- Laws of the next of some entries (nextFrom of specs/SearchTree.antt), where the entries rise and are below n, and of those from one on, one after the other.
+-- Laws of the next of some entries (nextFrom of specs/SearchTree.antt), where the entries rise and
+-- are below n, and of those from one on, one after the other.
 use mathlib.Core.Path.{_≡_, refl, sym, _∙_, ap}
 use mathlib.Core.Logic.{_⊎_, inl, inr}
 use mathlib.Core.Bool.{true, false}
-use mathlib.Core.List.{List, [], _∷_, List·Memᴰ, List·Memᴰ·head, List·Memᴰ·tail, List·Memᴰ·cases-cons, List·Memᴰ·not-nil}
+use mathlib.Core.List.{List, [], _∷_, List·Memᴰ, List·Memᴰ·head, List·Memᴰ·tail, List·Memᴰ·cases-cons}
+use mathlib.Core.List.{List·Memᴰ·not-nil}
 use Prim.Native.Nat.{ℕ, min, _+_, _≤_, _<_}
 use native.Mathlib.Nat.{min-eq-left, min-eq-right}
 use native.Mathlib.Omega.{arith}
@@ -12,8 +14,9 @@ use borrow.Author.Tests.{le-leb, lt-leb, eq-eqb, ne-eqb}
 use Rattle.lists.specs.Choice.{choose}
 use Rattle.lists.specs.Lists.{any, select, first, rising, insertAll}
 use Rattle.lists.proofs.ListLaws.{at-any, any-none, select-here, select-later}
-use Rattle.lists.proofs.RisingLaws.{rising-first, rising-tail, insertAll-has, insertAll-keeps, insertAll-only, insertAll-rising}
-use Rattle.lines.proofs.PlaceLaws.{at-cons, at-end}
+use Rattle.lists.proofs.RisingLaws.{rising-first, rising-tail, insertAll-has, insertAll-keeps, insertAll-only}
+use Rattle.lists.proofs.RisingLaws.{insertAll-rising}
+use Rattle.lines.proofs.OffsetLaws.{at-cons, at-end}
 use Rattle.tree.specs.SearchTree.{nextFrom}
 use Rattle.tree.proofs.DigitLaws.{by-order}
 

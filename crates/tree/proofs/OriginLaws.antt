@@ -1,21 +1,28 @@
--- Where the values come from that a walk of the log tree and a lookup in a prefix tree work out, and what the listed strings are for (specs/LogTree.antt,
--- specs/PrefixTree.antt): each value is the digest of a listed string, a kept or given value, or zeros; each listed string was hashed for one of these values.
+-- Where the values come from that a walk of the log tree and a lookup in a prefix tree work out,
+-- and what the listed strings are for (specs/LogTree.antt, specs/PrefixTree.antt): each value is
+-- the digest of a listed string, a kept or given value, or zeros; each listed string was hashed for
+-- one of these values.
 use mathlib.Core.Path.{_≡_, refl, sym, ap, subst}
 use mathlib.Core.Logic.{⊎-elim}
 use mathlib.Core.Bool.{true, _&&_}
-use mathlib.Core.List.{List, [], _∷_, List·Memᴰ, List·Memᴰ·head, List·Memᴰ·tail, List·Memᴰ·cases-cons, List·Memᴰ·not-nil, List·Memᴰ·append-cases, Memᴰ·append-left, Memᴰ·append-right}
+use mathlib.Core.List.{List, [], _∷_, List·Memᴰ, List·Memᴰ·head, List·Memᴰ·tail, List·Memᴰ·cases-cons}
+use mathlib.Core.List.{List·Memᴰ·not-nil, List·Memᴰ·append-cases, Memᴰ·append-left, Memᴰ·append-right}
 use Prim.Native.Nat.{ℕ}
 use lib.ListN.{drop}
 use Rattle.lists.specs.Lists.{Bytes}
 use Rattle.lists.proofs.ChoiceLaws.{and-holds, holds-and}
 use Rattle.hash.specs.Sha256.{sha256}
-use Rattle.tree.specs.LogTree.{Range, Walk, retained, given, shown, parent, nodeCount, Known, zeros, value, agrees, keptValuesMet, walkStrings, keptValue, fullSubtrees}
-use Rattle.tree.specs.PrefixTree.{Terminal, ownLeaf, emptyPlace, foreignLeaf, bits, terminalStrings, terminalValue, valueAbove, stringsAbove, lookupRoot, lookupStrings}
+use Rattle.tree.specs.LogTree.{Range, Walk, retained, given, shown, parent, nodeCount, Known, zeros}
+use Rattle.tree.specs.LogTree.{value, agrees, keptValuesMet, walkStrings, keptValue, fullSubtrees}
+use Rattle.tree.specs.PrefixTree.{Terminal, searchedLeaf, emptyPlace, foreignLeaf, bits}
+use Rattle.tree.specs.PrefixTree.{terminalStrings, terminalValue, valueAbove, stringsAbove, lookupRoot}
+use Rattle.tree.specs.PrefixTree.{lookupStrings}
 use Rattle.tree.proofs.CollisionLaws.{Within}
 use Rattle.tree.proofs.WalkValueLaws.{each-drop, each-first, among-by}
 use Rattle.tree.proofs.WalkPathLaws.{met-parent, strings-left, strings-right}
 
--- where a value comes from: a string of S was hashed to it, it is one of those handed over, or it stands for nothing
+-- where a value comes from: a string of S was hashed to it, it is one of those handed over, or it
+-- stands for nothing
 pub data Origin (S handed : List Bytes) (v : Bytes) : Type 0 where
   digest : (x : Bytes) → List·Memᴰ x S → v ≡ sha256 x → Origin S handed v
   as-given : List·Memᴰ v handed → Origin S handed v
@@ -140,7 +147,7 @@ module _ (S handed : List Bytes) where
   -- What stands at a place has its value from its string, or is nothing.
   place-origin : (o : Bytes) (t : Terminal) → Within (terminalStrings o t) S → Origin S handed (terminalValue o t)
   unfolding terminalStrings terminalValue
-  place-origin o (ownLeaf c) f = digest _ (f _ (List·Memᴰ·head refl)) refl
+  place-origin o (searchedLeaf c) f = digest _ (f _ (List·Memᴰ·head refl)) refl
   place-origin o emptyPlace f = empty refl
   place-origin o (foreignLeaf o′ c) f = digest _ (f _ (List·Memᴰ·head refl)) refl
 
@@ -162,7 +169,7 @@ way-string (b ∷ bs) (s ∷ ss) v x m =
 -- So was the string at the place.
 place-string : (o : Bytes) (t : Terminal) (x : Bytes) → List·Memᴰ x (terminalStrings o t) → terminalValue o t ≡ sha256 x
 unfolding terminalStrings terminalValue
-place-string o (ownLeaf c) x m = ⊎-elim (λ e. ap sha256 (sym e)) (λ n. absurd (List·Memᴰ·not-nil n)) (List·Memᴰ·cases-cons m)
+place-string o (searchedLeaf c) x m = ⊎-elim (λ e. ap sha256 (sym e)) (λ n. absurd (List·Memᴰ·not-nil n)) (List·Memᴰ·cases-cons m)
 place-string o emptyPlace x m = absurd (List·Memᴰ·not-nil m)
 place-string o (foreignLeaf o′ c) x m = ⊎-elim (λ e. ap sha256 (sym e)) (λ n. absurd (List·Memᴰ·not-nil n)) (List·Memᴰ·cases-cons m)
 

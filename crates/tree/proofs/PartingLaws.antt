@@ -1,9 +1,11 @@
--- The highest digit of a number, and the highest digit in which two numbers differ, as leading zeros and shifts find them.
+-- The highest digit of a number, and the highest digit in which two numbers differ, as leading
+-- zeros and shifts find them.
 use mathlib.Core.Path.{_≡_, refl, sym, _∙_}
 use Prim.Native.Nat.{ℕ, zero, suc, _+_, _-_, _*_, _/_, _%_, _^_, _≤_, _<_}
 use native.Mathlib.Nat.{one-mul, mod-eq-of-lt, div-eq-of-lt-le, div-add-mod'}
 use native.Mathlib.Omega.{arith}
-use lib.Bits.{differ, bitOr, bitXor, and-le-l, and-le-r, xor-add-and, or-add-and, and-mask, xor-shr, xor-step, xor-self, xor-lt}
+use lib.Bits.{differ, bitOr, bitXor, and-le-l, and-le-r, xor-add-and, or-add-and, and-mask, xor-shr, xor-step}
+use lib.Bits.{xor-self, xor-lt}
 use lib.Count.{leadingZeros, leading-top}
 use lib.Pow.{pow-lt, pow-pos, shr-mono}
 use Rattle.tree.specs.SearchTree.{power}
@@ -47,7 +49,8 @@ parts (_, c, n) = record { clear = c; next = n }
 xor-zero : (a b : ℕ) → bitXor a b ≡ 0 → a ≡ b
 xor-zero a b e = omega (arith, xor-add-and a b, and-le-l a b, and-le-r a b)
 
--- Of two numbers of 64 bits the leading digits in which they agree are the leading zeros of their difference, digit by digit.
+-- Of two numbers of 64 bits the leading digits in which they agree are the leading zeros of their
+-- difference, digit by digit.
 pub parting : (x y : ℕ) → x < y → y < 2 ^ 64 → (leadingZeros 64 (bitXor x y) ≤ 63) × Parting x y (63 - leadingZeros 64 (bitXor x y))
 parting x y l h =
     let (j, e, a, b) = leading-top 64 (bitXor x y) differing (xor-lt 64 x y (omega arith) h) in

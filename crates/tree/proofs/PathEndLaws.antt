@@ -1,4 +1,5 @@
--- What comes next on a right path and on the frontier, as a number whose low digits are replaced by ones.
+-- What comes next on a right path and on the frontier, as a number whose low digits are replaced by
+-- ones.
 use mathlib.Core.Path.{_≡_, refl, sym, ap, _∙_}
 use mathlib.Core.Logic.{inl, inr}
 use mathlib.Core.List.{List, List·Memᴰ}
@@ -12,7 +13,9 @@ use Rattle.tree.specs.SearchTree.{frontier, rightAncestors, nextFrom}
 use Rattle.tree.proofs.PowerLaws.{below-power}
 use Rattle.tree.proofs.DigitLaws.{halved, cut, cut-set, cut-clear, cut-bounds, by-digit, by-order}
 use Rattle.tree.proofs.FrontierLaws.{frontier-has, frontier-only, frontier-rising}
-use Rattle.tree.proofs.AncestorLaws.{ancestor, blockEnd, end-above, clear-digit, set-digit, end-rises, above-clear, right-ancestors-has, right-ancestors-only, right-ancestors-rising, right-ancestors-none}
+use Rattle.tree.proofs.AncestorLaws.{ancestor, blockEnd, end-above, clear-digit, set-digit, end-rises}
+use Rattle.tree.proofs.AncestorLaws.{above-clear, right-ancestors-has, right-ancestors-only}
+use Rattle.tree.proofs.AncestorLaws.{right-ancestors-rising, right-ancestors-none}
 use Rattle.tree.proofs.PartingLaws.{Parting}
 use Rattle.tree.proofs.NextLaws.{next-nil, next-is, next-from}
 
@@ -43,7 +46,8 @@ end-node (suc f) j p h = by-digit (p / 2 ^ j)
     (λ z. (j, clear-digit j p z .0))
     (λ z. let (k, e) = end-node f (suc j) p (omega arith) in (k, e ∙ set-digit j p z .1))
 
--- Where p and x part, the block of x ends with the larger block of p, and the block of p ends before x.
+-- Where p and x part, the block of x ends with the larger block of p, and the block of p ends
+-- before x.
 part-ends : {p x h : ℕ} → Parting p x h → (blockEnd h x ≡ blockEnd (suc h) p) × (blockEnd h p < x) × (blockEnd h p < blockEnd h x) × (x ≤ blockEnd h x)
 part-ends {p} {x} {h} s =
     let (_, e) = clear-digit h p (s .clear) in
@@ -97,7 +101,8 @@ ancestor-next-empty n p x h = ap (λ (l : List ℕ). nextFrom n l x) (right-ance
 pub ancestor-next-start : (n p x : ℕ) → x ≤ p → nextFrom n (rightAncestors n p) x ≡ nextFrom n (rightAncestors n p) (p + 1)
 ancestor-next-start n p x h = next-from n (rightAncestors n p) x (p + 1) (λ y m. let a = right-ancestors-only n p y m in omega (arith, a .above)) (omega arith)
 
--- The last on the right path of p, or p where that is empty, is the end of p's block where p and n part.
+-- The last on the right path of p, or p where that is empty, is the end of p's block where p and n
+-- part.
 pub ancestor-last : (n p h : ℕ) → Parting p n h → lastOr p (rightAncestors n p) ≡ blockEnd h p
 ancestor-last n p h s =
     let (_, b, _, _) = part-ends s in

@@ -1,4 +1,5 @@
--- Paths of parents in the log tree (specs/LogTree.antt): from the value of a subtree down to the value at an entry, by parents whose strings stand in a list.
+-- Paths of parents in the log tree (specs/LogTree.antt): from the value of a subtree down to the
+-- value at an entry, by parents whose strings stand in a list.
 use mathlib.Core.Path.{_≡_, sym, _∙_, subst}
 use mathlib.Core.Logic.{_⊎_, inl}
 use mathlib.Core.List.{List, List·Memᴰ}
@@ -42,7 +43,8 @@ parent-one {S} {r} b c d = do
 
 -- ---- paths
 
--- From the value v of the subtree r parents whose strings stand in S lead down to the value u of the entry p: at each the half that holds p is taken.
+-- From the value v of the subtree r parents whose strings stand in S lead down to the value u of
+-- the entry p: at each the half that holds p is taken.
 pub data Path (S : List Bytes) (p : ℕ) (u : Bytes) : Range → Bytes → Type 0 where
   at-entry : {r : Range} {v : Bytes} → r .start ≡ p → r .width ≡ 1 → v ≡ u → Path S p u r v
   to-left : {r : Range} {v : Bytes} (c : Parent S r v) → p < r .start + splitAt (r .width) → Path S p u (leftHalf r) (c .left) → Path S p u r v
@@ -52,7 +54,8 @@ pub data Path (S : List Bytes) (p : ℕ) (u : Bytes) : Range → Bytes → Type 
 pub path-from : {S : List Bytes} {p : ℕ} {u : Bytes} {r : Range} {v w : Bytes} → v ≡ w → Path S p u r v → Path S p u r w
 path-from {S} {p} {u} {r} e t = subst (λ (x : Bytes). Path S p u r x) e t
 
--- Two paths from one value of one subtree to one entry lead to one value: at each parent both go the same way, and the two strings with one value are equal.
+-- Two paths from one value of one subtree to one entry lead to one value: at each parent both go
+-- the same way, and the two strings with one value are equal.
 pub path-one : {S : List Bytes} {p : ℕ} {u u′ : Bytes} {r : Range} {v : Bytes} → ByteStrings S → Path S p u r v → Path S p u′ r v → (u ≡ u′) ⊎ Broken S
 path-one b (at-entry s w e) (at-entry s′ w′ e′) = inl (sym e ∙ e′)
 path-one b (at-entry s w e) (to-left c h t) = let k = c .wide in absurd (omega arith)

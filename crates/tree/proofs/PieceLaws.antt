@@ -1,4 +1,5 @@
--- The walk over the log tree (specs/LogTree.antt) piece by piece: the subtrees at which it stops, from left to right, on a stack.
+-- The walk over the log tree (specs/LogTree.antt) piece by piece: the subtrees at which it stops,
+-- from left to right, on a stack.
 use mathlib.Core.Path.{_≡_, refl, sym, ap, _∙_}
 use mathlib.Core.List.{List, [], _∷_, _++_, map, reverse, append-nil}
 use Prim.Native.Nat.{ℕ, zero, suc, _+_, _-_, _*_, _^_, _≤_, _<_}
@@ -11,7 +12,8 @@ use borrow.Author.Tests.{eq-eqb, ne-eqb}
 use Rattle.lists.specs.Choice.{choose}
 use Rattle.lists.specs.Lists.{Bytes}
 use Rattle.hash.specs.Sha256.{sha256}
-use Rattle.tree.specs.LogTree.{Range, logParentString, leftHalf, rightHalf, fullSubtrees, Walk, retained, given, shown, parent, nodeCount, widthOf, Known, zeros, value}
+use Rattle.tree.specs.LogTree.{Range, logParentString, leftHalf, rightHalf, fullSubtrees, Walk}
+use Rattle.tree.specs.LogTree.{retained, given, shown, parent, nodeCount, widthOf, Known, zeros, value}
 use Rattle.tree.proofs.PowerLaws.{halves-filled, halves-meet}
 use Rattle.tree.proofs.DigitLaws.{by-order}
 use Rattle.tree.proofs.SubtreeLaws.{block}
@@ -76,7 +78,8 @@ valued (w ∷ ws) vs = record { width = w; digest = getD vs 0 zeros } ∷ valued
 unfoldable pub fullStack : ℕ → List Bytes → List Piece
 fullStack c vs = reverse (valued (widths (fullSubtrees c)) vs)
 
--- what pieces side by side make from the right: the last alone, else the parent of the first and of what the others make
+-- what pieces side by side make from the right: the last alone, else the parent of the first and of
+-- what the others make
 unfoldable pub rootOf : List Piece → Piece
 rootOf [] = record { width = 0; digest = zeros }
 rootOf (p ∷ []) = p
@@ -122,8 +125,8 @@ piece-joined k r z x y nodes (h, w, a, b) =
     let e : widthOf x + widthOf y ≡ z .width = omega arith in
     ap (λ (i : ℕ). record { width = i; digest = sha256 (logParentString (widthOf x) (value k x nodes) (widthOf y) (value k y (drop (nodeCount x) nodes))) }) e
 
--- The pieces of a whole block, put on a stack that is no narrower, do what the block does as one piece: the left half becomes one piece on top, and is joined
--- with what the right half becomes.
+-- The pieces of a whole block, put on a stack that is no narrower, do what the block does as one
+-- piece: the left half becomes one piece on top, and is joined with what the right half becomes.
 pub stack-block : (e q : ℕ) (t : Walk) → Over (block e q) t → (k : Known) (nodes : List Bytes) (st : List Piece) → Wide (2 ^ e) st
     → stackFrom st (pieces k t nodes) ≡ push (pieceOf k t nodes) st
 unfolding stackFrom pieces

@@ -1,4 +1,5 @@
--- Laws of the largest power of two not above a number, and of the halves of a tree, which splits at such a power (specs/SearchTree.antt, specs/LogTree.antt).
+-- Laws of the largest power of two not above a number, and of the halves of a tree, which splits at
+-- such a power (specs/SearchTree.antt, specs/LogTree.antt).
 use mathlib.Core.Path.{_≡_, refl, _∙_}
 use Prim.Native.Nat.{ℕ, zero, suc, _+_, _-_, _*_, _/_, _^_, _≤_, _<_}
 use native.Mathlib.Decide.{decLe}
@@ -79,7 +80,8 @@ power-of-power k = let p = pow-pos k in power-unique k (2 ^ k) (omega arith) (om
 
 -- ---- the halves of a tree
 
--- a tree of more than one entry splits at a power of two below its width, with no more to the right than to the left
+-- a tree of more than one entry splits at a power of two below its width, with no more to the right
+-- than to the left
 pub split-at : (width : ℕ) → 1 < width → (k : ℕ) × (splitAt width ≡ 2 ^ k) × (splitAt width < width) × (width ≤ 2 * splitAt width)
 unfolding splitAt
 split-at width h =

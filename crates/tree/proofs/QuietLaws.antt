@@ -1,4 +1,5 @@
--- The walk over one block of the log tree with nothing shown (specs/LogTree.antt): its pieces are the full subtrees of m in the block, then given ones.
+-- The walk over one block of the log tree with nothing shown (specs/LogTree.antt): its pieces are
+-- the full subtrees of m in the block, then given ones.
 use mathlib.Core.Path.{_≡_, refl, sym, ap, ap₂, _∙_, subst}
 use mathlib.Core.Logic.{inr}
 use mathlib.Core.Bool.{Bool, true, false}
@@ -12,13 +13,16 @@ use lib.Seq.{drop-nil}
 use borrow.Author.Tests.{lt-ltb, le-ltb}
 use Rattle.lists.specs.Lists.{Bytes, any}
 use Rattle.tree.specs.SearchTree.{power}
-use Rattle.tree.specs.LogTree.{Range, isFull, holdsFull, isShown, fullFrom, fullSubtrees, Walk, retained, given, parent, walk, nodeCount, widthOf, Known, zeros, keptValue, value}
+use Rattle.tree.specs.LogTree.{Range, isFull, holdsFull, isShown, fullFrom, fullSubtrees, Walk}
+use Rattle.tree.specs.LogTree.{retained, given, parent, walk, nodeCount, widthOf, Known, zeros}
+use Rattle.tree.specs.LogTree.{keptValue, value}
 use Rattle.tree.proofs.DigitLaws.{by-order}
 use Rattle.tree.proofs.FullLaws.{fullFrom-none, fullFrom-more}
 use Rattle.tree.proofs.SubtreeLaws.{block, halves-whole, starts-double}
 use Rattle.tree.proofs.FullBlockLaws.{holds-block}
 use Rattle.tree.proofs.WalkStepLaws.{walk-retained, walk-given, walk-split}
-use Rattle.tree.proofs.ReachLaws.{block-full, full-behind, full-left, or-true, fullsFrom, fulls-none, fulls-first, fulls-all}
+use Rattle.tree.proofs.ReachLaws.{block-full, full-behind, full-left, or-true, fullsFrom, fulls-none}
+use Rattle.tree.proofs.ReachLaws.{fulls-first, fulls-all}
 use Rattle.tree.proofs.KeptLaws.{fulls-last}
 use Rattle.tree.proofs.PieceLaws.{Piece, pieces, widths, valued}
 
@@ -61,7 +65,7 @@ none-shown : (r : Range) → isShown [] r ≡ false
 unfolding isShown any
 none-shown r = refl
 
--- A block behind m is given.
+-- A block after m is given.
 quiet-behind : (f m e q : ℕ) → 0 < f → m ≤ q * 2 ^ e → walk f m [] (block e q) ≡ given (block e q)
 quiet-behind zero m e q p h = absurd (omega arith)
 quiet-behind (suc f) m e q p h =
@@ -90,7 +94,8 @@ quiet-inside f m e q l u =
 
 -- ---- its pieces
 
--- the pieces of a walk over the entries from s to an end, with m between: the full subtrees of m with their kept values, then given ones, from the narrowest on
+-- the pieces of a walk over the entries from s to an end, with m between: the full subtrees of m
+-- with their kept values, then given ones, from the narrowest on
 pub record Quiet (k : Known) (s end : ℕ) (t : Walk) (nodes : List Bytes) : Type 0 where
   pub listed : pieces k t nodes
       ≡ valued (widths (fullsFrom s (k .size))) (map (keptValue k) (fullsFrom s (k .size))) ++ valued (reverse (widths (fullSubtrees (end - k .size)))) nodes
@@ -134,7 +139,8 @@ quiet-left k nodes e p s r x l u h =
       counted = omega (arith, h .counted, ap length w);
     }
 
--- One with m in its right half, or in its middle, has the left half, retained, and the pieces of the right half.
+-- One with m in its right half, or in its middle, has the left half, retained, and the pieces of
+-- the right half.
 quiet-right : (k : Known) (nodes : List Bytes) (e p : ℕ) (r : Range) (y : Walk) → p * 2 ^ e + 2 ^ e ≤ k .size → k .size < p * 2 ^ e + 2 ^ suc e
     → Quiet k (p * 2 ^ e + 2 ^ e) (p * 2 ^ e + 2 ^ suc e) y nodes → Quiet k (p * 2 ^ e) (p * 2 ^ e + 2 ^ suc e) (parent r (retained (block e p)) y) nodes
 unfolding pieces widthOf value nodeCount valued
@@ -144,9 +150,11 @@ quiet-right k nodes e p r y l u h =
       counted = omega (arith, h .counted);
     }
 
--- The walk over a block with nothing shown, and m in the block, has first the full subtrees of m in the block with their kept values, then given subtrees:
--- as wide as the full subtrees of as many entries as are missing up to the end of the block, the narrowest first. Where m is in the left half, the right half
--- is given; else the left half is a full subtree of m and retained; and so on in the other half.
+-- The walk over a block with nothing shown, and m in the block, has first the full subtrees of m in
+-- the block with their kept values, then given subtrees: as wide as the full subtrees of as many
+-- entries as are missing up to the end of the block, the narrowest first. Where m is in the left
+-- half, the right half is given; else the left half is a full subtree of m and retained; and so on
+-- in the other half.
 pub quiet-pieces : (e q f : ℕ) (k : Known) (nodes : List Bytes) → 2 ^ e ≤ f → q * 2 ^ e ≤ k .size → k .size < q * 2 ^ e + 2 ^ e
     → Quiet k (q * 2 ^ e) (q * 2 ^ e + 2 ^ e) (walk f (k .size) [] (block e q)) nodes
 quiet-pieces zero q f k nodes h l u = quiet-start k nodes zero q f (omega arith) (omega arith)

@@ -1,4 +1,5 @@
--- How the walk over the log tree (specs/LogTree.antt) comes to an entry c from the left: which subtrees of it end there, and where it goes on.
+-- How the walk over the log tree (specs/LogTree.antt) comes to an entry c from the left: which
+-- subtrees of it end there, and where it goes on.
 use mathlib.Core.Path.{_≡_, refl, sym, ap, ap₂, _∙_, subst}
 use mathlib.Core.Logic.{_⊎_, inl, inr}
 use mathlib.Core.Bool.{Bool, true, false, _||_, false≢true}
@@ -12,12 +13,15 @@ use lib.Pow.{pow-pos, pow-mono, high}
 use borrow.Author.Tests.{eq-eqb, lt-ltb, ltb-false}
 use Rattle.lists.proofs.ChoiceLaws.{holds-and}
 use Rattle.tree.specs.SearchTree.{power}
-use Rattle.tree.specs.LogTree.{Range, leftHalf, rightHalf, isFull, holdsFull, isShown, Walk, retained, given, shown, parent, fullFrom, fullSubtrees}
-use Rattle.tree.proofs.PowerLaws.{below-power, exponent-below, left-half, halves-filled, halves-meet, power-unique}
+use Rattle.tree.specs.LogTree.{Range, leftHalf, rightHalf, isFull, holdsFull, isShown, Walk, retained}
+use Rattle.tree.specs.LogTree.{given, shown, parent, fullFrom, fullSubtrees}
+use Rattle.tree.proofs.PowerLaws.{below-power, exponent-below, left-half, halves-filled, halves-meet}
+use Rattle.tree.proofs.PowerLaws.{power-unique}
 use Rattle.tree.proofs.DigitLaws.{by-order}
 use Rattle.tree.proofs.FullLaws.{fullFrom-none, fullFrom-more, fullFrom-fuel}
 use Rattle.tree.specs.LogWalk.{range}
-use Rattle.tree.proofs.SubtreeLaws.{block, Subtree, whole, cut, subtree-halves, starts-double, halves-most, halves-whole}
+use Rattle.tree.proofs.SubtreeLaws.{block, Subtree, whole, cut, subtree-halves, starts-double}
+use Rattle.tree.proofs.SubtreeLaws.{halves-most, halves-whole}
 use Rattle.tree.proofs.FullBlockLaws.{full-block, full-cut, holds-block, holds-cut}
 use Rattle.tree.proofs.HoldingLaws.{full-as-block, full-ends, inside-shown}
 use Rattle.tree.proofs.WalkCaseLaws.{Walks, keeps, takes, shows, splits, Over, over-width}
@@ -30,7 +34,8 @@ over-halves e q x t u (h, w, a, b) =
     let (i, j) = halves-whole e q in
     (subst (λ (r : Range). Over r t) i a, subst (λ (r : Range). Over r u) j b)
 
--- A walk over so many entries from s on, with a left half of 2 ^ e entries, is over the others with its right half.
+-- A walk over so many entries from s on, with a left half of 2 ^ e entries, is over the others with
+-- its right half.
 pub over-right : (e q s w : ℕ) (r : Range) (x y : Walk) → Over (range s w) (parent r x y) → Over (block e q) x → (2 ^ e < w) × Over (range (s + 2 ^ e) (w - 2 ^ e)) y
 over-right e q s w r x y (h, l, a, b) o =
     let i : leftHalf (range s w) .width ≡ 2 ^ e = sym (over-width (leftHalf (range s w)) x a) ∙ over-width (block e q) x o in
@@ -45,7 +50,7 @@ over-right e q s w r x y (h, l, a, b) o =
 pub block-full : (c : ℕ) (r : Range) → isFull c r ≡ true → (j : ℕ) × (r .width ≡ 2 ^ j) × (r .start + r .width ≤ c)
 block-full c r h = let b = full-as-block c r h in (b .level, b .wide, full-ends c r h)
 
--- What starts at c or behind it is none.
+-- What starts at c or after it is none.
 pub full-behind : (c : ℕ) (r : Range) → c ≤ r .start → isFull c r ≡ false
 full-behind c r h = go (isFull c r) refl
   where
@@ -60,7 +65,8 @@ power-next e j w x l u =
     let p : 2 ^ suc e ≤ 2 ^ j = pow-mono i in
     omega arith
 
--- A left half that ends with the c-th entry or before it is a full subtree of c entries, where the block ends behind that entry.
+-- A left half that ends with the c-th entry or before it is a full subtree of c entries, where the
+-- block ends after that entry.
 pub full-left : (c e q : ℕ) → q * 2 ^ suc e + 2 ^ e ≤ c → c < q * 2 ^ suc e + 2 ^ suc e → isFull c (block e (2 * q)) ≡ true
 full-left c e q l u =
     let (a, b) = starts-double e q in
@@ -117,8 +123,10 @@ IsBlock r = (j : ℕ) × (r .width ≡ 2 ^ j)
 abbrev pub Clear : ℕ → Walk → Type 0
 Clear c t = Stops (Apart c) (Apart c) t
 
--- The walk t over a range from s on, and an entry c of the range or behind its last: all full subtrees of c entries in the range are narrower than b, and c is
--- where the range starts; or at its end, and the range is such a full subtree; or left of the middle; or not, and the left half is such a full subtree.
+-- The walk t over a range from s on, and an entry c of the range or after its last: all full
+-- subtrees of c entries in the range are narrower than b, and c is where the range starts; or at
+-- its end, and the range is such a full subtree; or left of the middle; or not, and the left half
+-- is such a full subtree.
 pub data Reach (c : ℕ) : ℕ → ℕ → Walk → Type 0 where
   starting : (r : Range) (b : ℕ) (t : Walk) → Over r t → c ≡ r .start → Reach c (r .start) b t
   ending : (e q b : ℕ) (t : Walk) → Over (block e q) t → 2 ^ e < b → q * 2 ^ e + 2 ^ e ≡ c → isFull c (block e q) ≡ true → Reach c (q * 2 ^ e) b t
@@ -132,7 +140,8 @@ abbrev Reached : ℕ → ℕ → Type 0
 Reached c e = (q w b : ℕ) (t : Walk) → 0 < w → w ≤ 2 ^ e → Over (range (q * 2 ^ e) w) t → Clear c t → q * 2 ^ e ≤ c → c < q * 2 ^ e + 2 ^ e
     → c ≤ q * 2 ^ e + w → 2 ^ e ≤ b → Reach c (q * 2 ^ e) b t
 
--- A range of more than half of the entries of a block, with c inside of the block, is no block that ends with c or before it.
+-- A range of more than half of the entries of a block, with c inside of the block, is no block that
+-- ends with c or before it.
 no-stop : (c e q w : ℕ) (r : Range) (j : ℕ) → r ≡ range (q * 2 ^ suc e) w → 2 ^ e < w → w ≤ 2 ^ suc e → c < q * 2 ^ suc e + 2 ^ suc e
     → r .width ≡ 2 ^ j → r .start + r .width ≤ c → ⊥
 no-stop c e q w r j h l u k x y =
@@ -221,8 +230,9 @@ pub or-true : (s : Bool) → (s || true) ≡ true
 or-true true = refl
 or-true false = refl
 
--- The walk with the full subtrees of m comes to m: a range with m inside of it holds a full subtree and is none, so that the walk does not stop there; and
--- one that is cut off at n starts behind m, if it holds none.
+-- The walk with the full subtrees of m comes to m: a range with m inside of it holds a full subtree
+-- and is none, so that the walk does not stop there; and one that is cut off at n starts after m,
+-- if it holds none.
 pub clear-kept : (n m : ℕ) → m ≤ n → {ps : List ℕ} {r : Range} {t : Walk} → Walks m ps r t → Subtree n r → Clear m t
 clear-kept n m h (keeps {r} a b) s = inr (block-full m r b)
 clear-kept n m h (takes {r} a b) s = apart r s b
@@ -241,7 +251,8 @@ clear-kept n m h (splits {r} w x y) s = let (a, b) = subtree-halves n r s w in (
 abbrev pub LastKnown : ℕ → ℕ → List ℕ → Type 0
 LastKnown n m ps = List·Memᴰ (n - 1) ps ⊎ (m ≡ n)
 
--- Then the walk over n entries stops at whole blocks only: what is cut off at n holds the last entry.
+-- Then the walk over n entries stops at whole blocks only: what is cut off at n holds the last
+-- entry.
 pub stops-blocks : {n m : ℕ} {ps : List ℕ} {r : Range} {t : Walk} → LastKnown n m ps → Walks m ps r t → Subtree n r → Stops IsBlock IsBlock t
 stops-blocks {n} {m} h (keeps {r} a b) s = go r s b
   where

@@ -1,10 +1,12 @@
 -- Laws of runs of elements (lists, specs/Lists.antt), and of a run copied out of a string.
 use mathlib.Core.Path.{_≡_, refl, sym, _∙_, ap}
-use mathlib.Core.List.{List, [], _∷_, _++_, map, flatMap, flatten, append-assoc, map-id, List·Memᴰ, List·Memᴰ·head, List·Memᴰ·tail}
+use mathlib.Core.List.{List, [], _∷_, _++_, map, flatMap, flatten, append-assoc, map-id, List·Memᴰ}
+use mathlib.Core.List.{List·Memᴰ·head, List·Memᴰ·tail}
 use Prim.Native.Nat.{ℕ, zero, suc, _+_, _*_, _≤_, _<_}
 use native.Mathlib.Numerals.{add-one}
 use native.Mathlib.Omega.{arith}
-use lib.ListN.{length, take, drop, getD, set, length-append, length-drop, length-map, List·getD-map, List·getD-eq-default}
+use lib.ListN.{length, take, drop, getD, set, length-append, length-drop, length-map, List·getD-map}
+use lib.ListN.{List·getD-eq-default}
 use lib.Seq.{take-nil, take-suc, take-suc-set, take-at, drop-at, drop-drop, getD-drop, length-take-le}
 use Rattle.lists.specs.Lists.{runs}
 use Rattle.lists.proofs.MemberLaws.{each-nil, each-cons}
@@ -12,7 +14,7 @@ use Rattle.hash.specs.Bytes.{AreBytes}
 use Rattle.hash.proofs.BytesLaws.{bytes-take, bytes-drop}
 
 -- within a list it does not matter what stands beyond its end
-getD-any : {A : Type 0} (l : List A) (i : ℕ) (d e : A) → i < length l → getD l i d ≡ getD l i e
+pub getD-any : {A : Type 0} (l : List A) (i : ℕ) (d e : A) → i < length l → getD l i d ≡ getD l i e
 getD-any [] i d e h = absurd (omega arith)
 getD-any (x ∷ l) zero d e h = refl
 getD-any (x ∷ l) (suc i) d e h = getD-any l i d e (omega arith)

@@ -1,6 +1,7 @@
--- The law of pieces of the log tree: the subtrees at which a walk stops, put on a stack one after the other, are at each entry across which none lies the
--- full subtrees of the entries before it; so they are the new kept values at the end, the root when they are joined, and what refusal 14 compares with the
--- kept values.
+-- The law of pieces of the log tree: the subtrees at which a walk stops, put on a stack one after
+-- the other, are at each entry across which none lies the full subtrees of the entries before it;
+-- so they are the new kept values at the end, the root when they are joined, and what refusal 14
+-- compares with the kept values.
 use mathlib.Core.Path.{_≡_, refl, sym, ap, ap₂, _∙_}
 use mathlib.Core.Bool.{true}
 use mathlib.Core.List.{List, [], _∷_, _++_, map, reverse, reverseAux, reverse-reverse}
@@ -10,14 +11,21 @@ use lib.ListN.{length, take, drop, length-map}
 use lib.Pow.{pow-pos}
 use lib.Seq.{take-all}
 use Rattle.lists.specs.Lists.{Bytes}
-use Rattle.tree.specs.LogTree.{Range, fullSubtrees, Walk, walk, walkOf, nodeCount, widthOf, Known, value, keptValuesMet, fullValues}
+use Rattle.tree.specs.LogTree.{Range, fullSubtrees, Walk, walk, walkOf, nodeCount, widthOf, Known}
+use Rattle.tree.specs.LogTree.{value, keptValuesMet, fullValues}
 use Rattle.tree.specs.LogWalk.{range}
 use Rattle.tree.proofs.SubtreeLaws.{block, subtree-root}
 use Rattle.tree.proofs.WalkCaseLaws.{Walks, walk-cases, Over, over-width, walks-over}
 use Rattle.tree.proofs.WalkValueLaws.{full-values-one, full-values-both}
-use Rattle.tree.proofs.ReachLaws.{over-right, fullsFrom, fulls-none, fulls-first, fulls-all, Stops, IsBlock, Clear, Reach, starting, ending, left, right, reach-root, clear-before, clear-kept, LastKnown, stops-blocks}
-use Rattle.tree.proofs.KeptLaws.{fulls-last, full-values-enough, full-values-all, none-given, kept-values-met}
-use Rattle.tree.proofs.PieceLaws.{Piece, joined, pieceOf, pieces, push, stackFrom, stackOf, passed, upTo, widths, valued, fullStack, rootOf, Wide, wide-less, push-on, stack-append, piece-joined, stack-block, passed-append, pieces-passed, upTo-none, upTo-first, upTo-later, upTo-all}
+use Rattle.tree.proofs.ReachLaws.{over-right, fullsFrom, fulls-none, fulls-first, fulls-all, Stops}
+use Rattle.tree.proofs.ReachLaws.{IsBlock, Clear, Reach, starting, ending, left, right, reach-root}
+use Rattle.tree.proofs.ReachLaws.{clear-before, clear-kept, LastKnown, stops-blocks}
+use Rattle.tree.proofs.KeptLaws.{fulls-last, full-values-enough, full-values-all, none-given}
+use Rattle.tree.proofs.KeptLaws.{kept-values-met}
+use Rattle.tree.proofs.PieceLaws.{Piece, joined, pieceOf, pieces, push, stackFrom, stackOf, passed}
+use Rattle.tree.proofs.PieceLaws.{upTo, widths, valued, fullStack, rootOf, Wide, wide-less, push-on}
+use Rattle.tree.proofs.PieceLaws.{stack-append, piece-joined, stack-block, passed-append}
+use Rattle.tree.proofs.PieceLaws.{pieces-passed, upTo-none, upTo-first, upTo-later, upTo-all}
 
 -- ---- full subtrees as pieces
 
@@ -32,7 +40,8 @@ valued-append (w ∷ ws) (v ∷ vs) us h = ap (λ (z : List Piece). record { wid
 enough : {c s b : ℕ} {t : Walk} → Reach c s b t → (k : Known) (nodes : List Bytes) → length (widths (fullsFrom s c)) ≤ length (fullValues c k t nodes)
 enough {c} {s} i k nodes = let h = full-values-enough i k nodes in rw (length-map (fullsFrom s c) (λ (r : Range). r .width)) h
 
--- The pieces before c, put on a stack whose top is wider than all full subtrees of c in the range, leave these on it.
+-- The pieces before c, put on a stack whose top is wider than all full subtrees of c in the range,
+-- leave these on it.
 stack-reach : {c s b : ℕ} {t : Walk} → Reach c s b t → (k : Known) (nodes : List Bytes) (st : List Piece) → Wide b st
     → stackFrom st (upTo (c - s) (pieces k t nodes)) ≡ reverseAux (valued (widths (fullsFrom s c)) (fullValues c k t nodes)) st
 unfolding stackFrom valued pieces
@@ -150,14 +159,19 @@ stack-values c vs us h l = values (widths (fullSubtrees c)) (length-map (fullSub
 
 -- ---- the laws
 
--- The walk stops at blocks, from left to right. The pieces of a whole block, put on a stack whose top is no narrower, do what the block does as one piece: its
--- left half becomes one piece on top, and what the right half becomes is joined with it. Let no piece lie across entry c, and take a range in which c is. Where
--- c is in the left half, the right half comes behind c. Else the left half is a full subtree of c; it is put on the stack as it is, since all before it are
--- wider; and c is in the right half. So at c the stack is the full subtrees of c, with their values as the walk works them out. No piece lies across n if the
--- last entry is shown or all n are known, and none across m, since what has m inside of it holds a full subtree of m and splits. What the walk compares with
--- the kept values are the full subtrees of m that it does not retain, and nothing else; a retained one has its kept value.
+-- The walk stops at blocks, from left to right. The pieces of a whole block, put on a stack whose
+-- top is no narrower, do what the block does as one piece: its left half becomes one piece on top,
+-- and what the right half becomes is joined with it. Let no piece lie across entry c, and take a
+-- range in which c is. Where c is in the left half, the right half comes after c. Else the left
+-- half is a full subtree of c; it is put on the stack as it is, since all before it are wider; and
+-- c is in the right half. So at c the stack is the full subtrees of c, with their values as the
+-- walk works them out. No piece lies across n if the last entry is shown or all n are known, and
+-- none across m, since what has m inside of it holds a full subtree of m and splits. What the walk
+-- compares with the kept values are the full subtrees of m that it does not retain, and nothing
+-- else; a retained one has its kept value.
 
--- Where no piece of a walk over n entries lies across c, those before c end there, and leave the full subtrees of c on the stack.
+-- Where no piece of a walk over n entries lies across c, those before c end there, and leave the
+-- full subtrees of c on the stack.
 pub stack-clear : (n c : ℕ) (t : Walk) → 0 < n → c ≤ n → Over (range 0 n) t → Clear c t → (k : Known) (nodes : List Bytes)
     → (passed (upTo c (pieces k t nodes)) ≡ c) × (stackOf (upTo c (pieces k t nodes)) ≡ fullStack c (fullValues c k t nodes))
 unfolding stackOf fullStack
@@ -187,7 +201,8 @@ module _ (n : ℕ) (k : Known) (ps : List ℕ) (nodes : List Bytes) (filled : 0 
   reach-end : LastKnown n (k .size) ps → Reach n 0 (2 ^ n) (walkOf n (k .size) ps)
   reach-end last = reach-root n n (walkOf n (k .size) ps) filled (omega arith) over (clear-end last)
 
-  -- At the end the stack is the full subtrees of the log, with their values, of which there is one for each.
+  -- At the end the stack is the full subtrees of the log, with their values, of which there is one
+  -- for each.
   pub stack-end : LastKnown n (k .size) ps → (stackOf (allPieces n k ps nodes) ≡ fullStack n (fullValues n k (walkOf n (k .size) ps) nodes))
       × (length (fullValues n k (walkOf n (k .size) ps) nodes) ≡ length (fullSubtrees n))
   stack-end last =
@@ -207,7 +222,7 @@ module _ (n : ℕ) (k : Known) (ps : List ℕ) (nodes : List Bytes) (filled : 0 
   clear-m : k .size ≤ n → Clear (k .size) (walkOf n (k .size) ps)
   clear-m grown = clear-kept n (k .size) grown walked (subtree-root n filled)
 
-  -- No piece that begins before m ends behind it, and the stack at m is the full subtrees of m.
+  -- No piece that begins before m ends after it, and the stack at m is the full subtrees of m.
   pub stack-kept : k .size ≤ n → (passed (upTo (k .size) (allPieces n k ps nodes)) ≡ k .size)
       × (stackOf (upTo (k .size) (allPieces n k ps nodes)) ≡ fullStack (k .size) (fullValues (k .size) k (walkOf n (k .size) ps) nodes))
   stack-kept grown = stack-clear n (k .size) (walkOf n (k .size) ps) filled grown over (clear-m grown) k nodes

@@ -1,4 +1,5 @@
--- Each number is a node of the search tree, one of a level and a number in that level; the steps left and right lead to the nodes of its two halves.
+-- Each number is a node of the search tree, one of a level and a number in that level; the steps
+-- left and right lead to the nodes of its two halves.
 use mathlib.Core.Path.{_≡_, refl, ap, _∙_}
 use Prim.Native.Nat.{ℕ, zero, suc, _+_, _-_, _*_, _/_, _%_, _^_, _≤_, _<_}
 use native.Mathlib.Nat.{pow-succ'}

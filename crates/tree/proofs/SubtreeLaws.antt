@@ -56,7 +56,8 @@ subtree-root n h =
 pub starts-double : (e q : ℕ) → (2 * q * 2 ^ e ≡ q * 2 ^ suc e) × ((2 * q + 1) * 2 ^ e ≡ q * 2 ^ suc e + 2 ^ e)
 starts-double e q = let p = pow-succ' 2 e in (rw p (omega arith), rw p (omega arith))
 
--- More than half of a block splits in its middle: into a whole block, and the others of the next one.
+-- More than half of a block splits in its middle: into a whole block, and the others of the next
+-- one.
 pub halves-most : (e q w : ℕ) → 2 ^ e < w → w ≤ 2 ^ suc e
     → (leftHalf (range (q * 2 ^ suc e) w) ≡ block e (2 * q)) × (rightHalf (range (q * 2 ^ suc e) w) ≡ range ((2 * q + 1) * 2 ^ e) (w - 2 ^ e))
 unfolding leftHalf rightHalf

@@ -1,4 +1,5 @@
--- Laws of the last entries of a log of n entries, those from some entry on (specs/LogWalk.antt): the full subtree with which they begin, and how they halve.
+-- Laws of the last entries of a log of n entries, those from some entry on (specs/LogWalk.antt):
+-- the full subtree with which they begin, and how they halve.
 use mathlib.Core.Path.{_≡_, sym, ap, ap₂, _∙_, subst}
 use mathlib.Core.Logic.{_⊎_, inl, inr, ⊎-elim}
 use mathlib.Core.Bool.{true, false}
@@ -30,7 +31,8 @@ edge-told m n s w p y e = subst (EdgeFacts m n s w p) e
 pub tail-all : (n : ℕ) → 0 < n → n ≤ 2 ^ levelLimit → Tail n 0
 tail-all n p h = record { level = suc levelLimit; number = 0; start-is = sym (zero-mul (2 ^ suc levelLimit)); some = p; within = omega arith; small = h }
 
--- a power of two and less than as many again: the left half of a block, and entries of its right half up to n
+-- a power of two and less than as many again: the left half of a block, and entries of its right
+-- half up to n
 record Begun (n s w : ℕ) : Type 0 where
   level : ℕ
   number : ℕ
@@ -80,7 +82,7 @@ module _ {n s w : ℕ} (t : Tail n s) (e : w ≡ power (n - s)) where
       omega (arith, ones-power (n - s) (omega (arith, t .some)), ap ones d)
 
   module _ (l : s + w < n) where
-    -- those behind it
+    -- those after it
     pub tail-behind : Tail n (s + w)
     tail-behind =
         let v = begun t e in
@@ -125,7 +127,7 @@ module _ {n s w : ℕ} (t : Tail n s) (e : w ≡ power (n - s)) where
       pub cut-given : isShown ps (range s (n - s)) ≡ false → m ≤ s → walk (n - s) m ps (range s (n - s)) ≡ given (range s (n - s))
       cut-given q b = steps ∙ walk-given (n - s - 1) m ps (range s (n - s)) q (cut-not-full m) (cut-holds m h ∙ le-ltb s m b)
 
-      -- otherwise they split behind it
+      -- otherwise they split after it
       pub cut-split : (isShown ps (range s (n - s)) ≡ true) ⊎ (s < m)
           → walk (n - s) m ps (range s (n - s)) ≡ parent (range s (n - s)) (walk w m ps (range s w)) (walk (n - (s + w)) m ps (range (s + w) (n - (s + w))))
       cut-split q =

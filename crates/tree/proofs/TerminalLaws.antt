@@ -1,4 +1,5 @@
--- What stands at the place a lookup ends in, as the code holds it (specs/Lookups.antt): its value, and whether it fits.
+-- What stands at the place a lookup ends in, as the code holds it (specs/Lookups.antt): its value,
+-- and whether it fits.
 use mathlib.Core.Path.{_≡_, refl, sym, ap, _∙_}
 use mathlib.Core.Bool.{true, false}
 use mathlib.Core.List.{List, [], _∷_, _++_}
@@ -17,7 +18,7 @@ use Rattle.lists.proofs.ListLaws.{equal-same, differ-same}
 use Rattle.hash.specs.Bytes.{AreBytes}
 use Rattle.hash.specs.Sha256.{sha256}
 use Rattle.tree.specs.LogTree.{zeros}
-use Rattle.tree.specs.declared.prefix_tree.Place.the-variants.{OwnLeaf, Empty, OtherLeaf}
+use Rattle.tree.specs.declared.prefix_tree.TerminalKind.the-variants.{SearchedLeaf, Empty, OtherLeaf}
 use Rattle.tree.specs.declared.prefix_tree.Terminal.{Terminal as Held}
 use Rattle.tree.specs.PrefixTree.{prefixLeafString, bits, terminalValue, terminalFits}
 use Rattle.tree.specs.Lookups.{terminalAt, terminalOf}
@@ -32,29 +33,29 @@ bytes-held (x ∷ s) (v ∷ vs) (a, h) = (a .1, bytes-held s vs h)
 -- ---- its value
 
 -- The value of the leaf looked up is the digest of its output and commitment.
-pub own-value : (o : Bytes) (t : Held) → t .place ≡ OwnLeaf → sha256 (0x01 ∷ o ++ t .commitment) ≡ terminalValue o (terminalOf t)
+pub own-value : (o : Bytes) (t : Held) → t .kind ≡ SearchedLeaf → sha256 (0x01 ∷ o ++ t .commitment) ≡ terminalValue o (terminalOf t)
 unfolding terminalOf terminalAt terminalValue prefixLeafString
 own-value o t e = rw e refl
 
 -- The value of an empty place is zeros.
-pub empty-value : (o : Bytes) (t : Held) → t .place ≡ Empty → zeros ≡ terminalValue o (terminalOf t)
+pub empty-value : (o : Bytes) (t : Held) → t .kind ≡ Empty → zeros ≡ terminalValue o (terminalOf t)
 unfolding terminalOf terminalAt terminalValue
 empty-value o t e = rw e refl
 
 -- The value of another leaf is the digest of that leaf's output and commitment.
-pub other-value : (o : Bytes) (t : Held) → t .place ≡ OtherLeaf → sha256 (0x01 ∷ t .output ++ t .commitment) ≡ terminalValue o (terminalOf t)
+pub other-value : (o : Bytes) (t : Held) → t .kind ≡ OtherLeaf → sha256 (0x01 ∷ t .output ++ t .commitment) ≡ terminalValue o (terminalOf t)
 unfolding terminalOf terminalAt terminalValue prefixLeafString
 other-value o t e = rw e refl
 
 -- ---- whether it fits
 
 -- The leaf looked up fits.
-pub own-fits : (o : Bytes) (t : Held) (depth : ℕ) → t .place ≡ OwnLeaf → true ≡ terminalFits o (terminalOf t) depth
+pub own-fits : (o : Bytes) (t : Held) (depth : ℕ) → t .kind ≡ SearchedLeaf → true ≡ terminalFits o (terminalOf t) depth
 unfolding terminalOf terminalAt terminalFits
 own-fits o t depth e = rw e refl
 
 -- An empty place fits.
-pub empty-fits : (o : Bytes) (t : Held) (depth : ℕ) → t .place ≡ Empty → true ≡ terminalFits o (terminalOf t) depth
+pub empty-fits : (o : Bytes) (t : Held) (depth : ℕ) → t .kind ≡ Empty → true ≡ terminalFits o (terminalOf t) depth
 unfolding terminalOf terminalAt terminalFits
 empty-fits o t depth e = rw e refl
 
@@ -71,13 +72,13 @@ shared-first x y n depth e d = by-order n depth more less
     less h = le-leb depth n h ∙ sym (equal-same (take depth x) (take depth y) (sym (take-take depth n x h) ∙ ap (take depth) e ∙ take-take depth n y h))
 
 -- Another leaf fits up to the depth where its output parts from the one looked up.
-pub other-fits : (o : Bytes) (t : Held) (n depth : ℕ) → t .place ≡ OtherLeaf → take n (bits o) ≡ take n (bits (t .output))
+pub other-fits : (o : Bytes) (t : Held) (n depth : ℕ) → t .kind ≡ OtherLeaf → take n (bits o) ≡ take n (bits (t .output))
     → (getD (bits o) n 0 ≡ getD (bits (t .output)) n 0 → ⊥) → leb depth n ≡ terminalFits o (terminalOf t) depth
 unfolding terminalOf terminalAt terminalFits
 other-fits o t n depth p e d =
     rw (p, differ-same o (t .output) (λ q. d (ap (λ (l : Bytes). getD (bits l) n 0) q))) (shared-first (bits o) (bits (t .output)) n depth e d)
 
 -- Another leaf with the output looked up does not fit.
-pub same-unfit : (o : Bytes) (t : Held) (depth : ℕ) → t .place ≡ OtherLeaf → o ≡ t .output → false ≡ terminalFits o (terminalOf t) depth
+pub same-unfit : (o : Bytes) (t : Held) (depth : ℕ) → t .kind ≡ OtherLeaf → o ≡ t .output → false ≡ terminalFits o (terminalOf t) depth
 unfolding terminalOf terminalAt terminalFits
 same-unfit o t depth p e = rw (p, equal-same o (t .output) e) refl

@@ -1,4 +1,5 @@
--- The walk of the log tree as cases (specs/LogTree.antt): what is known of a subtree that is retained, given, shown or split.
+-- The walk of the log tree as cases (specs/LogTree.antt): what is known of a subtree that is
+-- retained, given, shown or split.
 use mathlib.Core.Path.{_≡_, refl, sym, ap}
 use mathlib.Core.Bool.{true, false, _&&_, not}
 use mathlib.Core.List.{List}
@@ -8,7 +9,8 @@ use lib.Dec.{eqb}
 use borrow.Author.Tests.{eqb-true, eqb-false, not-true}
 use Rattle.lists.specs.Choice.{choose}
 use Rattle.lists.proofs.ChoiceLaws.{and-holds, choose-by}
-use Rattle.tree.specs.LogTree.{Range, leftHalf, rightHalf, isFull, holdsFull, Walk, retained, given, shown, parent, isShown, walk, widthOf}
+use Rattle.tree.specs.LogTree.{Range, leftHalf, rightHalf, isFull, holdsFull, Walk, retained, given}
+use Rattle.tree.specs.LogTree.{shown, parent, isShown, walk, widthOf}
 use Rattle.tree.proofs.PowerLaws.{halves-meet, halves-filled}
 use Rattle.tree.specs.LogWalk.{range}
 

@@ -1,5 +1,5 @@
--- Walks of the log tree and paths of parents (specs/LogTree.antt): what a walk of a subtree works out leads down to each shown entry, and to each entry that a kept
--- value led down to.
+-- Walks of the log tree and paths of parents (specs/LogTree.antt): what a walk of a subtree works
+-- out leads down to each shown entry, and to each entry that a kept value led down to.
 use mathlib.Core.Path.{_≡_, refl, sym, ap, _∙_, subst}
 use mathlib.Core.Bool.{true, _&&_, false≢true}
 use mathlib.Core.List.{List, List·Memᴰ, List·Memᴰ·head, List·Memᴰ·tail, Memᴰ·append-left, Memᴰ·append-right}
@@ -10,12 +10,15 @@ use Rattle.lists.specs.Lists.{Bytes}
 use Rattle.lists.proofs.ChoiceLaws.{and-holds}
 use Rattle.lists.proofs.ListLaws.{same-true}
 use Rattle.hash.specs.Sha256.{sha256}
-use Rattle.tree.specs.LogTree.{Range, splitAt, leftHalf, rightHalf, logParentString, isFull, Walk, parent, nodeCount, widthOf, Known, keptValue, stringAt, value, agrees, keptValuesMet, walkStrings}
+use Rattle.tree.specs.LogTree.{Range, splitAt, leftHalf, rightHalf, logParentString, isFull, Walk}
+use Rattle.tree.specs.LogTree.{parent, nodeCount, widthOf, Known, keptValue, stringAt, value, agrees}
+use Rattle.tree.specs.LogTree.{keptValuesMet, walkStrings}
 use Rattle.tree.proofs.CollisionLaws.{Sized, Within}
 use Rattle.tree.proofs.DigitLaws.{by-order}
 use Rattle.tree.proofs.PowerLaws.{left-half, halves-meet}
 use Rattle.tree.proofs.SubtreeLaws.{Subtree, subtree-halves}
-use Rattle.tree.proofs.HoldingLaws.{Inside, LiesIn, range-equal, inside-shown, holds-full, full-one, Lies, equal, in-left, in-right, full-in-half}
+use Rattle.tree.proofs.HoldingLaws.{Inside, LiesIn, range-equal, inside-shown, holds-full, full-one}
+use Rattle.tree.proofs.HoldingLaws.{Lies, equal, in-left, in-right, full-in-half}
 use Rattle.tree.proofs.PathLaws.{parentString, Parent, Path, at-entry, to-left, to-right, path-from}
 use Rattle.tree.proofs.WalkCaseLaws.{Walks, keeps, takes, shows, splits, walks-width}
 use Rattle.tree.proofs.WalkValueLaws.{sized-drop, value-length}
@@ -109,7 +112,8 @@ met-parent k r x y ns e =
     let (c, d) = and-holds (keptValuesMet k x ns) (keptValuesMet k y (drop (nodeCount x) ns)) b in
     (a, c, d)
 
--- A full subtree that is walked over has the value that is kept of it: it is retained, or worked out and compared.
+-- A full subtree that is walked over has the value that is kept of it: it is retained, or worked
+-- out and compared.
 pub kept-met : (k : Known) {ps : List ℕ} {r : Range} {w : Walk} → Walks (k .size) ps r w → (ns : List Bytes) → isFull (k .size) r ≡ true
     → keptValuesMet k w ns ≡ true → value k w ns ≡ keptValue k r
 unfolding value keptValuesMet
@@ -120,8 +124,9 @@ kept-met k (shows {r} h) ns i e =
     agrees-kept k r (sha256 (stringAt (k .entries) (r .start))) i (subst (λ (x : Range). agrees k x (sha256 (stringAt (k .entries) (r .start))) ≡ true) (sym q) e)
 kept-met k (splits {r} {x} {y} h a b) ns i e = agrees-kept k r (value k (parent r x y) ns) i (met-parent k r x y ns e .0)
 
--- What the kept value of a full subtree f leads down to, the value of each subtree r that holds f leads down to. A subtree that holds f is not given. If it is f
--- itself, its value is the kept one. Else it is no full subtree, so it was not retained; it splits, and f lies in one half.
+-- What the kept value of a full subtree f leads down to, the value of each subtree r that holds f
+-- leads down to. A subtree that holds f is not given. If it is f itself, its value is the kept one.
+-- Else it is no full subtree, so it was not retained; it splits, and f lies in one half.
 module _ (k : Known) (ps : List ℕ) (kept : Sized (k .values)) (n : ℕ) (S : List Bytes) (p : ℕ) (u : Bytes) (f : Range) (full : isFull (k .size) f ≡ true)
     (inside : Inside f p) (known : Path S p u f (keptValue k f)) where
   -- The value of f itself leads down as its kept value does.

@@ -8,7 +8,8 @@ use native.Mathlib.Omega.{arith}
 use lib.Dec.{eqb}
 use borrow.Author.Tests.{eq-eqb, ne-eqb}
 use Rattle.lists.specs.Choice.{choose}
-use Rattle.tree.specs.LogTree.{Range, leftHalf, rightHalf, isFull, holdsFull, isShown, retained, given, shown, parent, walk}
+use Rattle.tree.specs.LogTree.{Range, leftHalf, rightHalf, isFull, holdsFull, isShown, retained, given}
+use Rattle.tree.specs.LogTree.{shown, parent, walk}
 use Rattle.tree.proofs.PowerLaws.{halves-filled, halves-meet}
 use Rattle.tree.proofs.DigitLaws.{by-order}
 

@@ -1,4 +1,5 @@
--- The values and strings of a walk of the log tree (specs/LogTree.antt): each value is a kept one, a given node, zeros or a digest; each string is one of bytes.
+-- The values and strings of a walk of the log tree (specs/LogTree.antt): each value is a kept one,
+-- a given node, zeros or a digest; each string is one of bytes.
 use mathlib.Core.Path.{_≡_, refl, ap, _∙_}
 use mathlib.Core.Bool.{Bool, true, false, cond}
 use mathlib.Core.List.{List, [], _∷_, _++_, List·Memᴰ, List·Memᴰ·head, List·Memᴰ·tail}
@@ -14,7 +15,10 @@ use Rattle.hash.specs.Bytes.{AreBytes, bigEndian}
 use Rattle.hash.specs.Sha256.{digestLength, sha256}
 use Rattle.hash.proofs.BytesLaws.{bytes-append, bytes-zeros, bytes-bigEndian}
 use Rattle.hash.proofs.MessageLaws.{length-digest, bytes-digest}
-use Rattle.tree.specs.LogTree.{LogEntry, logLeafString, hashContent, logParentString, Range, sameRange, fullSubtrees, isFull, Walk, retained, given, shown, parent, nodeCount, widthOf, Known, zeros, valueAmong, keptValue, stringAt, value, fullValues, walkStrings}
+use Rattle.tree.specs.LogTree.{LogEntry, logLeafString, hashContent, logParentString, Range, sameRange}
+use Rattle.tree.specs.LogTree.{fullSubtrees, isFull, Walk, retained, given, shown, parent, nodeCount}
+use Rattle.tree.specs.LogTree.{widthOf, Known, zeros, valueAmong, keptValue, stringAt, value}
+use Rattle.tree.specs.LogTree.{fullValues, walkStrings}
 use Rattle.tree.proofs.CollisionLaws.{ByteStrings, Sized, Each}
 use Rattle.tree.proofs.WalkCaseLaws.{Over}
 
@@ -61,7 +65,8 @@ among-by P empty (x ∷ l) vs r h =
     choose-by P (sameRange r x) (λ _. getD vs 0 zeros) (λ _. valueAmong l (drop 1 vs) r)
     (λ _. each-first P vs empty h) (λ _. among-by P empty l (drop 1 vs) r (each-drop P 1 vs h))
 
--- What holds of zeros, of each digest, of each kept value and of each node holds of every value that a walk works out.
+-- What holds of zeros, of each digest, of each kept value and of each node holds of every value
+-- that a walk works out.
 module _ (P : Bytes → Type 0) (empty : P zeros) (digest : (x : Bytes) → P (sha256 x)) where
   -- It holds of the value of a walk.
   pub value-by : (k : Known) (w : Walk) (ns : List Bytes) → Each P (k .values) → Each P ns → P (value k w ns)
@@ -128,10 +133,10 @@ unfolding stringAt logLeafString
 bytes-leaf [] p h = tt
 bytes-leaf (e ∷ es) p h =
     choose-by AreBytes (eqb (e .position) p) (λ _. logLeafString e) (λ _. stringAt es p)
-    (λ _. bytes-append (bigEndian 8 (e .time)) (e .prefixRoot) (bytes-bigEndian 8 (e .time)) (h e (List·Memᴰ·head refl)))
+    (λ _. bytes-append (bigEndian 8 (e .timestamp)) (e .prefixRoot) (bytes-bigEndian 8 (e .timestamp)) (h e (List·Memᴰ·head refl)))
     (λ _. bytes-leaf es p (λ x m. h x (List·Memᴰ·tail m)))
 
--- A child's value behind its mark is a byte string.
+-- A child's value after its mark is a byte string.
 bytes-content : (n : ℕ) (v : Bytes) → AreBytes v → AreBytes (hashContent n v)
 unfolding hashContent
 bytes-content n v h = (mark (eqb n 1), h)
@@ -140,7 +145,8 @@ bytes-content n v h = (mark (eqb n 1), h)
     mark true = omega arith
     mark false = omega arith
 
--- Every string that a walk hashes is a byte string, where the prefix roots of the entries, the kept values and the nodes are.
+-- Every string that a walk hashes is a byte string, where the prefix roots of the entries, the kept
+-- values and the nodes are.
 pub bytes-walk : (k : Known) (w : Walk) (ns : List Bytes) → ByteEntries (k .entries) → ByteStrings (k .values) → ByteStrings ns
     → ByteStrings (walkStrings k w ns)
 unfolding walkStrings logParentString

@@ -9,10 +9,11 @@ use lib.ListN.{getD}
 use lib.Seq.{getD-drop, drop-drop}
 use Rattle.lists.specs.Lists.{Bytes, same}
 use Rattle.hash.specs.Sha256.{sha256}
-use Rattle.tree.specs.declared.log_tree.Cursor.{Cursor}
+use Rattle.tree.specs.declared.log_tree.WalkCursor.{WalkCursor}
 use Rattle.tree.specs.declared.log_tree.Walked.{Walked}
-use Rattle.tree.specs.LogTree.{LogEntry, hashContent, logParentString, Range, isFull, Walk, retained, given, shown, parent, nodeCount, widthOf, Known, zeros, keptValue, value, agrees, keptValuesMet}
-use Rattle.tree.specs.LogHead.{positions}
+use Rattle.tree.specs.LogTree.{LogEntry, hashContent, logParentString, Range, isFull, Walk, retained}
+use Rattle.tree.specs.LogTree.{given, shown, parent, nodeCount, widthOf, Known, zeros, keptValue, value}
+use Rattle.tree.specs.LogTree.{agrees, keptValuesMet}
 use Rattle.tree.specs.LogWalk.{cursorBefore, pastNode, walkedBy, nodeNext, parentBy, comparedBy}
 
 -- ---- what is kept
@@ -56,37 +57,37 @@ unfolding comparedBy agrees keptValue
 compared-entries m vs es fs r x = refl
 
 -- the next node
-pub node-made : (ns : List Bytes) (c x : Cursor) (v : Bytes) → v ≡ getD ns (c .node) zeros → x ≡ pastNode c → record { value = v; cursor = x; met = true } ≡ nodeNext ns c
+pub node-made : (ns : List Bytes) (c x : WalkCursor) (v : Bytes) → v ≡ getD ns (c .node) zeros → x ≡ pastNode c → record { value = v; cursor = x; met = true } ≡ nodeNext ns c
 unfolding nodeNext
 node-made ns c x v ev ex = rw (ev, ex) refl
 
 -- ---- what each kind of walk yields
 
-module _ (k : Known) (ns : List Bytes) (end node : ℕ) where
+module _ (text : Bytes) (k : Known) (ns : List Bytes) (end node : ℕ) where
   -- where it ends
-  pub walked-cursor : (w : Walk) (i : Walked) → i ≡ walkedBy k ns end node w → i .cursor ≡ cursorBefore (positions (k .entries)) end (node + nodeCount w)
+  pub walked-cursor : (w : Walk) (i : Walked) → i ≡ walkedBy text k ns end node w → i .cursor ≡ cursorBefore text end (node + nodeCount w)
   unfolding walkedBy
   walked-cursor w i e = ap (λ (x : Walked). x .cursor) e
 
   -- a retained subtree: its kept value, and no node
-  pub walked-retained : (r : Range) (c : Cursor) (v : Bytes) → c ≡ cursorBefore (positions (k .entries)) end node → v ≡ keptValue k r
-      → record { value = v; cursor = c; met = true } ≡ walkedBy k ns end node (retained r)
+  pub walked-retained : (r : Range) (c : WalkCursor) (v : Bytes) → c ≡ cursorBefore text end node → v ≡ keptValue k r
+      → record { value = v; cursor = c; met = true } ≡ walkedBy text k ns end node (retained r)
   unfolding walkedBy value nodeCount keptValuesMet
   walked-retained r c v ec ev = rw (ec, ev, add-zero node) refl
 
   -- a given one: the next node
-  pub walked-given : (r : Range) (c : Cursor) → c ≡ cursorBefore (positions (k .entries)) end node → nodeNext ns c ≡ walkedBy k ns end node (given r)
+  pub walked-given : (r : Range) (c : WalkCursor) → c ≡ cursorBefore text end node → nodeNext ns c ≡ walkedBy text k ns end node (given r)
   unfolding nodeNext walkedBy value nodeCount keptValuesMet
   walked-given r c ec = rw (ec, getD-drop node ns 0 zeros, add-zero node) refl
 
   -- a shown entry: its value, compared, and no node
-  pub walked-shown : (p : ℕ) (c : Cursor) (v : Bytes) (t : Bool) → c ≡ cursorBefore (positions (k .entries)) end node → v ≡ value k (shown p) ns
-      → t ≡ agrees k (record { start = p; width = 1 }) v → record { value = v; cursor = c; met = t } ≡ walkedBy k ns end node (shown p)
+  pub walked-shown : (p : ℕ) (c : WalkCursor) (v : Bytes) (t : Bool) → c ≡ cursorBefore text end node → v ≡ value k (shown p) ns
+      → t ≡ agrees k (record { start = p; width = 1 }) v → record { value = v; cursor = c; met = t } ≡ walkedBy text k ns end node (shown p)
   unfolding walkedBy value nodeCount keptValuesMet
   walked-shown p c v t ec ev et = rw (ec, et, ev, add-zero node) refl
 
-  -- a parent: what its children yield, the right one behind the left one, compared
-  pub walked-parent : (r : Range) (x y : Walk) (mid : ℕ) (i j : Walked) → i ≡ walkedBy k ns mid node x → j ≡ walkedBy k ns end (node + nodeCount x) y
-      → comparedBy k r (parentBy (widthOf x) i (widthOf y) j) ≡ walkedBy k ns end node (parent r x y)
+  -- a parent: what its children yield, the right one after the left one, compared
+  pub walked-parent : (r : Range) (x y : Walk) (mid : ℕ) (i j : Walked) → i ≡ walkedBy text k ns mid node x → j ≡ walkedBy text k ns end (node + nodeCount x) y
+      → comparedBy k r (parentBy (widthOf x) i (widthOf y) j) ≡ walkedBy text k ns end node (parent r x y)
   unfolding comparedBy parentBy walkedBy value nodeCount keptValuesMet
   walked-parent r x y mid i j ei ej = rw (ei, ej, drop-drop (nodeCount x) node ns, sym (add-assoc node (nodeCount x) (nodeCount y))) refl

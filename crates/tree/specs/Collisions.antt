@@ -1,5 +1,6 @@
--- What breaks SHA-256 (paper 01, What the contracts owe): among the strings of a list, two different ones with one value, or one whose value stands for an
--- empty place. The strings are byte strings: of lists with larger numbers SHA-256's definition has easy collisions.
+-- What breaks SHA-256 (paper 01, What the contracts owe): among the strings of a list, two
+-- different ones with one value, or one whose value stands for an empty place. The strings are byte
+-- strings: of lists with larger numbers SHA-256's definition has easy collisions.
 use mathlib.Core.Path.{_≡_}
 use mathlib.Core.Logic.{_⊎_}
 use mathlib.Core.List.{List, List·Memᴰ}

@@ -1,4 +1,5 @@
--- What the walk over a log of n entries yields (paper 01, Trees): the root, the values of the full subtrees, whether the kept values were met, the number of nodes.
+-- What the walk over a log of n entries yields (paper 01, Trees): the root, the values of the full
+-- subtrees, whether the kept values were met, the number of nodes.
 use mathlib.Core.Bool.{Bool, false}
 use mathlib.Core.List.{List, [], _∷_, map, flatten}
 use Prim.Native.Nat.{ℕ, _*_, _^_}
@@ -10,10 +11,12 @@ use Rattle.lists.specs.Lists.{Bytes, all, every, rising, runs}
 use Rattle.hash.specs.Bytes.{padded}
 use Rattle.hash.specs.Sha256.{digestLength}
 use Rattle.tree.specs.declared.log_head.LogHead.{LogHead}
-use Rattle.tree.specs.LogTree.{LogEntry, Known, Walk, walkOf, nodeCount, zeros, value, keptValuesMet, fullValues}
-use Rattle.tree.specs.LogText.{entriesAt}
+use Rattle.tree.specs.LogTree.{LogEntry, Known, Walk, walkOf, nodeCount, zeros, value, keptValuesMet}
+use Rattle.tree.specs.LogTree.{fullValues}
+use Rattle.tree.specs.LogText.{shownIn}
 
--- a log has at most 2 ^ 40 entries, so that it has at most as many full subtrees as there are levels
+-- a log has at most 2 ^ 40 entries, so that it has at most as many full subtrees as there are
+-- levels
 abbrev pub levelLimit : ℕ
 levelLimit = 40
 
@@ -21,14 +24,16 @@ levelLimit = 40
 abbrev pub blockLength : ℕ
 blockLength = levelLimit * digestLength
 
--- what is known: the values that fill a block from its front, as many as m has full subtrees, and the entries at some places of a text
-unfoldable pub knownIn : Bytes → List ℕ → ℕ → Bytes → Known
-knownIn text places m block = record { size = m; values = runs (ones m) digestLength block; entries = entriesAt text places }
+-- what is known: the values that fill a block from its front, as many as m has full subtrees, and
+-- the entries that a text shows
+unfoldable pub knownIn : Bytes → ℕ → Bytes → Known
+knownIn text m block = record { size = m; values = runs (ones m) digestLength block; entries = shownIn text }
 
 abbrev pub positions : List LogEntry → List ℕ
 positions es = map (λ (e : LogEntry). e .position) es
 
--- there is a walk: the log has entries and not too many, no fewer than m, and the shown ones rise and are in it
+-- there is a walk: the log has entries and not too many, no fewer than m, and the shown ones rise
+-- and are in it
 unfoldable pub isWalkable : ℕ → Known → Bool
 isWalkable n k =
     every
@@ -42,7 +47,8 @@ isWalkable n k =
 abbrev pub walkOver : ℕ → Known → Walk
 walkOver n k = walkOf n (k .size) (positions (k .entries))
 
--- the head of a log: its root, the block of the values of its full subtrees, and whether the kept values were met
+-- the head of a log: its root, the block of the values of its full subtrees, and whether the kept
+-- values were met
 pub record Head : Type 0 where
   pub root : Bytes
   pub values : Bytes

@@ -1,4 +1,5 @@
--- The log tree (paper 01, Trees; 001, 10.8; 004, 4.1 and 7.3): the strings of its leaves and parents, its full subtrees, and the walk from the root down.
+-- The log tree (paper 01, Trees; 001, 10.8; 004, 4.1 and 7.3): the strings of its leaves and
+-- parents, its full subtrees, and the walk from the root down.
 use mathlib.Core.Bool.{Bool, true, _&&_, _||_, not, cond}
 use mathlib.Core.List.{List, [], _∷_, _++_}
 use Prim.Native.Nat.{ℕ, zero, suc, _+_, _-_}
@@ -15,13 +16,14 @@ use Rattle.tree.specs.SearchTree.{power}
 -- 001, 10.8: a log entry, with its position
 pub record LogEntry : Type 0 where
   pub position : ℕ
-  pub time : ℕ
+  pub timestamp : ℕ
   pub prefixRoot : Bytes
 
 unfoldable pub logLeafString : LogEntry → Bytes
-logLeafString e = bigEndian 8 (e .time) ++ e .prefixRoot
+logLeafString e = bigEndian 8 (e .timestamp) ++ e .prefixRoot
 
--- 001, 10.8: hashContent of a child of so many entries: 0x00 before a leaf's value, 0x01 before a parent's
+-- 001, 10.8: hashContent of a child of so many entries: 0x00 before a leaf's value, 0x01 before a
+-- parent's
 unfoldable pub hashContent : ℕ → Bytes → Bytes
 hashContent width value = cond (eqb width 1) 0 1 ∷ value
 
@@ -42,7 +44,8 @@ sameRange x y = eqb (x .start) (y .start) && eqb (x .width) (y .width)
 unfoldable pub holds : Range → Range → Bool
 holds x y = leb (x .start) (y .start) && leb (y .start + y .width) (x .start + x .width)
 
--- 004, 4.1: the left part of a tree has as many entries as the largest power of two that is smaller than the tree
+-- 004, 4.1: the left part of a tree has as many entries as the largest power of two that is smaller
+-- than the tree
 unfoldable pub splitAt : ℕ → ℕ
 splitAt width = power (width - 1)
 
@@ -55,9 +58,13 @@ rightHalf r = record { start = r .start + splitAt (r .width); width = r .width -
 unfoldable pub fullFrom : ℕ → ℕ → ℕ → List Range
 fullFrom zero start width = []
 fullFrom (suc k) start width =
-    choose (eqb width 0) (λ _. []) (λ _. record { start = start; width = power width } ∷ fullFrom k (start + power width) (width - power width))
+    choose (eqb width 0) (λ _. []) (λ _. record {
+      start = start;
+      width = power width;
+    } ∷ fullFrom k (start + power width) (width - power width))
 
--- 001, 4.2: the full subtrees of a tree of m entries, left to right: the balanced subtrees that are as large as possible
+-- 001, 4.2: the full subtrees of a tree of m entries, left to right: the balanced subtrees that are
+-- as large as possible
 unfoldable pub fullSubtrees : ℕ → List Range
 fullSubtrees m = fullFrom m 0 m
 
@@ -78,8 +85,9 @@ pub data Walk : Type 0 where
 unfoldable pub isShown : List ℕ → Range → Bool
 isShown positions r = any (λ (p : ℕ). leb (r .start) p && ltb p (r .start + r .width)) positions
 
--- A subtree with nothing shown is retained, if it is exactly a full subtree of m; else given, if it holds none. What is left, shown or not, splits, down to
--- single entries, which are shown. The first number is at least the width.
+-- A subtree with nothing shown is retained, if it is exactly a full subtree of m; else given, if it
+-- holds none. What is left, shown or not, splits, down to single entries, which are shown. The
+-- first number is at least the width.
 unfoldable pub walk : ℕ → ℕ → List ℕ → Range → Walk
 walk zero m positions r = given r
 walk (suc k) m positions r =
@@ -107,7 +115,8 @@ widthOf (parent r x y) = r .width
 
 -- ---- values
 
--- what is known beside the nodes, which are given and taken from left to right: m, the kept values of the full subtrees of m entries, and the entries shown
+-- what is known beside the nodes, which are given and taken from left to right: m, the kept values
+-- of the full subtrees of m entries, and the entries shown
 pub record Known : Type 0 where
   pub size : ℕ
   pub values : List Bytes
@@ -134,7 +143,9 @@ unfoldable pub value : Known → Walk → List Bytes → Bytes
 value k (retained r) nodes = keptValue k r
 value k (given r) nodes = getD nodes 0 zeros
 value k (shown p) nodes = sha256 (stringAt (k .entries) p)
-value k (parent r x y) nodes = sha256 (logParentString (widthOf x) (value k x nodes) (widthOf y) (value k y (drop (nodeCount x) nodes)))
+value k (parent r x y) nodes =
+    sha256 (logParentString (widthOf x) (value k x nodes) (widthOf y)
+    (value k y (drop (nodeCount x) nodes)))
 
 -- a subtree that was worked out has the value that is kept of it, if one is
 unfoldable pub agrees : Known → Range → Bytes → Bool
@@ -146,9 +157,11 @@ keptValuesMet k (retained r) nodes = true
 keptValuesMet k (given r) nodes = true
 keptValuesMet k (shown p) nodes = agrees k (record { start = p; width = 1 }) (value k (shown p) nodes)
 keptValuesMet k (parent r x y) nodes =
-    agrees k r (value k (parent r x y) nodes) && (keptValuesMet k x nodes && keptValuesMet k y (drop (nodeCount x) nodes))
+    agrees k r (value k (parent r x y) nodes)
+    && (keptValuesMet k x nodes && keptValuesMet k y (drop (nodeCount x) nodes))
 
--- the values of the full subtrees of the n entries walked over, left to right, where entry n - 1 is shown
+-- the values of the full subtrees of the n entries walked over, left to right, where entry n - 1 is
+-- shown
 unfoldable pub fullValues : ℕ → Known → Walk → List Bytes → List Bytes
 fullValues n k (retained r) nodes = value k (retained r) nodes ∷ []
 fullValues n k (given r) nodes = value k (given r) nodes ∷ []
@@ -157,7 +170,8 @@ fullValues n k (parent r x y) nodes =
     choose (isFull n r) (λ _. value k (parent r x y) nodes ∷ [])
     (λ _. fullValues n k x nodes ++ fullValues n k y (drop (nodeCount x) nodes))
 
--- the strings hashed: a leaf's of each shown entry, a parent's of each subtree hashed from its children
+-- the strings hashed: a leaf's of each shown entry, a parent's of each subtree hashed from its
+-- children
 unfoldable pub walkStrings : Known → Walk → List Bytes → List Bytes
 walkStrings k (retained r) nodes = []
 walkStrings k (given r) nodes = []

@@ -1,4 +1,5 @@
--- The prefix tree (paper 01, Trees; 001, 10.9 and 11.2): the strings of its leaves and parents, and what a lookup shows.
+-- The prefix tree (paper 01, Trees; 001, 10.9 and 11.2): the strings of its leaves and parents, and
+-- what a lookup shows.
 use mathlib.Core.Bool.{Bool, true, _&&_, not}
 use mathlib.Core.List.{List, [], _∷_, _++_}
 use Prim.Native.Nat.{ℕ, zero, suc, _/_, _%_}
@@ -27,20 +28,21 @@ unfoldable pub bits : Bytes → List ℕ
 bits [] = []
 bits (b ∷ bs) = lowBits 8 b ++ bits bs
 
--- what stands at the place a lookup ends in: the leaf of the output looked up, with its commitment; nothing; or another leaf
+-- what stands at the place a lookup ends in: the leaf of the output looked up, with its commitment;
+-- nothing; or another leaf
 pub data Terminal : Type 0 where
-  ownLeaf : Bytes → Terminal
+  searchedLeaf : Bytes → Terminal
   emptyPlace : Terminal
   foreignLeaf : Bytes → Bytes → Terminal
 
 -- the string hashed for it, if any, and its value
 unfoldable pub terminalStrings : Bytes → Terminal → List Bytes
-terminalStrings output (ownLeaf commitment) = prefixLeafString output commitment ∷ []
+terminalStrings output (searchedLeaf commitment) = prefixLeafString output commitment ∷ []
 terminalStrings output emptyPlace = []
 terminalStrings output (foreignLeaf other commitment) = prefixLeafString other commitment ∷ []
 
 unfoldable pub terminalValue : Bytes → Terminal → Bytes
-terminalValue output (ownLeaf commitment) = sha256 (prefixLeafString output commitment)
+terminalValue output (searchedLeaf commitment) = sha256 (prefixLeafString output commitment)
 terminalValue output emptyPlace = zeros
 terminalValue output (foreignLeaf other commitment) = sha256 (prefixLeafString other commitment)
 
@@ -49,7 +51,8 @@ unfoldable pub parentOver : ℕ → Bytes → Bytes → Bytes
 parentOver zero v sibling = prefixParentString v sibling
 parentOver (suc b) v sibling = prefixParentString sibling v
 
--- the value of a subtree from that of a place in it: the bits lead down to the place, the siblings stand along them, the topmost first
+-- the value of a subtree from that of a place in it: the bits lead down to the place, the siblings
+-- stand along them, the topmost first
 unfoldable pub valueAbove : List ℕ → List Bytes → Bytes → Bytes
 valueAbove [] ss v = v
 valueAbove (b ∷ bs) [] v = v
@@ -66,10 +69,13 @@ unfoldable pub lookupRoot : Bytes → Terminal → List Bytes → Bytes
 lookupRoot output t siblings = valueAbove (bits output) siblings (terminalValue output t)
 
 unfoldable pub lookupStrings : Bytes → Terminal → List Bytes → List Bytes
-lookupStrings output t siblings = terminalStrings output t ++ stringsAbove (bits output) siblings (terminalValue output t)
+lookupStrings output t siblings =
+    terminalStrings output t ++ stringsAbove (bits output) siblings (terminalValue output t)
 
--- another leaf is another, and stands where the lookup leads: the two outputs share their first bits, as many as the depth
+-- another leaf is another, and stands where the lookup leads: the two outputs share their first
+-- bits, as many as the depth
 unfoldable pub terminalFits : Bytes → Terminal → ℕ → Bool
-terminalFits output (ownLeaf commitment) depth = true
+terminalFits output (searchedLeaf commitment) depth = true
 terminalFits output emptyPlace depth = true
-terminalFits output (foreignLeaf other commitment) depth = not (same output other) && same (take depth (bits output)) (take depth (bits other))
+terminalFits output (foreignLeaf other commitment) depth =
+    not (same output other) && same (take depth (bits output)) (take depth (bits other))

@@ -1,4 +1,5 @@
--- The search tree over the entries of a log (paper 01, Trees; 004, 4.3.1, with start 0): its root, the steps left and right, the frontier and the right paths.
+-- The search tree over the entries of a log (paper 01, Trees; 004, 4.3.1, with start 0): its root,
+-- the steps left and right, the frontier and the right paths.
 use mathlib.Core.List.{List, [], _∷_, reverse}
 use mathlib.Core.Option.{Option·getD}
 use Prim.Native.Nat.{ℕ, zero, suc, _+_, _-_, _*_, _/_, _%_, _^_}
@@ -64,9 +65,11 @@ frontierCapacity = 64
 
 unfoldable pub downTo : ℕ → ℕ → ℕ → ℕ → List ℕ
 downTo zero n p x = []
-downTo (suc k) n p x = choose (eqb x p) (λ _. []) (λ _. x ∷ downTo k n p (choose (ltb p x) (λ _. left n x) (λ _. right n x)))
+downTo (suc k) n p x =
+    choose (eqb x p) (λ _. []) (λ _. x ∷ downTo k n p (choose (ltb p x) (λ _. left n x) (λ _. right n x)))
 
--- the ancestors of the entry p in a log of n entries, from the root down; none where p is not below n
+-- the ancestors of the entry p in a log of n entries, from the root down; none where p is not below
+-- n
 unfoldable pub directPath : ℕ → ℕ → List ℕ
 directPath n p = choose (ltb p n) (λ _. downTo n n p (root n)) (λ _. [])
 

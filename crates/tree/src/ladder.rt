@@ -15,9 +15,11 @@ impl Ladder {
     // The most versions that a ladder within 32 bits has.
     pub const CAPACITY: usize = 64;
 
-    // The ladder of a version; none for 2^32 - 1, whose ladder has versions beyond 32 bits (001, 5).
+    // The ladder of a version; none for 2^32 - 1, whose ladder has versions beyond 32 bits (001,
+    // 5).
     pub fn of(version: u32) -> Ladder
-        ensures { λ r. ⌜ (r .versions ≡ padded ladderCapacity (ladderWithin version)) × (r .length ≡ length (ladderWithin version)) ⌝ }
+        ensures { λ r. ⌜ (r .versions ≡ padded ladderCapacity (ladderWithin version))
+            × (r .length ≡ length (ladderWithin version)) ⌝ }
     {
         if version == u32::MAX {
             let versions = [0u32; Ladder::CAPACITY];
@@ -30,7 +32,8 @@ impl Ladder {
     }
 }
 
-// The versions up to the first above the version asked for, which is `high`; `low` is the one before it.
+// The versions up to the first above the version asked for, which is `high`; `low` is the one
+// before it.
 struct Climb {
     versions: [u32; Ladder::CAPACITY],
     length: usize,
@@ -69,9 +72,11 @@ fn climbed(version: u32) -> Climb
 fn halved(version: u32, climb: Climb) -> Ladder
     requires { ⌜ version < 2 ^ 32 - 1 ⌝ }
     requires { ⌜ climb .versions ≡ padded ladderCapacity (take (climb .length) (ladder version)) ⌝ }
-    requires { ⌜ drop (climb .length) (ladder version) ≡ halve (climb .high) version (climb .low) (climb .high) ⌝ }
+    requires { ⌜ drop (climb .length) (ladder version)
+        ≡ halve (climb .high) version (climb .low) (climb .high) ⌝ }
     requires { ⌜ (climb .length ≤ length (ladder version)) × (climb .low < climb .high) ⌝ }
-    ensures { λ r. ⌜ (r .versions ≡ padded ladderCapacity (ladder version)) × (r .length ≡ length (ladder version)) ⌝ }
+    ensures { λ r. ⌜ (r .versions ≡ padded ladderCapacity (ladder version))
+        × (r .length ≡ length (ladder version)) ⌝ }
 {
     let mut versions = climb.versions;
     let mut length = climb.length;

@@ -2,13 +2,17 @@
 ghost use mathlib.Core.Path.{_≡_};
 ghost use mathlib.Core.List.{[]};
 ghost use lib.ListN.{length};
-ghost use Rattle.tree.specs.LogText.{entriesAt, nodesIn};
-ghost use Rattle.tree.specs.LogHead.{blockLength, positions, knownIn, isWalkable, headWith, logHead, nodesAsked};
+ghost use Rattle.tree.specs.LogText.{shownIn, nodesIn};
+ghost use Rattle.tree.specs.LogHead.{blockLength, positions, knownIn, isWalkable, headWith, logHead};
+ghost use Rattle.tree.specs.LogHead.{nodesAsked};
 ghost use Rattle.tree.specs.LogWalk.{risingBelow};
+use crate::log_text::entry_from;
+use crate::log_text::next_line;
 use crate::log_text::position_at;
-use crate::log_tree::Cursor;
+use crate::log_tree::WalkCursor;
 use crate::log_tree::spine;
 use crate::log_tree::spine_end;
+use lines::layout::Layout;
 
 // Its root, and whether the kept values were met.
 pub struct LogHead {
@@ -27,68 +31,69 @@ impl LogHead {
     pub const BLOCK: usize = 32 * LogHead::LEVELS as usize;
 }
 
-// Whether the shown positions rise and are below size.
-fn rising_below(text: &[u8], places: &[u32], size: u64) -> bool
-    ensures { λ r. ⌜ r ≡ risingBelow size (positions (entriesAt (now (text .entry)) (now (places .entry)))) ⌝ }
+// Whether the shown positions rise and are below the size.
+fn rising_below(text: &[u8], tree_size: u64) -> bool
+    ensures { λ r. ⌜ r ≡ risingBelow «tree_size» (positions (shownIn (now (text .entry)))) ⌝ }
 {
     let mut least: u64 = 0;
-    let mut i: usize = 0;
-    while i < places.len() {
-        let position = position_at(text, places[i]);
+    let mut at: usize = entry_from(text, 0);
+    while at < text.len() {
+        let position = position_at(text, at + Layout::ENTRY);
         if position < least {
             return false;
         }
-        if size <= position {
+        if tree_size <= position {
             return false;
         }
         least = position + 1;
-        i += 1;
+        at = entry_from(text, next_line(text, at));
     }
     true
 }
 
-// Whether there is a walk over size entries: the log is not empty, nor too large, nor smaller than the kept one, and the shown
-// entries rise and are in it.
-fn walkable(text: &[u8], places: &[u32], size: u64, kept_size: u64) -> bool
-    ensures { λ r. ⌜ r ≡ isWalkable size (knownIn (now (text .entry)) (now (places .entry)) «kept_size» []) ⌝ }
+// Whether there is a walk over so many entries: the log is not empty, nor too large, nor smaller
+// than the kept one, and the shown entries rise and are in it.
+fn walkable(text: &[u8], tree_size: u64, kept_size: u64) -> bool
+    ensures { λ r. ⌜ r ≡ isWalkable «tree_size» (knownIn (now (text .entry)) «kept_size» []) ⌝ }
 {
-    if size == 0 {
+    if tree_size == 0 {
         return false;
     }
-    if LogHead::LARGEST_SIZE < size {
+    if LogHead::LARGEST_SIZE < tree_size {
         return false;
     }
-    if size < kept_size {
+    if tree_size < kept_size {
         return false;
     }
-    rising_below(text, places, size)
+    rising_below(text, tree_size)
 }
 
-// The head of a log of size entries, of which those at some places of a text are shown: kept are the values of the full subtrees
-// of its first kept_size entries, and the node lines give the other values. The values of the full subtrees of all entries, left
-// to right and zeros after them, go into the block lent.
+// The head of a log of tree_size entries, of which a text shows some: kept are the values of the
+// full subtrees of its first kept_size entries, and the node lines give the other values. The
+// values of the full subtrees of all entries, left to right and zeros after them, go into the block
+// lent.
 pub fn log_head(
     text: &[u8],
-    places: &[u32],
     nodes: &[u8],
-    size: u64,
+    tree_size: u64,
     kept_size: u64,
     kept: &[u8; LogHead::BLOCK],
     values: &mut [u8; LogHead::BLOCK],
 ) -> LogHead
-    ensures { λ r. ⌜ headWith (now (values .exit)) r ≡ logHead size (knownIn (now (text .entry)) (now (places .entry)) «kept_size» (now (kept .entry))) (nodesIn (now (nodes .entry))) ⌝ }
+    ensures { λ r. ⌜ headWith (now (values .exit)) r
+        ≡ logHead «tree_size» (knownIn (now (text .entry)) «kept_size» (now (kept .entry)))
+        (nodesIn (now (nodes .entry))) ⌝ }
     ensures { λ _. ⌜ length (now (values .exit)) ≡ blockLength ⌝ }
 {
     *values = [0u8; LogHead::BLOCK];
-    if walkable(text, places, size, kept_size) {
-        let cursor = Cursor::at(text, places, 0, 0);
+    if walkable(text, tree_size, kept_size) {
+        let cursor = WalkCursor::from(text, 0, 0);
         let top = spine(
             text,
-            places,
             nodes,
             kept_size,
             kept,
-            size,
+            tree_size,
             0,
             cursor,
             values,
@@ -102,12 +107,12 @@ pub fn log_head(
 }
 
 // The number of nodes that the walk takes; 0 where there is no walk.
-pub fn nodes_asked(text: &[u8], places: &[u32], size: u64, kept_size: u64) -> u64
-    ensures { λ r. ⌜ r ≡ nodesAsked size (knownIn (now (text .entry)) (now (places .entry)) «kept_size» []) ⌝ }
+pub fn nodes_asked(text: &[u8], tree_size: u64, kept_size: u64) -> u64
+    ensures { λ r. ⌜ r ≡ nodesAsked «tree_size» (knownIn (now (text .entry)) «kept_size» []) ⌝ }
 {
-    if walkable(text, places, size, kept_size) {
-        let cursor = Cursor::at(text, places, 0, 0);
-        let end = spine_end(text, places, kept_size, size, 0, cursor);
+    if walkable(text, tree_size, kept_size) {
+        let cursor = WalkCursor::from(text, 0, 0);
+        let end = spine_end(text, kept_size, tree_size, 0, cursor);
         return end.node as u64;
     }
     0

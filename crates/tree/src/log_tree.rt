@@ -1,4 +1,5 @@
-// The walk over the log tree (paper 01, Trees): from the root down, by subtrees whose width falls at each call.
+// The walk over the log tree (paper 01, Trees): from the root down, by subtrees whose width falls
+// at each call.
 ghost use mathlib.Core.Path.{_≡_};
 ghost use mathlib.Core.Bool.{true, _&&_, cond};
 ghost use mathlib.Core.List.{[]};
@@ -8,78 +9,94 @@ ghost use lib.Dec.{ltb, eqb};
 ghost use lib.ListN.{length};
 ghost use Rattle.hash.specs.Sha256.{digestLength};
 ghost use Rattle.tree.specs.LogTree.{isFull, keptValue, agrees, shown};
-ghost use Rattle.tree.specs.LogText.{entriesAt, nodesIn};
-ghost use Rattle.tree.specs.LogHead.{levelLimit, blockLength, positions, knownIn};
-ghost use Rattle.tree.specs.LogWalk.{range, cursorAt, pastNode, Ready, Whole, Halves, StepFacts, Tail, EdgeFacts, walkedBy, endOn, walkedOn, nodeNext, parentBy, comparedBy, Filled, valuesFrom};
+ghost use Rattle.tree.specs.LogText.{nextLine, nodesIn};
+ghost use Rattle.tree.specs.LogHead.{levelLimit, blockLength, knownIn};
+ghost use Rattle.tree.specs.LogWalk.{range, cursorFrom, pastNode, Ready, Whole, Halves, SourceFacts};
+ghost use Rattle.tree.specs.LogWalk.{Tail, EdgeFacts, walkedBy, endOn, walkedOn, nodeNext, parentBy};
+ghost use Rattle.tree.specs.LogWalk.{comparedBy, Filled, valuesFrom};
+use crate::log_text::entry_from;
 use crate::log_text::leaf_at;
+use crate::log_text::next_line;
 use crate::log_text::node_at;
 use crate::log_text::position_at;
 use crate::log_text::stored_at;
 use crate::search_tree::power;
 use hash::strings::digest_66;
+use lines::layout::Layout;
 use lines::part::equal;
 
 // The bytes of a value.
 const VALUE: usize = 32;
 
-// Where the walk stands: how many shown entries and nodes are passed, and the position of the next shown entry.
-pub struct Cursor {
-    pub shown: usize,
+// Where the walk stands: where the next shown entry's line begins, or the text's end, and its
+// position; and how many nodes are passed.
+pub struct WalkCursor {
+    pub at: usize,
     pub position: u64,
     pub node: usize,
 }
 
-impl Cursor {
+impl WalkCursor {
     // The position where no shown entry is left.
     pub const NONE: u64 = u64::MAX;
 
-    // So many shown entries and so many nodes passed.
-    pub(crate) fn at(text: &[u8], places: &[u32], shown: usize, node: usize) -> Cursor
-        ensures { λ r. ⌜ r ≡ cursorAt (positions (entriesAt (now (text .entry)) (now (places .entry)))) shown node ⌝ }
+    // The first entry line from a line's start on comes next, and so many nodes are passed.
+    pub(crate) fn from(text: &[u8], start: usize, node: usize) -> WalkCursor
+        ensures { λ r. ⌜ r ≡ cursorFrom (now (text .entry)) start node ⌝ }
     {
-        if shown < places.len() {
-            let position = position_at(text, places[shown]);
-            return Cursor {
-                shown,
-                position,
-                node,
-            };
+        let at = entry_from(text, start);
+        if at < text.len() {
+            let position = position_at(text, at + Layout::ENTRY);
+            return WalkCursor { at, position, node };
         }
-        Cursor {
-            shown,
-            position: Cursor::NONE,
+        WalkCursor {
+            at,
+            position: WalkCursor::NONE,
             node,
         }
     }
 
+    // One shown entry more passed.
+    fn past_entry(self, text: &[u8]) -> WalkCursor
+        requires { ⌜ self .at < length (now text) ⌝ }
+        ensures { λ r. ⌜ r ≡ cursorFrom (now (text .entry)) (nextLine (now (text .entry)) (self .at))
+            (self .node) ⌝ }
+    {
+        let at = self.at;
+        let node = self.node;
+        WalkCursor::from(text, next_line(text, at), node)
+    }
+
     // One node more passed.
-    fn past_node(self) -> Cursor
+    fn past_node(self) -> WalkCursor
         requires { ⌜ self .node ≤ 2 ^ levelLimit ⌝ }
         ensures { λ r. ⌜ r ≡ pastNode self ⌝ }
     {
-        Cursor {
-            shown: self.shown,
+        WalkCursor {
+            at: self.at,
             position: self.position,
             node: self.node + 1,
         }
     }
 }
 
-// How a subtree is worked out: its value is kept, or is the next node; it is a shown entry, or has two halves.
-pub enum Step {
+// How a subtree is worked out: its value is kept, or is the next node; it is a shown entry, or has
+// two halves.
+pub enum Source {
     Retained,
     Given,
     Shown,
     Parent,
 }
 
-// Whether a whole block is a full subtree of size entries: the last one of its width, and the left one of its pair.
-fn is_full(size: u64, start: u64, width: u64) -> bool
+// Whether a whole block is a full subtree of kept_size entries: the last one of its width, and the
+// left one of its pair.
+fn is_full(kept_size: u64, start: u64, width: u64) -> bool
     requires { ⌜ Whole start width ⌝ }
-    ensures { λ r. ⌜ r ≡ isFull size (range start width) ⌝ }
+    ensures { λ r. ⌜ r ≡ isFull «kept_size» (range start width) ⌝ }
 {
     let number = start / width;
-    if size / width == number + 1 {
+    if kept_size / width == number + 1 {
         number % 2 == 0
     } else {
         false
@@ -87,67 +104,69 @@ fn is_full(size: u64, start: u64, width: u64) -> bool
 }
 
 // The step at a whole block, where the next shown entry has a position.
-fn step_at(size: u64, start: u64, width: u64, position: u64) -> Step
+fn source_at(kept_size: u64, start: u64, width: u64, position: u64) -> Source
     requires { ⌜ Whole start width ⌝ }
-    ensures { λ r. ⌜ StepFacts (ltb position (start + width)) size (range start width) r ⌝ }
+    ensures { λ r. ⌜ SourceFacts (ltb position (start + width)) «kept_size» (range start width) r ⌝ }
 {
     let end = start + width;
     if position < end {
         return if width == 1 {
-            Step::Shown
+            Source::Shown
         } else {
-            Step::Parent
+            Source::Parent
         };
     }
-    if is_full(size, start, width) {
-        return Step::Retained;
+    if is_full(kept_size, start, width) {
+        return Source::Retained;
     }
-    if size <= start {
-        return Step::Given;
+    if kept_size <= start {
+        return Source::Given;
     }
-    if end <= size {
-        Step::Given
+    if end <= kept_size {
+        Source::Given
     } else {
-        Step::Parent
+        Source::Parent
     }
 }
 
-// What the walk over a subtree yields: its value, where the walk then stands, and whether the kept values were met.
+// What the walk over a subtree yields: its value, where the walk then stands, and whether the kept
+// values were met.
 pub struct Walked {
     pub value: [u8; 32],
-    pub cursor: Cursor,
+    pub cursor: WalkCursor,
     pub met: bool,
 }
 
 // The kept value of a full subtree: before it stand those of wider ones.
-fn kept_value(size: u64, kept: &[u8], start: u64, width: u64) -> [u8; 32]
-    requires { ⌜ Whole start width × (isFull size (range start width) ≡ true) ⌝ }
-    requires { ⌜ (size ≤ 2 ^ levelLimit) × (length (now kept) ≡ blockLength) ⌝ }
-    ensures { λ r. ⌜ r ≡ keptValue (knownIn [] [] size (now (kept .entry))) (range start width) ⌝ }
+fn kept_value(kept_size: u64, kept: &[u8], start: u64, width: u64) -> [u8; 32]
+    requires { ⌜ Whole start width × (isFull «kept_size» (range start width) ≡ true) ⌝ }
+    requires { ⌜ («kept_size» ≤ 2 ^ levelLimit) × (length (now kept) ≡ blockLength) ⌝ }
+    ensures { λ r. ⌜ r ≡ keptValue (knownIn [] «kept_size» (now (kept .entry))) (range start width) ⌝ }
 {
-    stored_at(kept, u64::count_ones(size / (2 * width)) as usize)
+    stored_at(kept, u64::count_ones(kept_size / (2 * width)) as usize)
 }
 
 // Whether a value that was worked out is the one that is kept, if one is.
-fn is_met(size: u64, kept: &[u8], start: u64, width: u64, value: [u8; 32]) -> bool
-    requires { ⌜ Whole start width × (size ≤ 2 ^ levelLimit) × (length (now kept) ≡ blockLength) ⌝ }
-    ensures { λ r. ⌜ r ≡ agrees (knownIn [] [] size (now (kept .entry))) (range start width) value ⌝ }
+fn is_met(kept_size: u64, kept: &[u8], start: u64, width: u64, value: [u8; 32]) -> bool
+    requires { ⌜ Whole start width × («kept_size» ≤ 2 ^ levelLimit) × (length (now kept) ≡ blockLength) ⌝ }
+    ensures { λ r. ⌜ r ≡ agrees (knownIn [] «kept_size» (now (kept .entry))) (range start width) value ⌝ }
 {
-    if is_full(size, start, width) {
-        let v = kept_value(size, kept, start, width);
+    if is_full(kept_size, start, width) {
+        let v = kept_value(kept_size, kept, start, width);
         return equal(&value, &v);
     }
     true
 }
 
 // The same of a single entry: a value is kept of it only where it is the last one of an odd number.
-fn is_entry_met(size: u64, kept: &[u8], start: u64, value: [u8; 32]) -> bool
-    requires { ⌜ (start < 2 ^ levelLimit) × (size ≤ 2 ^ levelLimit) × (length (now kept) ≡ blockLength) ⌝ }
-    ensures { λ r. ⌜ r ≡ agrees (knownIn [] [] size (now (kept .entry))) (range start 1) value ⌝ }
+fn is_entry_met(kept_size: u64, kept: &[u8], start: u64, value: [u8; 32]) -> bool
+    requires { ⌜ (start < 2 ^ levelLimit) × («kept_size» ≤ 2 ^ levelLimit)
+        × (length (now kept) ≡ blockLength) ⌝ }
+    ensures { λ r. ⌜ r ≡ agrees (knownIn [] «kept_size» (now (kept .entry))) (range start 1) value ⌝ }
 {
-    if start + 1 == size {
+    if start + 1 == kept_size {
         if start % 2 == 0 {
-            let last = kept_value(size, kept, start, 1);
+            let last = kept_value(kept_size, kept, start, 1);
             return equal(&value, &last);
         }
     }
@@ -155,7 +174,7 @@ fn is_entry_met(size: u64, kept: &[u8], start: u64, value: [u8; 32]) -> bool
 }
 
 // The next node.
-fn next_node(nodes: &[u8], cursor: Cursor) -> Walked
+fn next_node(nodes: &[u8], cursor: WalkCursor) -> Walked
     requires { ⌜ cursor .node ≤ 2 ^ levelLimit ⌝ }
     ensures { λ r. ⌜ r ≡ nodeNext (nodesIn (now (nodes .entry))) cursor ⌝ }
 {
@@ -168,21 +187,17 @@ fn next_node(nodes: &[u8], cursor: Cursor) -> Walked
 }
 
 // A shown entry, which the cursor is at.
-fn shown_entry(
-    text: &[u8],
-    places: &[u32],
-    size: u64,
-    kept: &[u8],
-    start: u64,
-    cursor: Cursor,
-) -> Walked
-    requires { ⌜ Ready (positions (entriesAt (now text) (now places))) size start cursor × (start < 2 ^ levelLimit) × (cursor .position < start + 1) × (length (now kept) ≡ blockLength) ⌝ }
-    ensures { λ r. ⌜ r ≡ walkedBy (knownIn (now (text .entry)) (now (places .entry)) size (now (kept .entry))) [] (start + 1) (cursor .node) (shown start) ⌝ }
+fn shown_entry(text: &[u8], kept_size: u64, kept: &[u8], start: u64, cursor: WalkCursor) -> Walked
+    requires { ⌜ Ready (now text) «kept_size» start cursor × (start < 2 ^ levelLimit)
+        × (cursor .position < start + 1) × (length (now kept) ≡ blockLength) ⌝ }
+    ensures { λ r. ⌜ r ≡ walkedBy (now (text .entry))
+        (knownIn (now (text .entry)) «kept_size» (now (kept .entry))) [] (start + 1) (cursor .node)
+        (shown start) ⌝ }
 {
-    let i = cursor.shown;
-    let value = leaf_at(text, places[i]);
-    let met = is_entry_met(size, kept, start, value);
-    let next = Cursor::at(text, places, i + 1, cursor.node);
+    let at = cursor.at;
+    let value = leaf_at(text, at + Layout::ENTRY);
+    let met = is_entry_met(kept_size, kept, start, value);
+    let next = cursor.past_entry(text);
     Walked {
         value,
         cursor: next,
@@ -190,7 +205,8 @@ fn shown_entry(
     }
 }
 
-// The byte before a child's value in its parent's string: 0x00 where the child is a leaf, 0x01 where it is a parent (001, 10.8).
+// The byte before a child's value in its parent's string: 0x00 where the child is a leaf, 0x01
+// where it is a parent (001, 10.8).
 fn content_mark(width: u64) -> u8
     ensures { λ r. ⌜ r ≡ cond (eqb width 1) 0 1 ⌝ }
 {
@@ -204,20 +220,31 @@ fn both(a: bool, b: bool) -> bool
     if a { b } else { false }
 }
 
-// Whether the value of a parent is the one that is kept, if one is: only of a whole block, whose halves are equal, a value is kept.
-fn is_parent_met(size: u64, kept: &[u8], start: u64, half: u64, rest: u64, value: [u8; 32]) -> bool
-    requires { ⌜ Halves size start half rest × (size ≤ 2 ^ levelLimit) × (length (now kept) ≡ blockLength) ⌝ }
-    ensures { λ r. ⌜ r ≡ agrees (knownIn [] [] size (now (kept .entry))) (range start (half + rest)) value ⌝ }
+// Whether the value of a parent is the one that is kept, if one is: only of a whole block, whose
+// halves are equal, a value is kept.
+fn is_parent_met(
+    kept_size: u64,
+    kept: &[u8],
+    start: u64,
+    half: u64,
+    rest: u64,
+    value: [u8; 32],
+) -> bool
+    requires { ⌜ Halves «kept_size» start half rest × («kept_size» ≤ 2 ^ levelLimit)
+        × (length (now kept) ≡ blockLength) ⌝ }
+    ensures { λ r. ⌜ r ≡ agrees (knownIn [] «kept_size» (now (kept .entry))) (range start (half + rest))
+        value ⌝ }
 {
     if rest == half {
-        return is_met(size, kept, start, half + rest, value);
+        return is_met(kept_size, kept, start, half + rest, value);
     }
     true
 }
 
-// A parent, of its left child of half as many entries as a block and its right child of the rest, compared with its kept value, if there is one.
+// A parent, of its left child of half as many entries as a block and its right child of the rest,
+// compared with its kept value, if there is one.
 fn joined(
-    size: u64,
+    kept_size: u64,
     kept: &[u8],
     start: u64,
     half: u64,
@@ -225,13 +252,15 @@ fn joined(
     rest: u64,
     right: Walked,
 ) -> Walked
-    requires { ⌜ Halves size start half rest × (size ≤ 2 ^ levelLimit) × (length (now kept) ≡ blockLength) ⌝ }
-    ensures { λ r. ⌜ r ≡ comparedBy (knownIn [] [] size (now (kept .entry))) (range start (half + rest)) (parentBy half left rest right) ⌝ }
+    requires { ⌜ Halves «kept_size» start half rest × («kept_size» ≤ 2 ^ levelLimit)
+        × (length (now kept) ≡ blockLength) ⌝ }
+    ensures { λ r. ⌜ r ≡ comparedBy (knownIn [] «kept_size» (now (kept .entry)))
+        (range start (half + rest)) (parentBy half left rest right) ⌝ }
 {
     let l = left.value;
     let r = right.value;
     let value = digest_66(content_mark(half), l, content_mark(rest), r);
-    let met = is_parent_met(size, kept, start, half, rest, value);
+    let met = is_parent_met(kept_size, kept, start, half, rest, value);
     let below = both(left.met, right.met);
     let cursor = right.cursor;
     Walked {
@@ -244,34 +273,36 @@ fn joined(
 // The walk over a whole block.
 fn subtree(
     text: &[u8],
-    places: &[u32],
     nodes: &[u8],
-    size: u64,
+    kept_size: u64,
     kept: &[u8],
     start: u64,
     width: u64,
-    cursor: Cursor,
+    cursor: WalkCursor,
 ) -> Walked
-    requires { ⌜ Whole start width × Ready (positions (entriesAt (now text) (now places))) size start cursor × (length (now kept) ≡ blockLength) ⌝ }
-    ensures { λ r. ⌜ r ≡ walkedOn (knownIn (now (text .entry)) (now (places .entry)) size (now (kept .entry))) (nodesIn (now (nodes .entry))) (cursor .node) (range start width) ⌝ }
+    requires { ⌜ Whole start width × Ready (now text) «kept_size» start cursor
+        × (length (now kept) ≡ blockLength) ⌝ }
+    ensures { λ r. ⌜ r ≡ walkedOn (now (text .entry))
+        (knownIn (now (text .entry)) «kept_size» (now (kept .entry))) (nodesIn (now (nodes .entry)))
+        (cursor .node) (range start width) ⌝ }
 {
-    match step_at(size, start, width, cursor.position) {
-        Step::Retained => {
-            let value = kept_value(size, kept, start, width);
+    match source_at(kept_size, start, width, cursor.position) {
+        Source::Retained => {
+            let value = kept_value(kept_size, kept, start, width);
             Walked {
                 value,
                 cursor,
                 met: true,
             }
         }
-        Step::Given => next_node(nodes, cursor),
-        Step::Shown => shown_entry(text, places, size, kept, start, cursor),
-        Step::Parent => {
+        Source::Given => next_node(nodes, cursor),
+        Source::Shown => shown_entry(text, kept_size, kept, start, cursor),
+        Source::Parent => {
             let half = width / 2;
-            let left = subtree(text, places, nodes, size, kept, start, half, cursor);
+            let left = subtree(text, nodes, kept_size, kept, start, half, cursor);
             let middle = left.cursor;
-            let right = subtree(text, places, nodes, size, kept, start + half, half, middle);
-            joined(size, kept, start, half, left, half, right)
+            let right = subtree(text, nodes, kept_size, kept, start + half, half, middle);
+            joined(kept_size, kept, start, half, left, half, right)
         }
     }
 }
@@ -279,31 +310,29 @@ fn subtree(
 // The same walk for where it ends alone.
 fn subtree_end(
     text: &[u8],
-    places: &[u32],
-    size: u64,
+    kept_size: u64,
     start: u64,
     width: u64,
-    cursor: Cursor,
-) -> Cursor
-    requires { ⌜ Whole start width × Ready (positions (entriesAt (now text) (now places))) size start cursor ⌝ }
-    ensures { λ r. ⌜ r ≡ endOn (knownIn (now (text .entry)) (now (places .entry)) size []) (cursor .node) (range start width) ⌝ }
+    cursor: WalkCursor,
+) -> WalkCursor
+    requires { ⌜ Whole start width × Ready (now text) «kept_size» start cursor ⌝ }
+    ensures { λ r. ⌜ r ≡ endOn (now (text .entry)) (knownIn (now (text .entry)) «kept_size» [])
+        (cursor .node) (range start width) ⌝ }
 {
-    let shown = cursor.shown;
-    let node = cursor.node;
-    match step_at(size, start, width, cursor.position) {
-        Step::Retained => cursor,
-        Step::Given => cursor.past_node(),
-        Step::Shown => Cursor::at(text, places, shown + 1, node),
-        Step::Parent => {
+    match source_at(kept_size, start, width, cursor.position) {
+        Source::Retained => cursor,
+        Source::Given => cursor.past_node(),
+        Source::Shown => cursor.past_entry(text),
+        Source::Parent => {
             let half = width / 2;
-            let middle = subtree_end(text, places, size, start, half, cursor);
-            subtree_end(text, places, size, start + half, half, middle)
+            let middle = subtree_end(text, kept_size, start, half, cursor);
+            subtree_end(text, kept_size, start + half, half, middle)
         }
     }
 }
 
-// What the entries from start on up to n are, which begin with a full subtree of so many as width: that alone, the next node,
-// or that and more, in two.
+// What the entries from start on up to tree_size are, which begin with a full subtree of so many as
+// width: that alone, the next node, or that and more, in two.
 pub enum Edge {
     Block,
     Node,
@@ -311,23 +340,28 @@ pub enum Edge {
 }
 
 // Which of these, where the next shown entry has a position.
-fn edge_at(size: u64, n: u64, start: u64, width: u64, position: u64) -> Edge
-    requires { ⌜ start + width ≤ n ⌝ }
-    ensures { λ r. ⌜ EdgeFacts size n start width position r ⌝ }
+fn edge_at(kept_size: u64, tree_size: u64, start: u64, width: u64, position: u64) -> Edge
+    requires { ⌜ start + width ≤ «tree_size» ⌝ }
+    ensures { λ r. ⌜ EdgeFacts «kept_size» «tree_size» start width position r ⌝ }
 {
-    if start + width == n {
+    if start + width == tree_size {
         return Edge::Block;
     }
-    if position < n {
+    if position < tree_size {
         return Edge::Cut;
     }
-    if size <= start { Edge::Node } else { Edge::Cut }
+    if kept_size <= start {
+        Edge::Node
+    } else {
+        Edge::Cut
+    }
 }
 
 // Puts a value into a block of values.
 fn put_value(block: &mut [u8], i: usize, value: [u8; 32])
     requires { ⌜ (length (now block) ≡ blockLength) × (i < levelLimit) ⌝ }
-    ensures { λ _. ⌜ (length value ≡ digestLength) × Filled i (now (block .entry)) (now (block .exit)) value ⌝ }
+    ensures { λ _. ⌜ (length value ≡ digestLength)
+        × Filled i (now (block .entry)) (now (block .exit)) value ⌝ }
 {
     let at = VALUE * i;
     for j in 0..VALUE {
@@ -335,37 +369,42 @@ fn put_value(block: &mut [u8], i: usize, value: [u8; 32])
     }
 }
 
-// The walk over the entries from start on up to n. The values of the full subtrees of n among them go into a block, behind so
-// many others.
+// The walk over the entries from start on up to tree_size. The values of the full subtrees of all
+// entries that are among them go into a block, after so many others.
 pub(crate) fn spine(
     text: &[u8],
-    places: &[u32],
     nodes: &[u8],
-    size: u64,
+    kept_size: u64,
     kept: &[u8],
-    n: u64,
+    tree_size: u64,
     start: u64,
-    cursor: Cursor,
+    cursor: WalkCursor,
     block: &mut [u8],
     count: usize,
 ) -> Walked
-    requires { ⌜ Tail n start × Ready (positions (entriesAt (now text) (now places))) size start cursor × (size ≤ n) ⌝ }
-    requires { ⌜ (length (now kept) ≡ blockLength) × (length (now block) ≡ blockLength) × (count + ones (n - start) ≤ levelLimit) ⌝ }
-    ensures { λ r. ⌜ r ≡ walkedOn (knownIn (now (text .entry)) (now (places .entry)) size (now (kept .entry))) (nodesIn (now (nodes .entry))) (cursor .node) (range start (n - start)) ⌝ }
-    ensures { λ _. ⌜ Filled count (now (block .entry)) (now (block .exit)) (valuesFrom n (knownIn (now (text .entry)) (now (places .entry)) size (now (kept .entry))) (nodesIn (now (nodes .entry))) start (cursor .node)) ⌝ }
+    requires { ⌜ Tail «tree_size» start × Ready (now text) «kept_size» start cursor
+        × («kept_size» ≤ «tree_size») ⌝ }
+    requires { ⌜ (length (now kept) ≡ blockLength) × (length (now block) ≡ blockLength)
+        × (count + ones («tree_size» - start) ≤ levelLimit) ⌝ }
+    ensures { λ r. ⌜ r ≡ walkedOn (now (text .entry))
+        (knownIn (now (text .entry)) «kept_size» (now (kept .entry))) (nodesIn (now (nodes .entry)))
+        (cursor .node) (range start («tree_size» - start)) ⌝ }
+    ensures { λ _. ⌜ Filled count (now (block .entry)) (now (block .exit))
+        (valuesFrom «tree_size» (knownIn (now (text .entry)) «kept_size» (now (kept .entry)))
+        (nodesIn (now (nodes .entry))) start (cursor .node)) ⌝ }
 {
-    let width = power(n - start);
-    match edge_at(size, n, start, width, cursor.position) {
+    let width = power(tree_size - start);
+    match edge_at(kept_size, tree_size, start, width, cursor.position) {
         Edge::Block => {
             if width == 1 {
-                if cursor.position < n {
-                    let entry = shown_entry(text, places, size, kept, start, cursor);
+                if cursor.position < tree_size {
+                    let entry = shown_entry(text, kept_size, kept, start, cursor);
                     let value = entry.value;
                     put_value(block, count, value);
                     return entry;
                 }
             }
-            let whole = subtree(text, places, nodes, size, kept, start, width, cursor);
+            let whole = subtree(text, nodes, kept_size, kept, start, width, cursor);
             let value = whole.value;
             put_value(block, count, value);
             whole
@@ -377,24 +416,23 @@ pub(crate) fn spine(
             given
         }
         Edge::Cut => {
-            let left = subtree(text, places, nodes, size, kept, start, width, cursor);
+            let left = subtree(text, nodes, kept_size, kept, start, width, cursor);
             let value = left.value;
             put_value(block, count, value);
             let next = start + width;
             let middle = left.cursor;
             let right = spine(
                 text,
-                places,
                 nodes,
-                size,
+                kept_size,
                 kept,
-                n,
+                tree_size,
                 next,
                 middle,
                 block,
                 count + 1,
             );
-            joined(size, kept, start, width, left, n - next, right)
+            joined(kept_size, kept, start, width, left, tree_size - next, right)
         }
     }
 }
@@ -402,22 +440,23 @@ pub(crate) fn spine(
 // The same walk for where it ends alone.
 pub(crate) fn spine_end(
     text: &[u8],
-    places: &[u32],
-    size: u64,
-    n: u64,
+    kept_size: u64,
+    tree_size: u64,
     start: u64,
-    cursor: Cursor,
-) -> Cursor
-    requires { ⌜ Tail n start × Ready (positions (entriesAt (now text) (now places))) size start cursor × (size ≤ n) ⌝ }
-    ensures { λ r. ⌜ r ≡ endOn (knownIn (now (text .entry)) (now (places .entry)) size []) (cursor .node) (range start (n - start)) ⌝ }
+    cursor: WalkCursor,
+) -> WalkCursor
+    requires { ⌜ Tail «tree_size» start × Ready (now text) «kept_size» start cursor
+        × («kept_size» ≤ «tree_size») ⌝ }
+    ensures { λ r. ⌜ r ≡ endOn (now (text .entry)) (knownIn (now (text .entry)) «kept_size» [])
+        (cursor .node) (range start («tree_size» - start)) ⌝ }
 {
-    let width = power(n - start);
-    match edge_at(size, n, start, width, cursor.position) {
-        Edge::Block => subtree_end(text, places, size, start, width, cursor),
+    let width = power(tree_size - start);
+    match edge_at(kept_size, tree_size, start, width, cursor.position) {
+        Edge::Block => subtree_end(text, kept_size, start, width, cursor),
         Edge::Node => cursor.past_node(),
         Edge::Cut => {
-            let middle = subtree_end(text, places, size, start, width, cursor);
-            spine_end(text, places, size, n, start + width, middle)
+            let middle = subtree_end(text, kept_size, start, width, cursor);
+            spine_end(text, kept_size, tree_size, start + width, middle)
         }
     }
 }

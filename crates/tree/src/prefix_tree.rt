@@ -6,20 +6,21 @@ ghost use Rattle.hash.specs.Sha256.{sha256};
 ghost use Rattle.tree.specs.LogText.{valuesIn};
 ghost use Rattle.tree.specs.PrefixTree.{bits, parentOver, terminalValue, lookupRoot, terminalFits};
 ghost use Rattle.tree.specs.Lookups.{outputBits, terminalOf};
-use crate::log_text::VALUE_DIGITS;
 use crate::log_text::sibling_at;
 use hash::strings::digest_65;
+use lines::layout::Layout;
 
-// What stands at the place a lookup ends in: the leaf of the output looked up, nothing, or another leaf.
-pub enum Place {
-    OwnLeaf,
+// What stands at the place a lookup ends in: the leaf of the output looked up, nothing, or another
+// leaf.
+pub enum TerminalKind {
+    SearchedLeaf,
     Empty,
     OtherLeaf,
 }
 
 // It, with its output where it is another leaf, and its commitment where it is a leaf.
 pub struct Terminal {
-    pub place: Place,
+    pub kind: TerminalKind,
     pub output: [u8; 32],
     pub commitment: [u8; 32],
 }
@@ -44,13 +45,13 @@ fn bit_at(output: [u8; 32], i: usize) -> u8
 fn terminal_value(output: [u8; 32], terminal: Terminal) -> [u8; 32]
     ensures { λ r. ⌜ r ≡ terminalValue output (terminalOf terminal) ⌝ }
 {
-    let place = terminal.place;
+    let kind = terminal.kind;
     let other = terminal.output;
     let commitment = terminal.commitment;
-    match place {
-        Place::OwnLeaf => digest_65(LEAF, output, commitment),
-        Place::Empty => [0u8; 32],
-        Place::OtherLeaf => digest_65(LEAF, other, commitment),
+    match kind {
+        TerminalKind::SearchedLeaf => digest_65(LEAF, output, commitment),
+        TerminalKind::Empty => [0u8; 32],
+        TerminalKind::OtherLeaf => digest_65(LEAF, other, commitment),
     }
 }
 
@@ -69,11 +70,12 @@ fn parent_value(bit: u8, value: [u8; 32], sibling: [u8; 32]) -> [u8; 32]
 fn sibling_count(siblings: &[u8]) -> usize
     ensures { λ r. ⌜ r ≡ min (length (valuesIn (now (siblings .entry)))) outputBits ⌝ }
 {
-    let n = siblings.len() / VALUE_DIGITS;
+    let n = siblings.len() / Layout::DIGITS;
     if n < OUTPUT_BITS { n } else { OUTPUT_BITS }
 }
 
-// The root that a lookup leads to (001, 11.2): siblings are the hex digits of the values along the way, joined, the root's first.
+// The root that a lookup leads to (001, 11.2): siblings are the hex digits of the values along the
+// way, joined, the root's first.
 pub fn lookup_root(output: [u8; 32], terminal: Terminal, siblings: &[u8]) -> [u8; 32]
     ensures { λ r. ⌜ r ≡ lookupRoot output (terminalOf terminal) (valuesIn (now (siblings .entry))) ⌝ }
 {
@@ -103,18 +105,19 @@ fn shared_bits(a: [u8; 32], b: [u8; 32]) -> usize
     n
 }
 
-// Whether what stands at the place fits a lookup of so many siblings (001, 11.2): another leaf has another output, which shares as many first bits.
+// Whether what stands at the place fits a lookup of so many siblings (001, 11.2): another leaf has
+// another output, which shares as many first bits.
 pub fn terminal_fits(output: [u8; 32], terminal: Terminal, depth: usize) -> bool
     ensures { λ r. ⌜ r ≡ terminalFits output (terminalOf terminal) depth ⌝ }
 {
-    let place = terminal.place;
+    let kind = terminal.kind;
     let other = terminal.output;
-    match place {
-        Place::OtherLeaf => {
+    match kind {
+        TerminalKind::OtherLeaf => {
             let shared = shared_bits(output, other);
             shared < OUTPUT_BITS && depth <= shared
         }
-        Place::OwnLeaf => true,
-        Place::Empty => true,
+        TerminalKind::SearchedLeaf => true,
+        TerminalKind::Empty => true,
     }
 }

@@ -1,11 +1,12 @@
-// Lookups in a prefix tree of three outputs: one begins with the bits 00, one with 01, one with 10, and nothing stands at 11.
+// Lookups in a prefix tree of three outputs: one begins with the bits 00, one with 01, one with 10,
+// and nothing stands at 11.
 use crate::line::answer;
 use crate::line::end;
 use crate::line::value;
 use crate::line::word;
 use hash::sha256::digest;
-use tree::prefix_tree::Place;
 use tree::prefix_tree::Terminal;
+use tree::prefix_tree::TerminalKind;
 use tree::prefix_tree::lookup_root;
 use tree::prefix_tree::terminal_fits;
 
@@ -19,15 +20,15 @@ fn output(first: u8) -> [u8; 32] {
 
 fn leaf(output: [u8; 32], commitment: [u8; 32]) -> Terminal {
     Terminal {
-        place: Place::OtherLeaf,
+        kind: TerminalKind::OtherLeaf,
         output,
         commitment,
     }
 }
 
-fn own_leaf(commitment: [u8; 32]) -> Terminal {
+fn searched_leaf(commitment: [u8; 32]) -> Terminal {
     Terminal {
-        place: Place::OwnLeaf,
+        kind: TerminalKind::SearchedLeaf,
         output: [0u8; 32],
         commitment,
     }
@@ -35,7 +36,7 @@ fn own_leaf(commitment: [u8; 32]) -> Terminal {
 
 fn empty() -> Terminal {
     Terminal {
-        place: Place::Empty,
+        kind: TerminalKind::Empty,
         output: [0u8; 32],
         commitment: [0u8; 32],
     }
@@ -67,13 +68,13 @@ pub(crate) fn in_one_tree() {
     leads(
         b"in",
         output(0x00),
-        own_leaf(digest(b"commitment 0")),
+        searched_leaf(digest(b"commitment 0")),
         right_and_second,
     );
     leads(
         b"in-other-commitment",
         output(0x00),
-        own_leaf(digest(b"commitment 1")),
+        searched_leaf(digest(b"commitment 1")),
         right_and_second,
     );
     leads(b"no", output(0xc0), empty(), left_and_third);
@@ -94,26 +95,27 @@ pub(crate) fn other_leaves() {
     fits(b"nl-itself", output(0x80), leaf(output(0x80), third), 2);
 }
 
-// Lookups without siblings, with as many as a response may have, and with more than an output has bits.
+// Lookups without siblings, with as many as a response may have, and with more than an output has
+// bits.
 pub(crate) fn depths() {
     let siblings = [b'0'; 16448];
     leads(
         b"in-depth-0",
         output(0x00),
-        own_leaf(digest(b"commitment 0")),
+        searched_leaf(digest(b"commitment 0")),
         b"",
     );
     leads(b"no-depth-0", output(0x00), empty(), b"-");
     leads(
         b"in-depth-255",
         output(0x00),
-        own_leaf(digest(b"commitment 0")),
+        searched_leaf(digest(b"commitment 0")),
         &siblings[0..16320],
     );
     leads(
         b"in-depth-257",
         output(0x00),
-        own_leaf(digest(b"commitment 0")),
+        searched_leaf(digest(b"commitment 0")),
         &siblings,
     );
 }

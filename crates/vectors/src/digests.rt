@@ -1,4 +1,5 @@
-// SHA-256: the examples that NIST publishes with FIPS 180-4, and messages whose length stands at a border of the padding.
+// SHA-256: the examples that NIST publishes with FIPS 180-4, and messages whose length stands at a
+// border of the padding.
 use crate::line::show;
 use hash::hasher::Hasher;
 use hash::sha256::digest;

@@ -1,5 +1,6 @@
-// Runs the hash layer on published vectors and on lengths at which the padding changes, and writes a line for each: its name and the digest or code.
-// What must be written is the file stdout beside src/.
+// Runs the hash layer on published vectors and on lengths at which the padding changes, and writes
+// a line for each: its name and the digest or code. What must be written is the file stdout beside
+// src/.
 mod codes;
 mod digests;
 mod line;

@@ -1,4 +1,5 @@
--- Laws of the line that the program prints: the pieces that it is put in, and the room that they have.
+-- Laws of the line that the program prints: the pieces that it is put in, and the room that they
+-- have.
 use mathlib.Core.Path.{_≡_}
 use mathlib.Core.List.{[], _∷_, _++_, append-assoc}
 use Prim.Native.Nat.{ℕ, _≤_, _<_, _^_}

@@ -1,4 +1,5 @@
--- What a text and a reader that holds it own (src/reading.rt): each can be copied, and one is had of the other.
+-- What a text and a reader that holds it own (src/reading.rt): each can be copied, and one is had
+-- of the other.
 use mathlib.Core.Path.{_≡_, refl, sym, subst}
 use mathlib.Core.List.{List, [], _∷_}
 use Prim.Native.Nat.{ℕ}
@@ -51,7 +52,7 @@ module _ {M : Type 1} (𝓤 : URA M) (H : Heap 𝓤) (A : Atoms 𝓤) (W : Given
   pub held-twice : (d : Reader) (v : Val) → ent 𝓤 (sem 𝓤 H A (Held κ d v)) (sep 𝓤 (sem 𝓤 H A (Held κ d v)) (sem 𝓤 H A (Held κ d v)))
   held-twice d v = let α = namedLft 1 0 tt (κ, tt) in LL.copy (T.the-type α) (T′.the-copy α) 𝓤 H A W .twice d (v ∷ [])
 
-  -- of what a text owns, with a place, a reader is made
+  -- of what a text owns, with an offset, a reader is made
   pub held-made : (s : RefT Bytes) (n : ℕ) (u : Val) → Is usize n (u ∷ []) → ent 𝓤 (sem 𝓤 H A (Text κ s)) (sem 𝓤 H A (Held κ (record { text = s; at = n }) (vstruct (ofList (textVal s ∷ u ∷ [])))))
   held-made s n u is =
       let α = namedLft 1 0 tt (κ, tt) in

@@ -1,4 +1,5 @@
--- Functions that take a text and a place and make a reader (src/reading.rt): what they have at entry and owe at exit, and what their callers have.
+-- Functions that take a text and an offset and make a reader (src/reading.rt): what they have at
+-- entry and owe at exit, and what their callers have.
 use mathlib.Core.Path.{refl}
 use mathlib.Core.List.{List, [], _∷_}
 use Prim.Native.Nat.{ℕ, _<_, _^_}
@@ -11,7 +12,8 @@ use base.Fml.{Lft, Share}
 use prog.Wp.{Heap, WpFn, Tables}
 use ghost.Atoms.{Atoms, sem}
 use contract.Lifetimes.{Lfts}
-use types.Kit.{Given, ‵, raw, _⊛_, ⋆, _$_, _∵_, !, qed, move, drop, use1, use2, split, join, fsplit, fjoin, suffices, frame, done}
+use types.Kit.{Given, ‵, raw, _⊛_, ⋆, _$_, _∵_, !, qed, move, drop, use1, use2, split, join, fsplit, fjoin}
+use types.Kit.{suffices, frame, done}
 use sound.WpLaws.{WpFn-mono}
 use denote.RattleType.{RattleType, owns}
 use denote.Laws.{Is}
@@ -24,7 +26,8 @@ use denote.Steps.{nothing, owned}
 use denote.Triple.Clauses.{Clauses}
 use denote.Triple.Entry.{Vals, onEntry}
 use denote.Triple.Statement.{Contract, Triple}
-use denote.Triple.Walked.{says, Stays, stay-none, stay-none-slice, walkOf, goes-none, goes-none-slice, ends-at, walked, walk-meets}
+use denote.Triple.Walked.{says, Stays, stay-none, stay-none-slice, walkOf, goes-none, goes-none-slice}
+use denote.Triple.Walked.{ends-at, walked, walk-meets}
 use denote.Exit.{yes}
 use denote.Triple.End.{Kepts}
 use Rattle.lists.specs.Lists.{Bytes}
@@ -41,7 +44,7 @@ kept = (yes, (yes, tt))
 abbrev stayed : Stays taken kept
 stayed = (stay-none-slice (0 ∷ []) tt (plain (λ κs. u8)) yes, (stay-none (λ κs. usize) yes, tt))
 
--- the function answers an R at its lifetime, and says something of it, the text and the place
+-- the function answers an R at its lifetime, and says something of it, the text and the offset
 module _ (R : Lfts 1 → RattleType) (Says : (κs : Lfts 1) → RefT Bytes → ℕ → R κs .Denot → Type 0) {M : Type 1} (𝓤 : URA M) (H : Heap 𝓤) (A : Atoms 𝓤) where
   abbrev pub Contracted : Contract 𝓤
   Contracted = Call 1 taken kept R (λ κs a r. Says κs (a .0) (a .1 .0) r) 𝓤 H A
@@ -82,7 +85,7 @@ module _ (R : Lfts 1 → RattleType) (Says : (κs : Lfts 1) → RefT Bytes → �
         nothing ! $ owned ! usize (Is usize) (uint-makes 𝓤 H A W w64) n _ (refl, fits) $ fjoin ! $ move ! (1 ∷ 0 ∷ []) $ fjoin ! $ move ! (2 ∷ 0 ∷ []) $
         use2 W (raw (Contracted .pre asked)) (qed W (Token 𝓤 A κ q ∷ ‵ (owns (ShrSlice (named 0) κ u8 ∷ usize ∷ []) (s, (n, tt)) handed) ∷ []) ∵ join ! $ frame ! $ done !) $ frame ! $ done !
 
-  -- a proof at every text and place shows the contract
+  -- a proof at every text and offset shows the contract
   pub meets :
       (W : Given 𝓤 H A) (body : Fn) (𝓣 : Tables 𝓤 H)
       → ((κ : Lft) (q : Share) (s : RefT Bytes) (n : ℕ) → n < 2 ^ 64 → Holds (hasTy (sliceTy (tyRef (named 0) imm (tyInt w8))) (textVal s)) × WT (textVal s)

@@ -1,4 +1,5 @@
--- Laws of a request's text (specs/Request.antt): one for each way in which the reading of its fields, and of its line, ends.
+-- Laws of a request's text (specs/Request.antt): one for each way in which the reading of its
+-- fields, and of its line, ends.
 use mathlib.Core.Path.{_≡_, refl, sym, _∙_, ap}
 use mathlib.Core.Bool.{Bool, true, false}
 use mathlib.Core.List.{List, [], _∷_}
@@ -13,22 +14,24 @@ use Rattle.lists.proofs.ChoiceLaws.{provided-some, provided-then, test-none}
 use Rattle.lists.proofs.ListLaws.{same-true}
 use Rattle.hash.proofs.BytesLaws.{take-padded}
 use Rattle.lines.specs.Number.{ascii, readNumber}
-use Rattle.lines.specs.Hex.{readHex, spelledLength}
+use Rattle.lines.specs.Hex.{readHex, decodedLength}
 use Rattle.lines.specs.Field.{Field, number, bytes, Values, readFields}
 use Rattle.lines.specs.Line.{endedLines, openRest, readLines}
 use Rattle.lines.specs.Cursor.{lineAt, fieldAt, fieldsFrom, readAt, wordAt}
 use Rattle.lines.specs.Writing.{putAny}
-use Rattle.lines.proofs.FormLaws.{withRest, here-read, read-ended, word-here, line-on, line-off, field-on, field-off, read-number-on, bytes-fit, bytes-none}
+use Rattle.lines.proofs.FormLaws.{withRest, here-read, read-ended, word-here, line-on, line-off, field-on}
+use Rattle.lines.proofs.FormLaws.{field-off, read-number-on, bytes-fit, bytes-none}
 use Rattle.lines.proofs.SectionLaws.{LineHere, line-none, line-end, line-more}
-use Rattle.lines.proofs.SpellingLaws.{spelled-was, length-unhex}
+use Rattle.lines.proofs.HexLengthLaws.{decoded-was, length-unhex}
 use Rattle.rules.specs.Limits.{numberBound, requestLimit}
 use Rattle.rules.specs.Response.{search, monitor}
 use Rattle.rules.specs.Program.{Request, requestOf, readRequestLine, brokenRequest, readRequest}
 use Rattle.inputs.proofs.FrontLaws.{put-first}
-use Rattle.verifier.specs.declared.request.Asked.{Asked}
-use Rattle.verifier.specs.declared.request.Asked.the-variants.{Search, Monitor}
+use Rattle.checks.specs.declared.call.AskedKind.{AskedKind}
+use Rattle.checks.specs.declared.call.AskedKind.the-variants.{Search, Monitor}
 use Rattle.verifier.specs.declared.request.Request.{Request as RequestBlock}
-use Rattle.verifier.specs.Request.{identifierRoom, askedKind, requestIn, IsFields}
+use Rattle.checks.specs.Calls.{askedKind}
+use Rattle.verifier.specs.Request.{identifierRoom, requestIn, IsFields}
 
 -- ---- the fields after the kind
 
@@ -45,17 +48,17 @@ abbrev requestFields : List Field
 requestFields = bytes anyLength ∷ clockFields
 
 -- where they do not read, the request is broken
-unread : (asked : Asked) (l : Bytes) (at : ℕ) (r : RequestBlock) → readFields requestFields (fieldsFrom l at) ≡ none → requestIn r ≡ brokenRequest
+unread : (asked : AskedKind) (l : Bytes) (at : ℕ) (r : RequestBlock) → readFields requestFields (fieldsFrom l at) ≡ none → requestIn r ≡ brokenRequest
     → IsFields asked l at r
 unfolding Option·elim
 unread asked l at r e b = rw e b
 
-module _ (l : Bytes) (at n next : ℕ) (e : readAt spelledLength l at ≡ some (n, next)) where
+module _ (l : Bytes) (at n next : ℕ) (e : readAt decodedLength l at ≡ some (n, next)) where
   -- an identifier in a line that is not too long has room
   pub identifier-within : length l ≤ requestLimit → n ≤ identifierRoom
   identifier-within h =
-      let (f, r) = here-read l spelledLength at n next e in
-      let (x, k) = spelled-was (fieldAt l at) n (sym r) in
+      let (f, r) = here-read l decodedLength at n next e in
+      let (x, k) = decoded-was (fieldAt l at) n (sym r) in
       omega (arith, length-unhex (fieldAt l at), f .nextIs, f .within)
 
   -- the clock is read where the identifier ends
@@ -65,12 +68,12 @@ module _ (l : Bytes) (at n next : ℕ) (e : readAt spelledLength l at ≡ some (
       let (b, r, k, f) = bytes-fit l anyLength at n next e refl in
       (b, r, k, field-on l (bytes anyLength) clockFields at b next f)
 
-module _ (asked : Asked) (l : Bytes) (at : ℕ) where
+module _ (asked : AskedKind) (l : Bytes) (at : ℕ) where
   -- without an identifier they do not
-  pub fields-no-identifier : (r : RequestBlock) → readAt spelledLength l at ≡ none → requestIn r ≡ brokenRequest → IsFields asked l at r
+  pub fields-no-identifier : (r : RequestBlock) → readAt decodedLength l at ≡ none → requestIn r ≡ brokenRequest → IsFields asked l at r
   fields-no-identifier r e b = unread asked l at r (field-off l (bytes anyLength) clockFields at (bytes-none l anyLength at e)) b
 
-  module _ (n next : ℕ) (e : readAt spelledLength l at ≡ some (n, next)) where
+  module _ (n next : ℕ) (e : readAt decodedLength l at ≡ some (n, next)) where
     -- without a clock they do not read
     pub fields-no-clock : (r : RequestBlock) → readAt (readNumber numberBound) l next ≡ none → requestIn r ≡ brokenRequest → IsFields asked l at r
     unfolding bind
@@ -90,7 +93,7 @@ module _ (asked : Asked) (l : Bytes) (at : ℕ) where
           let (x, _, _, f) = identifier-then l at n next e in
           unread asked l at r (f ∙ rw (clock-then, read-ended l end, le-ltb (length l) end h) refl) b
 
-      -- else the identifier is what its field spells, at the front of its room
+      -- else the identifier is what its field encodes, at the front of its room
       pub fields-read : (s d : Bytes) → length l < end → length l ≤ requestLimit → s ≡ fieldAt l at → d ≡ putAny (replicate identifierRoom 0) 0 (readHex s)
           → IsFields asked l at (record { asked = asked; identifier = d; length = n; clock = t })
       unfolding requestIn bind provided Option·elim

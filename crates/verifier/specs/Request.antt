@@ -1,15 +1,16 @@
--- A request to the program, as it is read (paper 01, Sixteen numbers): how its struct stands for that of the rules.
+-- A request to the program, as it is read (paper 01, Sixteen numbers): how its struct stands for
+-- that of the rules.
 use mathlib.Core.Path.{_≡_}
-use mathlib.Core.Option.{Option, none, some, Option·elim}
+use mathlib.Core.Option.{Option·elim}
 use Prim.Native.Nat.{ℕ}
 use lib.ListN.{take}
 use Rattle.lists.specs.Lists.{Bytes}
 use Rattle.lines.specs.Field.{readFields}
 use Rattle.lines.specs.Cursor.{fieldsFrom}
-use Rattle.rules.specs.Response.{Kind, search, monitor}
+use Rattle.rules.specs.Response.{search}
 use Rattle.rules.specs.Program.{Request, requestForm, brokenRequest}
-use Rattle.verifier.specs.declared.request.Asked.{Asked}
-use Rattle.verifier.specs.declared.request.Asked.the-variants.{Search, Monitor, Nothing}
+use Rattle.checks.specs.declared.call.AskedKind.{AskedKind}
+use Rattle.checks.specs.Calls.{askedKind}
 use Rattle.verifier.specs.declared.request.Request.{Request as RequestBlock}
 
 -- ==== for contracts of private functions alone
@@ -18,18 +19,13 @@ use Rattle.verifier.specs.declared.request.Request.{Request as RequestBl
 abbrev pub identifierRoom : ℕ
 identifierRoom = 64
 
--- the kind asked for
-unfoldable pub askedKind : Asked → Option Kind
-askedKind Search = some search
-askedKind Monitor = some monitor
-askedKind Nothing = none
-
 -- the request of a struct
 unfoldable pub requestIn : RequestBlock → Request
-requestIn b = record { kind = askedKind (b .asked); identifier = take (b .length) (b .identifier); clock = b .clock }
+requestIn b =
+    record { kind = askedKind (b .asked); identifier = take (b .length) (b .identifier); clock = b .clock }
 
--- identifier and clock stand in a line from a place on, or the request is broken
-abbrev pub IsFields : Asked → Bytes → ℕ → RequestBlock → Type 0
+-- identifier and clock stand in a line from an offset on, or the request is broken
+abbrev pub IsFields : AskedKind → Bytes → ℕ → RequestBlock → Type 0
 IsFields asked line at r =
     requestIn r
     ≡ Option·elim (readFields (requestForm search .fields) (fieldsFrom line at)) brokenRequest

@@ -1,58 +1,60 @@
-// A text kept together with a place in it (paper 01, Response lines): the reader through which the program reads a response on, line by line.
+// A text kept together with an offset in it (paper 01, Response lines): the reader through which
+// the program reads a response on, line by line.
 ghost use mathlib.Core.Path.{_≡_};
-ghost use Rattle.lines.specs.Cursor.{leftAt, lineAt, behind};
+ghost use Rattle.lines.specs.Cursor.{leftAt, lineAt, past};
 ghost use Rattle.lines.specs.Readings.{lineOf};
 ghost use Rattle.verifier.specs.Reading.{readOn, readOnOf};
 use lines::cursor::Cursor;
 use lines::cursor::NextLine;
 
-// A text, and a place from which it is read on.
+// A text, and an offset from which it is read on.
 pub struct Reader<'a> {
     text: &'a [u8],
     at: usize,
 }
 
-// A line that was read, the reader's place behind it, and how many bytes are left from there on.
+// A line that was read, the reader's offset after it, and how many bytes are left from there on.
 pub struct ReadOn {
     pub line: NextLine,
-    pub place: usize,
+    pub offset: usize,
     pub left: usize,
 }
 
 impl<'a> Reader<'a> {
-    // The reader of a text from a place on.
+    // The reader of a text from an offset on.
     pub fn new(text: &'a [u8], at: usize) -> Reader<'a>
         ensures { λ r. ⌜ (r .text ≡ text .entry) × (r .at ≡ at) ⌝ }
     {
         Reader { text, at }
     }
 
-    // The line that begins at the place.
+    // The line that begins at the offset.
     pub fn line(self) -> NextLine
         ensures { λ r. ⌜ lineOf r ≡ lineAt (now (self .entry .text)) (self .entry .at) ⌝ }
     {
         Cursor { at: self.at }.line(self.text)
     }
 
-    // The reader behind a line that was read at the place; at the place, where no newline ended it.
-    pub fn behind(self, line: NextLine) -> Reader<'a>
-        ensures { λ r. ⌜ (r .text ≡ self .entry .text) × (r .at ≡ behind (lineOf line) (self .entry .at)) ⌝ }
+    // The reader after a line that was read at the offset; at the offset, where no newline ended
+    // it.
+    pub fn past(self, line: NextLine) -> Reader<'a>
+        ensures { λ r. ⌜ (r .text ≡ self .entry .text) × (r .at ≡ past (lineOf line) (self .entry .at)) ⌝ }
     {
-        let at = Cursor { at: self.at }.behind(line);
+        let at = Cursor { at: self.at }.past(line);
         Reader {
             text: self.text,
             at,
         }
     }
 
-    // The place.
-    pub fn place(self) -> usize
+    // The offset.
+    pub fn offset(self) -> usize
         ensures { λ r. ⌜ r ≡ self .entry .at ⌝ }
     {
         self.at
     }
 
-    // The number of bytes from the place on.
+    // The number of bytes from the offset on.
     pub fn left(self) -> usize
         ensures { λ r. ⌜ r ≡ leftAt (now (self .entry .text)) (self .entry .at) ⌝ }
     {
@@ -60,16 +62,16 @@ impl<'a> Reader<'a> {
     }
 }
 
-// Reads the line that begins at a place of a text, and goes behind it.
+// Reads the line that begins at an offset of a text, and goes after it.
 pub fn read_on(text: &[u8], at: usize) -> ReadOn
     ensures { λ r. ⌜ readOnOf r ≡ readOn (now (text .entry)) at ⌝ }
 {
     let reader = Reader::new(text, at);
     let line = reader.line();
-    let after = reader.behind(line);
+    let after = reader.past(line);
     ReadOn {
         line,
-        place: after.place(),
+        offset: after.offset(),
         left: after.left(),
     }
 }

@@ -1,28 +1,24 @@
-// A request to the program (paper 01, Sixteen numbers): one line with the kind of the call, the identifier that was sent and the clock.
+// A request to the program (paper 01, Sixteen numbers): one line with the kind of the call, the
+// identifier that was sent and the clock.
 ghost use mathlib.Core.Path.{_≡_};
 ghost use Prim.Native.Nat.{_≤_};
 ghost use lib.ListN.{length};
 ghost use Rattle.rules.specs.Limits.{requestLimit};
 ghost use Rattle.rules.specs.Program.{readRequest, brokenRequest};
 ghost use Rattle.verifier.specs.Request.{identifierRoom, requestIn, IsFields};
+use checks::call::AskedKind;
 use inputs::response_lines::KtLine;
 use lines::cursor::Cursor;
 use lines::cursor::NextBytes;
 use lines::cursor::NextLine;
 use lines::cursor::NextNumber;
 use lines::cursor::NextWord;
-use lines::writing::put_spelled;
-
-// The kind of call that is asked for.
-pub(crate) enum Asked {
-    Search,
-    Monitor,
-    Nothing,
-}
+use lines::layout::Word;
+use lines::writing::put_decoded;
 
 // A request; its identifier is the first bytes of its room.
 pub(crate) struct Request {
-    pub(crate) asked: Asked,
+    pub(crate) asked: AskedKind,
     pub(crate) identifier: [u8; Request::IDENTIFIER],
     pub(crate) length: usize,
     pub(crate) clock: u64,
@@ -32,7 +28,7 @@ impl Request {
     // The most bytes of a request's text.
     pub(crate) const TEXT: usize = 128;
 
-    // More bytes than such a text can spell.
+    // More bytes than such a text can encode.
     pub(crate) const IDENTIFIER: usize = Request::TEXT / 2;
 }
 
@@ -50,23 +46,23 @@ pub(crate) fn read_request(text: &[u8]) -> Request
         return broken();
     }
     let line = &text[0..stop];
-    if let NextWord::Same(next) = start.word(line, b"search") {
-        return with_fields(Asked::Search, line, next.at);
+    if let NextWord::Same(next) = start.word(line, &Word::SEARCH) {
+        return with_fields(AskedKind::Search, line, next.at);
     }
-    if let NextWord::Same(next) = start.word(line, b"monitor") {
-        return with_fields(Asked::Monitor, line, next.at);
+    if let NextWord::Same(next) = start.word(line, &Word::MONITOR) {
+        return with_fields(AskedKind::Monitor, line, next.at);
     }
     broken()
 }
 
-// The request of a kind whose other fields stand in a line from a place on.
-fn with_fields(asked: Asked, line: &[u8], at: usize) -> Request
+// The request of a kind whose other fields stand in a line from an offset on.
+fn with_fields(asked: AskedKind, line: &[u8], at: usize) -> Request
     requires { ⌜ length (now line) ≤ requestLimit ⌝ }
     ensures request { λ r. ⌜ IsFields asked (now (line .entry)) at r ⌝ }
     ensures within { λ r. ⌜ r .length ≤ identifierRoom ⌝ }
 {
     let cursor = Cursor { at };
-    let NextBytes::Spelled {
+    let NextBytes::Read {
         length,
         next: at_clock,
     } = cursor.bytes(line)
@@ -81,7 +77,7 @@ fn with_fields(asked: Asked, line: &[u8], at: usize) -> Request
     }
     let field = cursor.field(line);
     let mut identifier = [0u8; Request::IDENTIFIER];
-    put_spelled(&mut identifier, 0, field);
+    put_decoded(&mut identifier, 0, field);
     Request {
         asked,
         identifier,
@@ -96,7 +92,7 @@ fn broken() -> Request
     ensures within { λ r. ⌜ r .length ≤ identifierRoom ⌝ }
 {
     Request {
-        asked: Asked::Nothing,
+        asked: AskedKind::Nothing,
         identifier: [0u8; Request::IDENTIFIER],
         length: KtLine::IDENTIFIER,
         clock: 0,

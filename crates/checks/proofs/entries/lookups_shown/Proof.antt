@@ -1,10 +1,12 @@
--- `checks::entries::lookups_shown` meets its contract: the lookups passed so far were compared with the versions wanted, and counted.
+-- `checks::entries::lookups_shown` meets its contract: the lookups passed so far were compared with
+-- the versions wanted, and counted.
 use Prim.Native.Nat.{_-_}
 use native.Mathlib.Omega.{arith}
 use lib.ListN.{length}
 use Rattle.checks.specs.declared.sections.NextLookup.the-variants.{Lookup as LookupAt}
 use Rattle.checks.specs.Sections.{IsNextLookup}
-use Rattle.checks.proofs.EntryLaws.{lookup-found, lookup-missing, Compared, compared-start, compared-next, compared-all}
+use Rattle.checks.proofs.EntryLaws.{lookup-found, lookup-missing, Compared, compared-start}
+use Rattle.checks.proofs.EntryLaws.{compared-next, compared-all}
 use borrow.Author.Needs.{needs}
 use Rattle.checks.proofs.entries.lookups_shown.Statement.{statement}
 use Rattle.checks.proofs.entries.lookups_shown.Tie as tie
@@ -15,10 +17,11 @@ Inv-loop entries from wanted at₀ count₀ begin₀ at count begin = Compared e
 abbrev μ-loop : tie.MeasureT-loop
 μ-loop entries from wanted at₀ count₀ begin₀ at count begin = length entries - at
 
--- the lookup at the place
+-- the lookup at the offset
 found : (P : tie.After-known-told Inv-loop μ-loop)
     → let l = P .before .before .before .before in
-    IsNextLookup (l .before .before .before .args .entries .now) (l .loop .at) (LookupAt (P .before .stop .given .0 .0) (P .before .stop .given .0 .1 .0))
+    let r = P .before .stop .given .0 in
+    IsNextLookup (l .before .before .before .args .entries .now) (l .loop .at) (LookupAt (r .0) (r .1 .0))
 found P = lookup-found _ _ _ _ _ (P .before .stop .given .1) (P .before .before .before .next-lookup .ensures)
 
 loop-holds : tie.Need-loop-holds Inv-loop μ-loop
@@ -67,7 +70,8 @@ enum-told c = search needs
 returns : tie.Need-returns Inv-loop μ-loop
 returns c =
     let n = c .before .before in
-    let (begin, count, next) = compared-all _ _ _ _ _ _ (n .before .loop .inv) (lookup-missing _ _ _ (c .enum-told .given .1) (n .next-lookup .ensures)) in
+    let none = lookup-missing _ _ _ (c .enum-told .given .1) (n .next-lookup .ensures) in
+    let (begin, count, next) = compared-all _ _ _ _ _ _ (n .before .loop .inv) none in
     (begin, (count, next))
 
 pub lookups-shown-spec : {M : Type 1} → statement M

@@ -1,4 +1,5 @@
--- `checks::lookups::leads_to` meets its contract: the values joined are as many as their digits allow, and the roots are compared.
+-- `checks::lookups::leads_to` meets its contract: the values joined are as many as their digits
+-- allow, and the roots are compared.
 use mathlib.Core.Path.{sym, _∙_}
 use borrow.Author.Needs.{needs}
 use borrow.Author.Tests.{not-true, not-false}

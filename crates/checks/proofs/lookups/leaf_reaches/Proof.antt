@@ -1,4 +1,5 @@
--- `checks::lookups::leaf_reaches` meets its contract: the two values and the siblings stand at their places.
+-- `checks::lookups::leaf_reaches` meets its contract: the two values and the siblings stand at
+-- their offsets.
 use mathlib.Core.Path.{sym, _∙_}
 use borrow.Author.Needs.{needs}
 use Rattle.tree.specs.Lookups.{terminalAt, terminalOf}

@@ -1,4 +1,5 @@
--- `checks::lookups::lookup_reaches` meets its contract: the letters of the line tell its result, and what follows its version the rest.
+-- `checks::lookups::lookup_reaches` meets its contract: the letters of the line tell its result,
+-- and what follows its version the rest.
 use mathlib.Core.Path.{_≡_, sym, _∙_, ap}
 use mathlib.Core.Option.{some}
 use native.Mathlib.Omega.{arith}
@@ -7,15 +8,17 @@ use Rattle.lines.specs.Number.{readNumber}
 use Rattle.lines.specs.Cursor.{readAt}
 use Rattle.lines.specs.Readings.{nextNumberOf}
 use Rattle.lines.proofs.FormLaws.{here-read}
+use Rattle.lines.specs.Layout.{lookupFields}
 use Rattle.tree.specs.Lookups.{terminalAt, terminalOf}
 use Rattle.rules.specs.Limits.{versionBound}
-use Rattle.checks.proofs.LookupLineLaws.{versionPlace, version-misses, rest-misses, in-reaches, no-reaches, nl-reaches}
+use Rattle.checks.proofs.LookupLineLaws.{version-misses, rest-misses, in-reaches, no-reaches}
+use Rattle.checks.proofs.LookupLineLaws.{nl-reaches}
 use Rattle.checks.proofs.lookups.lookup_reaches.Statement.{statement}
 use Rattle.checks.proofs.lookups.lookup_reaches.Tie as tie
 
--- what was read at the place of the version
+-- what was read at the offset of the version
 number-read : (P : tie.After-next)
-    → readAt (readNumber versionBound) (P .before .before .before .before .args .line .now) versionPlace
+    → readAt (readNumber versionBound) (P .before .before .before .before .args .line .now) lookupFields
     ≡ some (P .next .given .0 .0, P .next .given .0 .1 .0 .at)
 number-read P = sym (P .before .before .number .ensures) ∙ ap nextNumberOf (P .next .given .1)
 

@@ -1,27 +1,31 @@
--- `checks::map::with_pair` meets its contract: the pair is carried from place to place, and where it is stored, the one that stood there is carried on.
+-- `checks::map::with_pair` meets its contract: the pair is carried from index to index, and where
+-- it is stored, the one that stood there is carried on.
 use mathlib.Core.Bool.{false≢true}
 use mathlib.Core.Logic.{⊎-elim}
 use Prim.Native.Nat.{_+_, _-_, _≤_}
 use native.Mathlib.Omega.{arith}
 use Rattle.rules.specs.Limits.{mapLimit}
-use Rattle.checks.specs.Map.{pairsOf, putVersion}
-use Rattle.checks.proofs.PairPutLaws.{Carrying, carrying-start, carried-over, carried-past, carried-stored, carried-beyond, carried-last}
+use Rattle.checks.specs.Map.{pairsIn, putVersion}
+use Rattle.checks.proofs.PairPutLaws.{Carrying, carrying-start, carried-over, carried-past}
+use Rattle.checks.proofs.PairPutLaws.{carried-stored}
+use Rattle.checks.proofs.PairPutLaws.{carried-beyond, carried-last}
 use borrow.Author.Needs.{needs}
 use Rattle.checks.proofs.map.with_pair.Statement.{statement}
 use Rattle.checks.proofs.map.with_pair.Tie as tie
 
 abbrev Inv-loop : tie.InvT-loop
-Inv-loop positions versions count position version new-positions₀ new-versions₀ carried₀ carried-version₀ i₀ new-positions new-versions carried carried-version i =
+Inv-loop map position version positions₀ versions₀ count carried₀ carried-version₀ i₀ positions versions carried carried-version i =
     (i ≤ count) × (count ≤ mapLimit)
-    × Carrying (putVersion position version (pairsOf positions versions count)) count new-positions new-versions carried carried-version i
+    × Carrying (putVersion position version (pairsIn map)) count positions versions carried carried-version i
 
 abbrev μ-loop : tie.MeasureT-loop
-μ-loop positions versions count position version new-positions₀ new-versions₀ carried₀ carried-version₀ i₀ new-positions new-versions carried carried-version i =
+μ-loop map position version positions₀ versions₀ count carried₀ carried-version₀ i₀ positions versions carried carried-version i =
     count - i
 
 loop-holds : tie.Need-loop-holds Inv-loop μ-loop
 loop-holds c =
-    let a = c .args in (omega arith, c .pre .few, carrying-start (a .positions) (a .versions) (a .count) (a .position) (a .version) (c .pre))
+    let S = c .before .before in
+    (omega arith, S .pre .few, carrying-start (S .args .map) (S .args .position) (S .args .version) (S .pre))
 
 mul-there : tie.Need-mul-there Inv-loop μ-loop
 mul-there c = search needs
@@ -35,26 +39,27 @@ mul-there-version c = search needs
 array-read-there-version : tie.Need-array-read-there-version Inv-loop μ-loop
 array-read-there-version c = search needs
 
-mul-new-versions : tie.Need-mul-new-versions Inv-loop μ-loop
-mul-new-versions c = search needs
+mul-versions : tie.Need-mul-versions Inv-loop μ-loop
+mul-versions c = search needs
 
-array-write-new-versions : tie.Need-array-write-new-versions Inv-loop μ-loop
-array-write-new-versions c = search needs
+array-write-versions : tie.Need-array-write-versions Inv-loop μ-loop
+array-write-versions c = search needs
 
 returns : tie.Need-returns Inv-loop μ-loop
-returns c = let l = c .before .before .loop in carried-over (l .inv .1) (l .inv .2) (omega arith) (c .if1 .taken)
+returns c =
+    let l = c .before .before .loop in carried-over (l .inv .1) (l .inv .2) (omega arith) (c .if1 .taken)
 
-mul-new-positions : tie.Need-mul-new-positions Inv-loop μ-loop
-mul-new-positions c = search needs
+mul-positions : tie.Need-mul-positions Inv-loop μ-loop
+mul-positions c = search needs
 
-array-write-new-positions : tie.Need-array-write-new-positions Inv-loop μ-loop
-array-write-new-positions c = search needs
+array-write-positions : tie.Need-array-write-positions Inv-loop μ-loop
+array-write-positions c = search needs
 
-mul-new-versions-2 : tie.Need-mul-new-versions-2 Inv-loop μ-loop
-mul-new-versions-2 c = search needs
+mul-versions-2 : tie.Need-mul-versions-2 Inv-loop μ-loop
+mul-versions-2 c = search needs
 
-array-write-new-versions-2 : tie.Need-array-write-new-versions-2 Inv-loop μ-loop
-array-write-new-versions-2 c = search needs
+array-write-versions-2 : tie.Need-array-write-versions-2 Inv-loop μ-loop
+array-write-versions-2 c = search needs
 
 add-i : tie.Need-add-i Inv-loop μ-loop
 add-i c = search needs
@@ -65,10 +70,10 @@ loop-less c = search needs
 loop-again : tie.Need-loop-again Inv-loop μ-loop
 loop-again c =
     let l = c .before .before .before .loop in
-    let s = c .before .before .before .before .args in
+    let s = c .before .before .before .before .before .before .args in
     let n = c .if2 in
-    let on : Carrying (putVersion (s .position) (s .version) (pairsOf (s .positions) (s .versions) (s .count))) (s .count)
-    (n .new-positions) (n .new-versions) (n .carried) (n .carried-version) (l .i + 1) =
+    let on : Carrying (putVersion (s .position) (s .version) (pairsIn (s .map))) (s .map .count)
+    (n .positions) (n .versions) (n .carried) (n .carried-version) (l .i + 1) =
     ⊎-elim
     (λ w. carried-stored (l .inv .1) (l .inv .2) (omega arith) (w .0 .taken) (w .1) (w .2) (w .3) (w .4))
     (λ w. carried-past (l .inv .1) (l .inv .2) (omega arith) (omega (arith, w .0 .left)) (w .1) (w .2) (w .3) (w .4))
@@ -80,23 +85,24 @@ returns-2 c =
     let l = c .before .before .loop in
     (carried-beyond (l .inv .1) (l .inv .2) (omega arith) (c .if3 .taken), λ e. absurd (false≢true e))
 
-mul-new-positions-2 : tie.Need-mul-new-positions-2 Inv-loop μ-loop
-mul-new-positions-2 c = search needs
+mul-positions-2 : tie.Need-mul-positions-2 Inv-loop μ-loop
+mul-positions-2 c = search needs
 
-array-write-new-positions-2 : tie.Need-array-write-new-positions-2 Inv-loop μ-loop
-array-write-new-positions-2 c = search needs
+array-write-positions-2 : tie.Need-array-write-positions-2 Inv-loop μ-loop
+array-write-positions-2 c = search needs
 
-mul-new-versions-3 : tie.Need-mul-new-versions-3 Inv-loop μ-loop
-mul-new-versions-3 c = search needs
+mul-versions-3 : tie.Need-mul-versions-3 Inv-loop μ-loop
+mul-versions-3 c = search needs
 
-array-write-new-versions-3 : tie.Need-array-write-new-versions-3 Inv-loop μ-loop
-array-write-new-versions-3 c = search needs
+array-write-versions-3 : tie.Need-array-write-versions-3 Inv-loop μ-loop
+array-write-versions-3 c = search needs
 
 add-t32 : tie.Need-add-t32 Inv-loop μ-loop
 add-t32 c = search needs
 
 returns-3 : tie.Need-returns-3 Inv-loop μ-loop
-returns-3 c = let l = c .before .before .loop in carried-last (l .inv .1) (l .inv .2) (omega arith) (omega arith)
+returns-3 c =
+    let l = c .before .before .loop in carried-last (l .inv .1) (l .inv .2) (omega arith) (omega arith)
 
 pub with-pair-spec : {M : Type 1} → statement M
 with-pair-spec =
@@ -109,20 +115,20 @@ with-pair-spec =
     array-read-there
     mul-there-version
     array-read-there-version
-    mul-new-versions
-    array-write-new-versions
+    mul-versions
+    array-write-versions
     returns
-    mul-new-positions
-    array-write-new-positions
-    mul-new-versions-2
-    array-write-new-versions-2
+    mul-positions
+    array-write-positions
+    mul-versions-2
+    array-write-versions-2
     add-i
     loop-less
     loop-again
     returns-2
-    mul-new-positions-2
-    array-write-new-positions-2
-    mul-new-versions-3
-    array-write-new-versions-3
+    mul-positions-2
+    array-write-positions-2
+    mul-versions-3
+    array-write-versions-3
     add-t32
     returns-3)

@@ -1,9 +1,11 @@
--- `checks::monitored_versions::largest_pair` meets its contract: `above` is one more than the largest version of the pairs from i on, that of `pair`.
+-- `checks::monitored_versions::largest_pair` meets its contract: `above` is one more than the
+-- largest version of the pairs from i on, that of `pair`.
 use Prim.Native.Nat.{_-_, _≤_}
 use mathlib.Core.Path.{_≡_}
 use native.Mathlib.Omega.{arith}
 use lib.ListN.{length}
-use Rattle.checks.proofs.MonitoredVersionLaws.{Found, found-start, found-past, found-below, found-above, found-none, found-some}
+use Rattle.checks.proofs.MonitoredVersionLaws.{Found, found-start, found-past, found-below}
+use Rattle.checks.proofs.MonitoredVersionLaws.{found-above, found-none, found-some}
 use borrow.Author.Needs.{needs}
 use Rattle.checks.proofs.monitored_versions.largest_pair.Statement.{statement}
 use Rattle.checks.proofs.monitored_versions.largest_pair.Tie as tie

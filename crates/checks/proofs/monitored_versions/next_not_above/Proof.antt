@@ -1,4 +1,5 @@
--- `checks::monitored_versions::next_not_above` meets its contract: the versions before the i-th are below `from`.
+-- `checks::monitored_versions::next_not_above` meets its contract: the versions before the i-th are
+-- below `from`.
 use mathlib.Core.Path.{_≡_, refl, _∙_}
 use Prim.Native.Nat.{_-_, _≤_}
 use native.Mathlib.Omega.{arith}

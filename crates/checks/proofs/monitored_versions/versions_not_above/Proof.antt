@@ -1,9 +1,11 @@
--- `checks::monitored_versions::versions_not_above` meets its contract: of the ladder's first i versions those not above the version are stored.
+-- `checks::monitored_versions::versions_not_above` meets its contract: of the ladder's first i
+-- versions those not above the version are stored.
 use mathlib.Core.Logic.{⊎-elim}
 use Prim.Native.Nat.{_+_, _-_, _<_, _≤_}
 use native.Mathlib.Omega.{arith}
 use Rattle.tree.specs.Ladder.{ladderCapacity}
-use Rattle.checks.proofs.MonitoredVersionLaws.{Storing, storing-start, storing-past, storing-room, storing-next, storing-end, whole-fits}
+use Rattle.checks.proofs.MonitoredVersionLaws.{Storing, storing-start, storing-past, storing-room}
+use Rattle.checks.proofs.MonitoredVersionLaws.{storing-next, storing-end, whole-fits}
 use borrow.Author.Needs.{needs}
 use Rattle.checks.proofs.monitored_versions.versions_not_above.Statement.{statement}
 use Rattle.checks.proofs.monitored_versions.versions_not_above.Tie as tie

@@ -1,12 +1,14 @@
--- `checks::sections::lookup_version` meets its contract: the number after the word of a lookup line is its version.
+-- `checks::sections::lookup_version` meets its contract: the number after the word of a lookup line
+-- is its version.
 use mathlib.Core.Path.{_≡_, sym, _∙_, ap}
 use mathlib.Core.Option.{some}
 use Rattle.lines.specs.Number.{readNumber}
 use Rattle.lines.specs.Cursor.{readAt}
 use Rattle.lines.specs.Readings.{nextNumberOf}
+use Rattle.lines.specs.Layout.{lookupFields}
 use Rattle.rules.specs.Limits.{versionBound}
 use Rattle.inputs.proofs.StateLineLaws.{number-within}
-use Rattle.checks.proofs.LookupLineLaws.{versionPlace, version-told, version-misses}
+use Rattle.checks.proofs.LookupLineLaws.{version-told, version-misses}
 use borrow.Author.Needs.{needs}
 use Rattle.checks.proofs.sections.lookup_version.Statement.{statement}
 use Rattle.checks.proofs.sections.lookup_version.Tie as tie
@@ -14,7 +16,7 @@ use Rattle.checks.proofs.sections.lookup_version.Tie as tie
 -- the number that was read
 number : (P : tie.After-known-told)
     → let v = P .before .value .given .0 in
-    readAt (readNumber versionBound) (P .before .before .before .before .before .args .line .now) versionPlace ≡ some (v .0, v .1 .0 .at)
+    readAt (readNumber versionBound) (P .before .before .before .before .before .args .line .now) lookupFields ≡ some (v .0, v .1 .0 .at)
 number P = sym (P .before .before .before .number .ensures) ∙ ap nextNumberOf (P .before .value .given .1)
 
 cast-number : tie.Need-cast-number

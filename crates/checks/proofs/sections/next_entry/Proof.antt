@@ -1,4 +1,5 @@
--- `checks::sections::next_entry` meets its contract: where no lookup stands, the line at the place is an entry line.
+-- `checks::sections::next_entry` meets its contract: where no lookup stands, the line at the offset
+-- is an entry line.
 use mathlib.Core.Path.{sym, _∙_, ap}
 use Rattle.lines.specs.Readings.{lineOf}
 use Rattle.checks.proofs.LineStepLaws.{no-item, entry-next}

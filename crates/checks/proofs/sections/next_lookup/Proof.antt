@@ -1,4 +1,5 @@
--- `checks::sections::next_lookup` meets its contract: a line that begins with another byte than an entry line is a lookup line.
+-- `checks::sections::next_lookup` meets its contract: a line that begins with another byte than an
+-- entry line is a lookup line.
 use mathlib.Core.Path.{sym, _∙_, ap}
 use Rattle.lines.specs.Readings.{lineOf}
 use Rattle.checks.proofs.LineStepLaws.{no-item, no-item-end, lookup-next, no-lookup}

@@ -1,10 +1,12 @@
--- `checks::sections::next_step` meets its contract: the version is read after the word of the line, and the line's length tells whether a commitment follows.
+-- `checks::sections::next_step` meets its contract: the version is read after the word of the line,
+-- and the line's length tells whether a commitment follows.
 use mathlib.Core.Path.{_≡_, sym, _∙_, ap}
 use mathlib.Core.Option.{some}
 use Prim.Native.Nat.{_+_, _-_}
 use native.Mathlib.Omega.{arith}
 use lib.Dec.{eqb}
 use lib.ListN.{length, take, drop}
+use Rattle.lines.specs.Layout.{stepFields, valueDigits}
 use Rattle.lines.specs.Number.{readNumber}
 use Rattle.lines.specs.Cursor.{lineAt, readAt}
 use Rattle.lines.specs.Readings.{lineOf, nextNumberOf}
@@ -28,7 +30,7 @@ line P = sym (P .before .before .before .line .ensures) ∙ ap lineOf (P .before
 number : (P : tie.After-known-told2)
     → let Q = P .before .before .before .before .before in
     let a = Q .before .before .before .before .before .args in
-    readAt (readNumber versionBound) (take (Q .before .stop .given .0 .0 - a .at) (drop (a .at) (a .steps .now))) 5
+    readAt (readNumber versionBound) (take (Q .before .stop .given .0 .0 - a .at) (drop (a .at) (a .steps .now))) stepFields
     ≡ some (P .before .value .given .0 .0, P .before .value .given .0 .1 .0 .at)
 number P = sym (P .before .before .before .number .ensures) ∙ ap nextNumberOf (P .before .value .given .1)
 
@@ -38,7 +40,7 @@ step : (P : tie.After-known-told2)
     let a = Q .before .before .before .before .before .args in
     let v = P .before .value .given .0 in
     IsNextStep (a .steps .now) (a .at)
-    (StepAt (v .0) (eqb (length (take (Q .before .stop .given .0 .0 - a .at) (drop (a .at) (a .steps .now)))) (v .1 .0 .at + 64)) (a .at + v .1 .0 .at)
+    (StepAt (v .0) (eqb (length (take (Q .before .stop .given .0 .0 - a .at) (drop (a .at) (a .steps .now)))) (v .1 .0 .at + valueDigits)) (a .at + v .1 .0 .at)
     (Q .before .stop .given .0 .1 .0 .at))
 step P =
     let Q = P .before .before .before .before .before in

@@ -1,4 +1,5 @@
--- `checks::tree_head::place_tree_head` meets its contract: where there is room from the offset on, the text is written there.
+-- `checks::tree_head::place_tree_head` meets its contract: where there is room from the offset on,
+-- the text is written there.
 use mathlib.Core.Path.{_≡_, sym, _∙_}
 use Prim.Native.Nat.{_+_, _≤_}
 use native.Mathlib.Omega.{arith}
@@ -15,10 +16,10 @@ use Rattle.checks.proofs.tree_head.place_tree_head.Tie as tie
 -- the bytes of the text
 text-length : (S : tie.Start)
     → let a = S .args in
-    length (treeHead (a .configuration .now) (a .size) (a .root)) ≡ length (a .configuration .now) + 40
+    length (treeHead (a .configuration .now) (a .tree-size) (a .root)) ≡ length (a .configuration .now) + 40
 text-length S =
     let l : length (S .args .root) ≡ hashLength = search needs in
-    omega (arith, head-length (S .args .configuration .now) (S .args .size) (S .args .root), l)
+    omega (arith, head-length (S .args .configuration .now) (S .args .tree-size) (S .args .root), l)
 
 -- past the tests there is room for it
 room : (E : tie.Else3)

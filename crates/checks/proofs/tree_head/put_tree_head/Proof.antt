@@ -1,4 +1,5 @@
--- `checks::tree_head::put_tree_head` meets its contract: the three parts of the text are put one behind the other.
+-- `checks::tree_head::put_tree_head` meets its contract: the three parts of the text are put one
+-- after the other.
 use Rattle.checks.proofs.TreeHeadWritingLaws.{head-put}
 use borrow.Author.Needs.{needs}
 use Rattle.checks.proofs.tree_head.put_tree_head.Statement.{statement}

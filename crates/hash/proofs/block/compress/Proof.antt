@@ -1,4 +1,5 @@
--- `hash::block::compress` meets its contract: the law of four sixteens over what each call ensures; the table is cut into four literal parts.
+-- `hash::block::compress` meets its contract: the law of four sixteens over what each call ensures;
+-- the table is cut into four literal parts.
 use mathlib.Core.Path.{refl, _∙_}
 use Rattle.hash.specs.Words.{constants}
 use Rattle.hash.proofs.BlockLaws.{four-sixteens}

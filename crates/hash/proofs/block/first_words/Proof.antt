@@ -1,4 +1,5 @@
--- `hash::block::first_words` meets its contract: the words read so far are the first ones of the block.
+-- `hash::block::first_words` meets its contract: the words read so far are the first ones of the
+-- block.
 use mathlib.Core.Path.{_≡_, refl, sym, _∙_}
 use Prim.Native.Nat.{_-_, _≤_}
 use native.Mathlib.Omega.{arith}

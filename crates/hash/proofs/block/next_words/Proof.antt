@@ -1,4 +1,5 @@
--- `hash::block::next_words` meets its contract: each store is the window one word later; after sixteen all words are new.
+-- `hash::block::next_words` meets its contract: each store is the window one word later; after
+-- sixteen all words are new.
 use native.Mathlib.Omega.{arith}
 use Rattle.hash.proofs.BlockLaws.{window-zero, window-step, next-sixteen}
 use lib.Dec.{lit<}

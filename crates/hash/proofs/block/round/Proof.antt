@@ -1,4 +1,5 @@
--- `hash::block::round` meets its contract: the two temporaries and the moved variables are those of the definition.
+-- `hash::block::round` meets its contract: the two temporaries and the moved variables are those of
+-- the definition.
 use Rattle.hash.specs.Block.{round, temp1, temp2}
 use borrow.Author.Needs.{needs}
 use Rattle.hash.proofs.block.round.Statement.{statement}

@@ -1,4 +1,5 @@
--- `hash::block::sixteen_rounds` meets its contract: each call is one round more; each index below 16 is below the length that the function requires (`.pre`, at its start).
+-- `hash::block::sixteen_rounds` meets its contract: each call is one round more; each index below
+-- 16 is below the length that the function requires (`.pre`, at its start).
 use Rattle.hash.proofs.BlockLaws.{rounds-zero, rounds-step}
 use native.Mathlib.Omega.{arith}
 use borrow.Author.Needs.{needs}

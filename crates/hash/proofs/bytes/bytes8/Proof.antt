@@ -1,4 +1,5 @@
--- `hash::bytes::bytes8` meets its contract: the eight bytes are those of the definition, and each cast fits.
+-- `hash::bytes::bytes8` meets its contract: the eight bytes are those of the definition, and each
+-- cast fits.
 use mathlib.Core.Path.{refl}
 use Rattle.hash.specs.Bytes.{bigEndian}
 use borrow.Author.Needs.{needs}

@@ -1,4 +1,5 @@
--- `hash::hasher::taken` meets its contract: the whole blocks are hashed, and the bytes after them are kept.
+-- `hash::hasher::taken` meets its contract: the whole blocks are hashed, and the bytes after them
+-- are kept.
 use native.Mathlib.Omega.{arith}
 use Rattle.hash.proofs.MessageLaws.{rest-law}
 use Rattle.hash.proofs.HasherLaws.{taken-law}

@@ -1,4 +1,5 @@
--- `hash::hmac::finish` meets its contract: the outer key and the inner digest are two parts of one message.
+-- `hash::hmac::finish` meets its contract: the outer key and the inner digest are two parts of one
+-- message.
 use mathlib.Core.Path.{ap, _∙_}
 use Rattle.hash.specs.Hmac.{xored}
 use Rattle.hash.proofs.HmacLaws.{ended-law}

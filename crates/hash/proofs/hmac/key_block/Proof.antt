@@ -1,4 +1,5 @@
--- `hash::hmac::key_block` meets its contract: one law for a key that fits a block, one for a longer key.
+-- `hash::hmac::key_block` meets its contract: one law for a key that fits a block, one for a longer
+-- key.
 use native.Mathlib.Omega.{arith}
 use Rattle.hash.proofs.HmacLaws.{key-short, key-long}
 use borrow.Author.Needs.{needs}

@@ -1,4 +1,5 @@
--- `hash::sha256::digest_of` meets its contract: the thirty-two bytes are those of the definition, and each cast fits.
+-- `hash::sha256::digest_of` meets its contract: the thirty-two bytes are those of the definition,
+-- and each cast fits.
 use mathlib.Core.Path.{refl}
 use Rattle.hash.specs.Bytes.{bigEndian}
 use Rattle.hash.specs.Sha256.{digestOf}

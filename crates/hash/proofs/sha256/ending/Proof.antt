@@ -1,4 +1,5 @@
--- `hash::sha256::ending` meets its contract: the law of a message's end, with the count of bits at 56 or at 120.
+-- `hash::sha256::ending` meets its contract: the law of a message's end, with the count of bits at
+-- 56 or at 120.
 use mathlib.Core.Path.{_≡_}
 use native.Mathlib.Omega.{arith}
 use lib.ListN.{length, length-set}

@@ -1,4 +1,5 @@
--- `hash::sha256::finish` meets its contract: the last block or the last two are the front of what `ending` made.
+-- `hash::sha256::finish` meets its contract: the last block or the last two are the front of what
+-- `ending` made.
 use mathlib.Core.Path.{refl, sym, ap, _∙_}
 use native.Mathlib.Omega.{arith}
 use lib.Seq.{take-all}

@@ -1,4 +1,5 @@
--- `hash::strings::digest_40` meets its contract: the string is put together in a buffer of its length.
+-- `hash::strings::digest_40` meets its contract: the string is put together in a buffer of its
+-- length.
 use mathlib.Core.Path.{ap, _∙_}
 use Rattle.hash.specs.Sha256.{sha256}
 use Rattle.hash.proofs.StringLaws.{string-40}

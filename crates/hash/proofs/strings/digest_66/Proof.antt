@@ -1,4 +1,5 @@
--- `hash::strings::digest_66` meets its contract: the string is put together in a buffer of its length.
+-- `hash::strings::digest_66` meets its contract: the string is put together in a buffer of its
+-- length.
 use mathlib.Core.Path.{_≡_, ap, _∙_}
 use native.Mathlib.Omega.{arith}
 use lib.ListN.{length, length-set}

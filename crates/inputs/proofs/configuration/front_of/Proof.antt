@@ -1,4 +1,5 @@
--- `inputs::configuration::front_of` meets its contract: each field is read where the one before it ends.
+-- `inputs::configuration::front_of` meets its contract: each field is read where the one before it
+-- ends.
 use mathlib.Core.Path.{_≡_, sym, _∙_, ap}
 use mathlib.Core.Option.{some}
 use lib.ListN.{drop}
@@ -6,7 +7,8 @@ use borrow.Author.Needs.{needs}
 use Rattle.lines.specs.Readings.{partOf}
 use Rattle.rules.specs.Encoding.{readUint, readOpaque}
 use Rattle.inputs.specs.Configuration.{uint8, uint16, uintIn, opaqueIn}
-use Rattle.inputs.proofs.ConfigurationReadingLaws.{no-suite, no-mode, no-signature-key, no-vrf-key, front-there}
+use Rattle.inputs.proofs.ConfigurationReadingLaws.{no-suite, no-mode, no-signature-key, no-vrf-key}
+use Rattle.inputs.proofs.ConfigurationReadingLaws.{front-there}
 use Rattle.inputs.proofs.configuration.front_of.Statement.{statement}
 use Rattle.inputs.proofs.configuration.front_of.Tie as tie
 

@@ -1,4 +1,5 @@
--- `inputs::configuration::opaque_at` meets its contract: the bytes that the length counts follow it, or there is no byte string.
+-- `inputs::configuration::opaque_at` meets its contract: the bytes that the length counts follow
+-- it, or there is no byte string.
 use borrow.Author.Needs.{needs}
 use mathlib.Core.Path.{_≡_, refl, sym, _∙_, ap}
 use mathlib.Core.Option.{some}
@@ -11,7 +12,7 @@ use Rattle.inputs.proofs.ConfigurationReadingLaws.{no-length, no-opaque
 use Rattle.inputs.proofs.configuration.opaque_at.Statement.{statement}
 use Rattle.inputs.proofs.configuration.opaque_at.Tie as tie
 
--- the length that was read, and the place after it
+-- the length that was read, and the offset after it
 length-read : (l : tie.After-length)
     → readUint uint16 (drop (l .before .before .before .before .args .at) (l .before .before .before .before .args .s .now))
     ≡ some (l .length .given .0 .0, drop (l .length .given .0 .1 .0) (l .before .before .before .before .args .s .now))

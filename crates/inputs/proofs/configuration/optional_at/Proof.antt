@@ -5,11 +5,12 @@ use lib.ListN.{drop}
 use borrow.Author.Needs.{needs}
 use Rattle.rules.specs.Encoding.{readUint}
 use Rattle.inputs.specs.Configuration.{uint8, uintIn}
-use Rattle.inputs.proofs.ConfigurationReadingLaws.{no-mark, optional-absent, no-optional, no-present, optional-present}
+use Rattle.inputs.proofs.ConfigurationReadingLaws.{no-mark, optional-absent, no-optional, no-present}
+use Rattle.inputs.proofs.ConfigurationReadingLaws.{optional-present}
 use Rattle.inputs.proofs.configuration.optional_at.Statement.{statement}
 use Rattle.inputs.proofs.configuration.optional_at.Tie as tie
 
--- the byte at the place
+-- the byte at the offset
 present-read : (p : tie.After-present)
     → let a = p .before .before .before .before .args in
     readUint uint8 (drop (a .at) (a .s .now)) ≡ some (p .present .given .0 .0, drop (p .present .given .0 .1 .0) (a .s .now))

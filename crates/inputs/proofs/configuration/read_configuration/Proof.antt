@@ -1,12 +1,15 @@
--- `inputs::configuration::read_configuration` meets its contract: both groups of fields are read, nothing follows them, and suite and mode are those that are taken.
+-- `inputs::configuration::read_configuration` meets its contract: both groups of fields are read,
+-- nothing follows them, and suite and mode are those that are taken.
 use mathlib.Core.Path.{_≡_, sym, _∙_, ap}
 use mathlib.Core.Option.{some}
 use lib.ListN.{drop}
 use native.Mathlib.Omega.{arith}
 use borrow.Author.Needs.{needs}
 use Rattle.lines.specs.Readings.{partOf}
-use Rattle.inputs.specs.Configuration.{lifetimeOf, configurationIn, readFront, frontIn, readTimes, timesIn}
-use Rattle.inputs.proofs.ConfigurationReadingLaws.{no-front, no-times, more-after, other-suite, other-mode, configuration-there}
+use Rattle.inputs.specs.Configuration.{lifetimeOf, configurationIn, readFront, frontIn, readTimes}
+use Rattle.inputs.specs.Configuration.{timesIn}
+use Rattle.inputs.proofs.ConfigurationReadingLaws.{no-front, no-times, more-after, other-suite}
+use Rattle.inputs.proofs.ConfigurationReadingLaws.{other-mode, configuration-there}
 use Rattle.inputs.proofs.configuration.read_configuration.Statement.{statement}
 use Rattle.inputs.proofs.configuration.read_configuration.Tie as tie
 

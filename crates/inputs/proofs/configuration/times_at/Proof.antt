@@ -1,15 +1,17 @@
--- `inputs::configuration::times_at` meets its contract: each field is read where the one before it ends.
+-- `inputs::configuration::times_at` meets its contract: each field is read where the one before it
+-- ends.
 use mathlib.Core.Path.{_≡_, sym, _∙_, ap}
 use mathlib.Core.Option.{some}
 use lib.ListN.{drop}
 use borrow.Author.Needs.{needs}
 use Rattle.rules.specs.Encoding.{readUint}
 use Rattle.inputs.specs.Configuration.{uint64, uintIn, optionalIn}
-use Rattle.inputs.proofs.ConfigurationReadingLaws.{no-ahead, no-behind, no-window, no-lifetime, times-there}
+use Rattle.inputs.proofs.ConfigurationReadingLaws.{no-ahead, no-behind, no-window, no-lifetime}
+use Rattle.inputs.proofs.ConfigurationReadingLaws.{times-there}
 use Rattle.inputs.proofs.configuration.times_at.Statement.{statement}
 use Rattle.inputs.proofs.configuration.times_at.Tie as tie
 
--- the time ahead, at the place
+-- the time ahead, at the offset
 ahead-read : (p : tie.After-ahead)
     → let a = p .before .before .before .before .args in
     readUint uint64 (drop (a .at) (a .s .now)) ≡ some (p .ahead .given .0 .0, drop (p .ahead .given .0 .1 .0) (a .s .now))

@@ -1,4 +1,5 @@
--- `inputs::configuration::uint_at` meets its contract: enough bytes stand at the place, or there is no number.
+-- `inputs::configuration::uint_at` meets its contract: enough bytes stand at the offset, or there
+-- is no number.
 use borrow.Author.Needs.{needs}
 use mathlib.Core.Path.{refl, sym}
 use native.Mathlib.Omega.{arith}

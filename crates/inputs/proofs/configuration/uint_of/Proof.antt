@@ -1,4 +1,5 @@
--- `inputs::configuration::uint_of` meets its contract: what is read so far and the bytes that are left spell the number.
+-- `inputs::configuration::uint_of` meets its contract: what is read so far and the bytes that are
+-- left encode the number.
 use mathlib.Core.Path.{_≡_, sym, _∙_}
 use Prim.Native.Nat.{_-_, _^_, _≤_, _<_}
 use native.Mathlib.Numerals.{add-one}

@@ -1,4 +1,5 @@
--- `inputs::response::is_loose` meets its contract: a lookup follows no entry where the first line of the entries is one.
+-- `inputs::response::is_loose` meets its contract: a lookup follows no entry where the first line
+-- of the entries is one.
 use mathlib.Core.Path.{sym, _∙_}
 use mathlib.Core.Bool.{true, false}
 use Rattle.inputs.proofs.ResponseSectionLaws.{role-told, loose-line, loose-none}

@@ -1,7 +1,9 @@
--- `inputs::response::read_body` meets its contract: each section begins where the one before it stops, and the text ends with the last.
+-- `inputs::response::read_body` meets its contract: each section begins where the one before it
+-- stops, and the text ends with the last.
 use mathlib.Core.Path.{sym, _∙_}
 use native.Mathlib.Omega.{arith}
-use Rattle.inputs.proofs.ResponseBodyLaws.{parts-loose, parts-unended, parts-more, parts-whole, parts-counted, parts-ordered, parts-filled}
+use Rattle.inputs.proofs.ResponseBodyLaws.{parts-loose, parts-unended, parts-more, parts-whole}
+use Rattle.inputs.proofs.ResponseBodyLaws.{parts-counted, parts-ordered, parts-filled}
 use borrow.Author.Needs.{needs}
 use Rattle.inputs.proofs.response.read_body.Statement.{statement}
 use Rattle.inputs.proofs.response.read_body.Tie as tie

@@ -1,4 +1,5 @@
--- `inputs::response::read_response` meets its contract: the sections are read after what stands before them.
+-- `inputs::response::read_response` meets its contract: the sections are read after what stands
+-- before them.
 use mathlib.Core.Path.{sym, _∙_, ap}
 use Rattle.inputs.specs.ResponseHeader.{headedOf}
 use borrow.Author.Needs.{needs}

@@ -1,4 +1,5 @@
--- `inputs::response::role_from` meets its contract: the line at the place has a role, or there is no line.
+-- `inputs::response::role_from` meets its contract: the line at the offset has a role, or there is
+-- no line.
 use mathlib.Core.Path.{_≡_, sym, _∙_, ap}
 use mathlib.Core.Option.{some}
 use native.Mathlib.Omega.{arith}

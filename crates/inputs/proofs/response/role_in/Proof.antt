@@ -3,7 +3,8 @@ use mathlib.Core.Path.{_≡_, sym, _∙_, ap}
 use Rattle.lists.specs.Lists.{Bytes}
 use Rattle.inputs.specs.declared.response.Sort.{Sort}
 use Rattle.inputs.specs.ResponseSections.{readRole}
-use Rattle.inputs.proofs.ResponseSectionLaws.{line-begins, line-outside, entry-begins, lookup-continues, other-outside}
+use Rattle.inputs.proofs.ResponseSectionLaws.{line-begins, line-outside, entry-begins}
+use Rattle.inputs.proofs.ResponseSectionLaws.{lookup-continues, other-outside}
 use borrow.Author.Needs.{needs}
 use Rattle.inputs.proofs.response.role_in.Statement.{statement}
 use Rattle.inputs.proofs.response.role_in.Tie as tie

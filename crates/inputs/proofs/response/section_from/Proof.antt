@@ -1,4 +1,5 @@
--- `inputs::response::section_from` meets its contract: the lines passed so far all belong to the section, and are counted.
+-- `inputs::response::section_from` meets its contract: the lines passed so far all belong to the
+-- section, and are counted.
 use mathlib.Core.Path.{_≡_, sym, _∙_}
 use mathlib.Core.Bool.{true, false}
 use mathlib.Core.Option.{some}
@@ -8,7 +9,8 @@ use lib.ListN.{length}
 use Rattle.inputs.specs.ResponseHeader.{readFrom}
 use Rattle.inputs.specs.ResponseSections.{readRole}
 use Rattle.inputs.proofs.ResponseLaws.{from-was}
-use Rattle.inputs.proofs.ResponseSectionLaws.{role-told, Running, running-start, running-begins, running-continues, running-ends}
+use Rattle.inputs.proofs.ResponseSectionLaws.{role-told, Running, running-start, running-begins}
+use Rattle.inputs.proofs.ResponseSectionLaws.{running-continues, running-ends}
 use borrow.Author.Needs.{needs}
 use Rattle.inputs.proofs.response.section_from.Statement.{statement}
 use Rattle.inputs.proofs.response.section_from.Tie as tie
@@ -19,7 +21,7 @@ Inv-loop text sort from at₀ count₀ at count = (at ≤ length text) × (count
 abbrev μ-loop : tie.MeasureT-loop
 μ-loop text sort from at₀ count₀ at count = length text - at
 
--- the line at the place begins something
+-- the line at the offset begins something
 begins : (P : tie.After-enum-told Inv-loop μ-loop)
     → let l = P .before .before .before in
     let a = l .before .before .args in

@@ -1,4 +1,5 @@
--- `inputs::response_header::finding_from` meets its contract: the kind says whether a target line is read.
+-- `inputs::response_header::finding_from` meets its contract: the kind says whether a target line
+-- is read.
 use mathlib.Core.Path.{refl}
 use Rattle.inputs.specs.Response.{findingIn}
 use Rattle.inputs.specs.ResponseHeader.{readFinding}

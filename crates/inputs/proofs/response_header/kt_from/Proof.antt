@@ -1,4 +1,5 @@
--- `inputs::response_header::kt_from` meets its contract: the first line is read, and its fields stand in the text where they stand in the line.
+-- `inputs::response_header::kt_from` meets its contract: the first line is read, and its fields
+-- stand in the text where they stand in the line.
 use mathlib.Core.Path.{_≡_, sym, _∙_, ap}
 use mathlib.Core.Option.{some}
 use native.Mathlib.Omega.{arith}
@@ -8,7 +9,7 @@ use Rattle.lines.proofs.SectionLaws.{line-here}
 use Rattle.inputs.specs.ResponseLines.{ktOf}
 use Rattle.inputs.specs.ResponseHeader.{readKt}
 use Rattle.inputs.proofs.ResponseLaws.{from-open, from-none}
-use Rattle.inputs.proofs.ResponseFieldLaws.{line-opened, opened-spells}
+use Rattle.inputs.proofs.ResponseFieldLaws.{line-opened, opened-decodes}
 use borrow.Author.Needs.{needs}
 use Rattle.inputs.proofs.response_header.kt_from.Statement.{statement}
 use Rattle.inputs.proofs.response_header.kt_from.Tie as tie
@@ -51,7 +52,7 @@ returns c =
     let r = P .kt-line .ensures in
     let k = c .before .kind .given .1 in
     let e = line (P .before .before) in
-    (line-opened _ _ _ _ _ _ _ e (r .0) (r .1) k, opened-spells _ _ _ _ _ _ _ e (r .1) k)
+    (line-opened _ _ _ _ _ _ _ e (r .0) (r .1) k, opened-decodes _ _ _ _ _ _ _ e (r .1) k)
 
 returns-2 : tie.Need-returns-2
 returns-2 c =

@@ -1,4 +1,5 @@
--- `inputs::response_header::target_from` meets its contract: the line at the place is read as a `target` line, and its fields are moved from the line to the text.
+-- `inputs::response_header::target_from` meets its contract: the line at the offset is read as a
+-- `target` line, and its fields are moved from the line to the text.
 use mathlib.Core.Path.{_≡_, sym, _∙_, ap}
 use mathlib.Core.Option.{some}
 use native.Mathlib.Omega.{arith}
@@ -9,7 +10,8 @@ use Rattle.lines.proofs.SectionLaws.{line-here}
 use Rattle.rules.specs.ResponseText.{targetForm}
 use Rattle.inputs.specs.ResponseLines.{targetOf}
 use Rattle.inputs.proofs.ResponseLaws.{from-open, from-none}
-use Rattle.inputs.proofs.ResponseFieldLaws.{TargetWithin, target-unfound, target-within, target-spells, target-found}
+use Rattle.inputs.proofs.ResponseFieldLaws.{TargetWithin, target-unfound, target-within}
+use Rattle.inputs.proofs.ResponseFieldLaws.{target-decodes, target-found}
 use borrow.Author.Needs.{needs}
 use Rattle.inputs.proofs.response_header.target_from.Statement.{statement}
 use Rattle.inputs.proofs.response_header.target_from.Tie as tie
@@ -74,7 +76,7 @@ returns c =
     let r = Q .target-line .ensures in
     let e = line (Q .before .before) in
     let k = P .before .t .given .1 in
-    (target-found _ _ _ _ _ _ e (r .1) k (r .0), target-spells _ _ _ _ _ _ e (r .1) k)
+    (target-found _ _ _ _ _ _ e (r .1) k (r .0), target-decodes _ _ _ _ _ _ e (r .1) k)
 
 returns-2 : tie.Need-returns-2
 returns-2 c =

@@ -1,4 +1,5 @@
--- `inputs::response_lines::ends_with_siblings` meets its contract: the last field spells whole siblings, and not too many.
+-- `inputs::response_lines::ends_with_siblings` meets its contract: the last field encodes whole
+-- siblings, and not too many.
 use mathlib.Core.Path.{refl, sym, _∙_}
 use borrow.Author.Tests.{eq-eqb, ne-eqb}
 use Rattle.inputs.proofs.ResponseLineLaws.{last-given, last-missing}

@@ -1,7 +1,7 @@
 -- `inputs::response_lines::is_end` meets its contract: the line is its word.
 use mathlib.Core.Path.{sym, _∙_, ap}
 use mathlib.Core.List.{[]}
-use Rattle.lists.specs.Choice.{given}
+use Rattle.lists.specs.Choice.{isSome}
 use Rattle.lists.proofs.ChoiceLaws.{given-provided, none-given}
 use Rattle.lines.specs.Number.{ascii}
 use Rattle.lines.specs.Readings.{wordOf}
@@ -30,7 +30,7 @@ returns-2 : tie.Need-returns-2
 unfolding ascii
 returns-2 c =
     let e = sym (c .before .before .before .before .word .ensures) ∙ ap wordOf (c .before .before .next .given .1) in
-    sym (ap given (line-on _ _ [] _ e ∙ read-ended _ _) ∙ given-provided _ _)
+    sym (ap isSome (line-on _ _ [] _ e ∙ read-ended _ _) ∙ given-provided _ _)
 
 pub is-end-spec : {M : Type 1} → statement M
 is-end-spec =

@@ -1,7 +1,8 @@
--- `inputs::response_lines::is_entry` meets its contract: the line is its word, two numbers and a hash.
+-- `inputs::response_lines::is_entry` meets its contract: the line is its word, two numbers and a
+-- hash.
 use mathlib.Core.Path.{_≡_, sym, _∙_, ap}
 use mathlib.Core.List.{[], _∷_}
-use Rattle.lists.specs.Choice.{given}
+use Rattle.lists.specs.Choice.{isSome}
 use Rattle.lists.proofs.ChoiceLaws.{none-given}
 use Rattle.lines.specs.Number.{ascii}
 use Rattle.lines.specs.Field.{number, exactly, readFields}
@@ -10,27 +11,28 @@ use Rattle.lines.specs.Readings.{nextNumberOf}
 use Rattle.lines.proofs.FormLaws.{read-number-on, field-off, field-given}
 use Rattle.rules.specs.Limits.{numberBound, hashLength}
 use Rattle.rules.specs.ResponseText.{readEntryLine}
-use Rattle.inputs.proofs.ResponseLineLaws.{number-off, number-given, last-given, last-missing, entry-given}
+use Rattle.inputs.proofs.ResponseLineLaws.{number-off, number-given, last-given, last-missing}
+use Rattle.inputs.proofs.ResponseLineLaws.{entry-given}
 use borrow.Author.Needs.{needs}
 use Rattle.inputs.proofs.response_lines.is_entry.Statement.{statement}
 use Rattle.inputs.proofs.response_lines.is_entry.Tie as tie
 
 -- after the position the line is given if time and hash are
-time-given : (P : tie.After-next)
+timestamp-given : (P : tie.After-next)
     → let l = P .before .before .before .before .before .args .l .now in
-    given (readEntryLine l) ≡ given (readFields (number numberBound ∷ exactly hashLength ∷ []) (fieldsFrom l (P .next .given .0 .1 .0 .at)))
+    isSome (readEntryLine l) ≡ isSome (readFields (number numberBound ∷ exactly hashLength ∷ []) (fieldsFrom l (P .next .given .0 .1 .0 .at)))
 unfolding ascii
-time-given P =
+timestamp-given P =
     let e = sym (P .before .before .number-after .ensures) ∙ ap nextNumberOf (P .next .given .1) in
     entry-given _ ∙ number-given _ _ _ (number numberBound ∷ exactly hashLength ∷ []) _ _ e
 
 -- after the time it is given if the hash is
 hash-given : (P : tie.After-next2)
     → let l = P .before .before .before .before .before .before .before .before .before .args .l .now in
-    given (readEntryLine l) ≡ given (readFields (exactly hashLength ∷ []) (fieldsFrom l (P .next2 .given .0 .1 .0 .at)))
+    isSome (readEntryLine l) ≡ isSome (readFields (exactly hashLength ∷ []) (fieldsFrom l (P .next2 .given .0 .1 .0 .at)))
 hash-given P =
     let e = sym (P .before .before .number .ensures) ∙ ap nextNumberOf (P .next2 .given .1) in
-    time-given (P .before .before .before .before) ∙ field-given _ (number numberBound) (exactly hashLength ∷ []) _ _ _ (read-number-on _ _ _ ∙ e)
+    timestamp-given (P .before .before .before .before) ∙ field-given _ (number numberBound) (exactly hashLength ∷ []) _ _ _ (read-number-on _ _ _ ∙ e)
 
 slice-aggregate-number-after : tie.Need-slice-aggregate-number-after
 slice-aggregate-number-after c = search needs
@@ -63,7 +65,7 @@ returns-2 : tie.Need-returns-2
 returns-2 c =
     let e = sym (c .before .before .number .ensures) ∙ ap nextNumberOf (c .enum-told2 .given .1) in
     let f = field-off _ (number numberBound) (exactly hashLength ∷ []) _ (read-number-on _ _ _ ∙ e) in
-    sym (time-given (c .before .before .before .before) ∙ none-given _ f)
+    sym (timestamp-given (c .before .before .before .before) ∙ none-given _ f)
 
 last-bytes-requires : tie.Need-last-bytes-requires
 last-bytes-requires c κs = search needs

@@ -1,7 +1,8 @@
--- `inputs::response_lines::is_leaf_lookup` meets its contract: the line is its word, a version, a VRF output, a commitment and siblings.
+-- `inputs::response_lines::is_leaf_lookup` meets its contract: the line is its word, a version, a
+-- VRF output, a commitment and siblings.
 use mathlib.Core.Path.{_≡_, sym, _∙_, ap}
 use mathlib.Core.List.{[], _∷_}
-use Rattle.lists.specs.Choice.{given}
+use Rattle.lists.specs.Choice.{isSome}
 use Rattle.lists.proofs.ChoiceLaws.{none-given}
 use Rattle.lines.proofs.FormLaws.{field-off, field-given}
 use Rattle.lines.specs.Number.{ascii}
@@ -20,8 +21,8 @@ use Rattle.inputs.proofs.response_lines.is_leaf_lookup.Tie as tie
 -- after the version the line is given if the fields from the VRF output on are
 output-given : (P : tie.After-next)
     → let l = P .before .before .before .before .before .args .l .now in
-    given (readLine nlForm l)
-    ≡ given (readFields (exactly vrfOutputLength ∷ exactly hashLength ∷ siblingsField ∷ []) (fieldsFrom l (P .next .given .0 .1 .0 .at)))
+    isSome (readLine nlForm l)
+    ≡ isSome (readFields (exactly vrfOutputLength ∷ exactly hashLength ∷ siblingsField ∷ []) (fieldsFrom l (P .next .given .0 .1 .0 .at)))
 unfolding ascii
 output-given P =
     let e = sym (P .before .before .number-after .ensures) ∙ ap nextNumberOf (P .next .given .1) in
@@ -30,7 +31,7 @@ output-given P =
 -- after the VRF output if those from the commitment on are
 commitment-given : (P : tie.After-next2)
     → let l = P .before .before .before .before .before .before .before .before .before .args .l .now in
-    given (readLine nlForm l) ≡ given (readFields (exactly hashLength ∷ siblingsField ∷ []) (fieldsFrom l (P .next2 .given .0 .1 .0 .at)))
+    isSome (readLine nlForm l) ≡ isSome (readFields (exactly hashLength ∷ siblingsField ∷ []) (fieldsFrom l (P .next2 .given .0 .1 .0 .at)))
 commitment-given P =
     let e = sym (P .before .before .next-part .ensures .0) ∙ ap (nextPartOf _) (P .next2 .given .1) in
     output-given (P .before .before .before .before) ∙ field-given _ (exactly vrfOutputLength) (exactly hashLength ∷ siblingsField ∷ []) _ _ _ e
@@ -38,7 +39,7 @@ commitment-given P =
 -- after the commitment if the siblings are
 siblings-given : (P : tie.After-next3)
     → let l = P .before .before .before .before .before .before .before .before .before .before .before .before .before .args .l .now in
-    given (readLine nlForm l) ≡ given (readFields (siblingsField ∷ []) (fieldsFrom l (P .next3 .given .0 .1 .0 .at)))
+    isSome (readLine nlForm l) ≡ isSome (readFields (siblingsField ∷ []) (fieldsFrom l (P .next3 .given .0 .1 .0 .at)))
 siblings-given P =
     let e = sym (P .before .before .next-part2 .ensures .0) ∙ ap (nextPartOf _) (P .next3 .given .1) in
     commitment-given (P .before .before .before .before) ∙ field-given _ (exactly hashLength) (siblingsField ∷ []) _ _ _ e

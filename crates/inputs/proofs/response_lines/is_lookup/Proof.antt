@@ -1,6 +1,7 @@
--- `inputs::response_lines::is_lookup` meets its contract: the three forms are tried one after the other.
+-- `inputs::response_lines::is_lookup` meets its contract: the three forms are tried one after the
+-- other.
 use mathlib.Core.Path.{_≡_, refl, sym, _∙_}
-use Rattle.lists.specs.Choice.{given}
+use Rattle.lists.specs.Choice.{isSome}
 use Rattle.lines.specs.Number.{ascii}
 use Rattle.lines.specs.Line.{readLine}
 use Rattle.rules.specs.ResponseText.{inForm, noForm}
@@ -11,13 +12,13 @@ use Rattle.inputs.proofs.response_lines.is_lookup.Tie as tie
 
 -- the first call asks for an `in` line
 in-asked : (P : tie.After-is-plain-lookup)
-    → given (readLine inForm (P .before .before .before .args .l .now)) ≡ P .is-plain-lookup .result
+    → isSome (readLine inForm (P .before .before .before .args .l .now)) ≡ P .is-plain-lookup .result
 unfolding ascii
 in-asked P = sym (P .is-plain-lookup .ensures)
 
 -- the second for a `no` line
 no-asked : (P : tie.After-is-plain-lookup2)
-    → given (readLine noForm (P .before .before .before .before .before .before .args .l .now)) ≡ P .is-plain-lookup2 .result
+    → isSome (readLine noForm (P .before .before .before .before .before .before .args .l .now)) ≡ P .is-plain-lookup2 .result
 unfolding ascii
 no-asked P = sym (P .is-plain-lookup2 .ensures)
 

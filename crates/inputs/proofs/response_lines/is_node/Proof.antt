@@ -1,7 +1,7 @@
 -- `inputs::response_lines::is_node` meets its contract: the line is its word and a hash.
 use mathlib.Core.Path.{_≡_, sym, _∙_, ap}
 use mathlib.Core.List.{[], _∷_}
-use Rattle.lists.specs.Choice.{given}
+use Rattle.lists.specs.Choice.{isSome}
 use Rattle.lists.proofs.ChoiceLaws.{none-given}
 use Rattle.lines.proofs.FormLaws.{line-on, line-off}
 use Rattle.lines.specs.Number.{ascii}
@@ -18,11 +18,11 @@ use Rattle.inputs.proofs.response_lines.is_node.Tie as tie
 -- after the word the line is given if its last field is
 hash-given : (P : tie.After-next)
     → let l = P .before .before .before .before .before .args .l .now in
-    given (readNode l) ≡ given (readFields (exactly hashLength ∷ []) (fieldsFrom l (P .next .given .0 .0 .at)))
+    isSome (readNode l) ≡ isSome (readFields (exactly hashLength ∷ []) (fieldsFrom l (P .next .given .0 .0 .at)))
 unfolding ascii
 hash-given P =
     let e = sym (P .before .before .word .ensures) ∙ ap wordOf (P .next .given .1) in
-    node-given _ ∙ ap given (line-on _ _ (exactly hashLength ∷ []) _ e)
+    node-given _ ∙ ap isSome (line-on _ _ (exactly hashLength ∷ []) _ e)
 
 slice-aggregate-word : tie.Need-slice-aggregate-word
 slice-aggregate-word c = search needs

@@ -1,4 +1,5 @@
--- `inputs::response_lines::is_plain_lookup` meets its contract: the line is the word, a version and siblings.
+-- `inputs::response_lines::is_plain_lookup` meets its contract: the line is the word, a version and
+-- siblings.
 use mathlib.Core.Path.{sym, _∙_, ap}
 use mathlib.Core.List.{[], _∷_}
 use Rattle.lists.proofs.ChoiceLaws.{none-given}

@@ -1,15 +1,17 @@
--- `inputs::response_lines::is_step` meets its contract: the line is its word, a version, and a commitment or none.
+-- `inputs::response_lines::is_step` meets its contract: the line is its word, a version, and a
+-- commitment or none.
 use mathlib.Core.Path.{_≡_, refl, sym, _∙_, ap}
 use mathlib.Core.List.{[], _∷_}
 use borrow.Author.Tests.{eq-eqb, ne-eqb}
-use Rattle.lists.specs.Choice.{given}
+use Rattle.lists.specs.Choice.{isSome}
 use Rattle.lists.proofs.ChoiceLaws.{none-given}
 use Rattle.lines.specs.Number.{ascii}
 use Rattle.lines.specs.Field.{readFields}
 use Rattle.lines.specs.Cursor.{fieldsFrom}
 use Rattle.lines.specs.Readings.{nextNumberOf}
 use Rattle.rules.specs.ResponseText.{commitmentField, readStep}
-use Rattle.inputs.proofs.ResponseLineLaws.{number-off, number-given, last-given, last-missing, step-given}
+use Rattle.inputs.proofs.ResponseLineLaws.{number-off, number-given, last-given, last-missing}
+use Rattle.inputs.proofs.ResponseLineLaws.{step-given}
 use borrow.Author.Needs.{needs}
 use Rattle.inputs.proofs.response_lines.is_step.Statement.{statement}
 use Rattle.inputs.proofs.response_lines.is_step.Tie as tie
@@ -17,7 +19,7 @@ use Rattle.inputs.proofs.response_lines.is_step.Tie as tie
 -- after the version the line is given if its last field is
 commitment-given : (P : tie.After-next)
     → let l = P .before .before .before .before .before .args .l .now in
-    given (readStep l) ≡ given (readFields (commitmentField ∷ []) (fieldsFrom l (P .next .given .0 .1 .0 .at)))
+    isSome (readStep l) ≡ isSome (readFields (commitmentField ∷ []) (fieldsFrom l (P .next .given .0 .1 .0 .at)))
 unfolding ascii
 commitment-given P =
     let e = sym (P .before .before .number-after .ensures) ∙ ap nextNumberOf (P .next .given .1) in

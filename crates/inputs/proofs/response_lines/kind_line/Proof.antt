@@ -1,4 +1,5 @@
--- `inputs::response_lines::kind_line` meets its contract: the two words are passed over, then the two parts are read.
+-- `inputs::response_lines::kind_line` meets its contract: the two words are passed over, then the
+-- two parts are read.
 use mathlib.Core.Path.{_≡_, refl, sym, _∙_, ap}
 use mathlib.Core.Option.{some}
 use Rattle.lines.specs.Number.{ascii}

@@ -1,4 +1,5 @@
--- `inputs::response_lines::kt_line` meets its contract: the line is read as one of a search, else as one of monitoring.
+-- `inputs::response_lines::kt_line` meets its contract: the line is read as one of a search, else
+-- as one of monitoring.
 use mathlib.Core.Path.{refl}
 use Rattle.lists.specs.Choice.{orElse}
 use Rattle.lines.specs.Number.{ascii}

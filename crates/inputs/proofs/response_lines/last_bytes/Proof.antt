@@ -1,11 +1,12 @@
--- `inputs::response_lines::last_bytes` meets its contract: the field spells a byte string, and no other follows it.
+-- `inputs::response_lines::last_bytes` meets its contract: the field encodes a byte string, and no
+-- other follows it.
 use mathlib.Core.Path.{_≡_, refl, sym, _∙_, ap}
 use mathlib.Core.List.{[]}
 use mathlib.Core.Option.{some}
 use native.Mathlib.Omega.{arith}
 use borrow.Author.Tests.{lt-ltb, le-ltb}
 use Rattle.lists.specs.Choice.{provided}
-use Rattle.lines.specs.Hex.{spelledLength}
+use Rattle.lines.specs.Hex.{decodedLength}
 use Rattle.lines.specs.Field.{bytes}
 use Rattle.lines.specs.Cursor.{readAt}
 use Rattle.lines.specs.Readings.{nextBytesOf}
@@ -15,11 +16,11 @@ use borrow.Author.Needs.{needs}
 use Rattle.inputs.proofs.response_lines.last_bytes.Statement.{statement}
 use Rattle.inputs.proofs.response_lines.last_bytes.Tie as tie
 
--- a byte string was spelled at the cursor
-spelled-here : (P : tie.After-length)
+-- a byte string was encoded at the cursor
+decoded-here : (P : tie.After-length)
     → let a = P .before .before .before .before .args in
-    readAt spelledLength (a .l .now) (a .c .at) ≡ some (P .length .given .0 .0, P .length .given .0 .1 .0 .at)
-spelled-here P = sym (P .before .before .bytes .ensures) ∙ ap nextBytesOf (P .length .given .1)
+    readAt decodedLength (a .l .now) (a .c .at) ≡ some (P .length .given .0 .0, P .length .given .0 .1 .0 .at)
+decoded-here P = sym (P .before .before .bytes .ensures) ∙ ap nextBytesOf (P .length .given .1)
 
 bytes-requires : tie.Need-bytes-requires
 bytes-requires c κs = search needs
@@ -38,15 +39,15 @@ returns c =
 returns-2 : tie.Need-returns-2
 unfolding provided
 returns-2 c =
-    let e = spelled-here (c .before .before .before) in
+    let e = decoded-here (c .before .before .before) in
     (λ fits. sym (last-field _ _ _ _ e fits ∙ rw (le-ltb _ _ (c .if1 .taken)) refl), tt)
 
 sub-t7 : tie.Need-sub-t7
-sub-t7 c = let p = part-stands _ _ _ _ (spelled-here (c .before .before .before .before)) .0 in omega arith
+sub-t7 c = let p = part-stands _ _ _ _ (decoded-here (c .before .before .before .before)) .0 in omega arith
 
 returns-3 : tie.Need-returns-3
 returns-3 c =
-    let e = spelled-here (c .before .before .before .before) in
+    let e = decoded-here (c .before .before .before .before) in
     (λ fits. sym (last-field _ _ _ _ e fits ∙ rw (lt-ltb _ _ (c .before .if1 .left)) refl), part-stands _ _ _ _ e .1)
 
 pub last-bytes-spec : {M : Type 1} → statement M

@@ -1,4 +1,5 @@
--- `inputs::response_lines::last_parts` meets its contract: the first field has its length, and the last is not too long.
+-- `inputs::response_lines::last_parts` meets its contract: the first field has its length, and the
+-- last is not too long.
 use mathlib.Core.Path.{_≡_, refl, sym, _∙_, ap}
 use mathlib.Core.List.{[], _∷_}
 use mathlib.Core.Option.{bind}
@@ -10,7 +11,7 @@ use Rattle.lines.specs.Field.{exactly, upTo, readFields}
 use Rattle.lines.specs.Cursor.{fieldsFrom}
 use Rattle.lines.specs.Readings.{partOf}
 use Rattle.lines.proofs.FormLaws.{withRest, field-on, field-off}
-use Rattle.inputs.specs.ResponseLines.{spelled, nextPartOf, lastBytesOf}
+use Rattle.inputs.specs.ResponseLines.{decoded, nextPartOf, lastBytesOf}
 use borrow.Author.Needs.{needs}
 use Rattle.inputs.proofs.response_lines.last_parts.Statement.{statement}
 use Rattle.inputs.proofs.response_lines.last_parts.Tie as tie
@@ -21,7 +22,7 @@ first-read : (P : tie.After-last-bytes)
     let l = a .l .now in
     let rest = upTo (a .longest) ∷ [] in
     readFields (exactly (a .wanted) ∷ rest) (fieldsFrom l (a .c .at))
-    ≡ withRest (exactly (a .wanted)) rest (spelled (partOf l (P .before .before .first .given .0 .0)))
+    ≡ withRest (exactly (a .wanted)) rest (decoded (partOf l (P .before .before .first .given .0 .0)))
     (lastBytesOf l (λ (n : ℕ). leb n (a .longest)) (P .last-bytes .result))
 first-read P =
     let a = P .before .before .before .before .before .before .args in

@@ -1,4 +1,5 @@
--- `inputs::response_lines::target_line` meets its contract: the line is its word, a version and the two parts.
+-- `inputs::response_lines::target_line` meets its contract: the line is its word, a version and the
+-- two parts.
 use mathlib.Core.Path.{_≡_, refl, sym, _∙_, ap}
 use mathlib.Core.List.{[], _∷_}
 use mathlib.Core.Option.{some, bind}

@@ -1,10 +1,12 @@
--- `inputs::state::pairs_fit` meets its contract: the pairs before i fit, so what is left decides, from the position after the last on.
+-- `inputs::state::pairs_fit` meets its contract: the pairs before i fit, so what is left decides,
+-- from the position after the last on.
 use mathlib.Core.Path.{_≡_}
 use Prim.Native.Nat.{_-_, _≤_}
 use native.Mathlib.Omega.{arith}
 use lib.ListN.{length}
 use Rattle.rules.specs.Limits.{mapLimit}
-use Rattle.inputs.proofs.PairLaws.{PairsLeft, pairs-start, pairs-end, pairs-low, pairs-high, pairs-great, pairs-next}
+use Rattle.inputs.proofs.PairLaws.{PairsLeft, pairs-start, pairs-end, pairs-low, pairs-high}
+use Rattle.inputs.proofs.PairLaws.{pairs-great, pairs-next}
 use borrow.Author.Needs.{needs}
 use Rattle.inputs.proofs.state.pairs_fit.Statement.{statement}
 use Rattle.inputs.proofs.state.pairs_fit.Tie as tie

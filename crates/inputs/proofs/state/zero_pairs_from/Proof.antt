@@ -1,4 +1,5 @@
--- `inputs::state::zero_pairs_from` meets its contract: positions and versions before i are zero, so those from i on decide.
+-- `inputs::state::zero_pairs_from` meets its contract: positions and versions before i are zero, so
+-- those from i on decide.
 use mathlib.Core.Path.{_≡_, refl, sym, _∙_}
 use mathlib.Core.Bool.{and-false}
 use Prim.Native.Nat.{_-_}

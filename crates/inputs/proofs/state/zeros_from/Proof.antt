@@ -1,4 +1,5 @@
--- `inputs::state::zeros_from` meets its contract: the bytes before i are zero, so those from i on decide.
+-- `inputs::state::zeros_from` meets its contract: the bytes before i are zero, so those from i on
+-- decide.
 use mathlib.Core.Path.{_≡_, refl, sym, _∙_}
 use Prim.Native.Nat.{_-_}
 use lib.ListN.{length}

@@ -1,12 +1,14 @@
--- `inputs::state_reader::checked` meets its contract: with too many values or pairs, or another number of values than the size tells, no state is
--- valid; else the struct is that of the state, and is valid where the state is.
+-- `inputs::state_reader::checked` meets its contract: with too many values or pairs, or another
+-- number of values than the size tells, no state is valid; else the struct is that of the state,
+-- and is valid where the state is.
 use mathlib.Core.Path.{sym, _∙_, ap}
 use Prim.Native.Nat.{_<_, _^_}
 use native.Mathlib.Omega.{arith}
 use lib.Count.{ones-le}
 use borrow.Author.Needs.{needs}
 use Rattle.inputs.specs.State.{numberedBlock}
-use Rattle.inputs.proofs.StateReaderLaws.{refused-count, refused-values, refused-pairs, accepted, refused-invalid}
+use Rattle.inputs.proofs.StateReaderLaws.{refused-count, refused-values, refused-pairs, accepted}
+use Rattle.inputs.proofs.StateReaderLaws.{refused-invalid}
 use Rattle.inputs.proofs.state_reader.checked.Statement.{statement}
 use Rattle.inputs.proofs.state_reader.checked.Tie as tie
 
@@ -41,19 +43,19 @@ is-valid-requires c κs = search needs
 
 returns-4 : tie.Need-returns-4
 returns-4 c st g =
-    let t = c .before .before .before .before .before .before in
+    let t = c .before .before .before .before in
     let e = sym (c .before .is-valid .ensures) ∙ c .if4 .taken in
-    accepted _ _ _ st g (t .before .before .before .before .if1 .left) (t .before .before .if2 .left) (t .if3 .left) e
+    accepted _ _ _ st g (t .before .before .before .before .before .if1 .left) (t .before .before .before .if2 .left) (t .if3 .left) e
 
 refused-requires-4 : tie.Need-refused-requires-4
 refused-requires-4 c κs = search needs
 
 returns-5 : tie.Need-returns-5
 returns-5 c st g =
-    let t = c .before .before .before .before .before .before .before in
+    let t = c .before .before .before .before .before in
     let e = sym (c .before .before .is-valid .ensures) ∙ c .before .if4 .left in
     c .refused4 .ensures
-    ∙ ap numberedBlock (refused-invalid _ _ _ st g (t .before .before .before .before .if1 .left) (t .before .before .if2 .left) (t .if3 .left) e)
+    ∙ ap numberedBlock (refused-invalid _ _ _ st g (t .before .before .before .before .before .if1 .left) (t .before .before .before .if2 .left) (t .if3 .left) e)
 
 pub checked-spec : {M : Type 1} → statement M
 checked-spec =

@@ -1,4 +1,5 @@
--- `inputs::state_reader::keep_line` meets its contract: the word is read, then the only field behind it.
+-- `inputs::state_reader::keep_line` meets its contract: the word is read, then the only field after
+-- it.
 use mathlib.Core.Path.{_≡_, sym, _∙_, ap}
 use mathlib.Core.Option.{some}
 use native.Mathlib.Omega.{arith}

@@ -1,4 +1,5 @@
--- `inputs::state_reader::pair_line` meets its contract: the word, the position and the version are read one after the other, and nothing may follow.
+-- `inputs::state_reader::pair_line` meets its contract: the word, the position and the version are
+-- read one after the other, and nothing may follow.
 use mathlib.Core.Path.{_≡_, sym, _∙_, ap}
 use mathlib.Core.Option.{some}
 use native.Mathlib.Omega.{arith}
@@ -7,7 +8,8 @@ use Rattle.lines.specs.Number.{ascii, readNumber}
 use Rattle.lines.specs.Cursor.{readAt, wordAt}
 use Rattle.lines.specs.Readings.{wordOf, nextNumberOf}
 use Rattle.rules.specs.Limits.{numberBound, versionBound}
-use Rattle.inputs.proofs.StateLineLaws.{number-within, pair-no-word, pair-no-position, pair-no-version, pair-more, pair-read}
+use Rattle.inputs.proofs.StateLineLaws.{number-within, pair-no-word, pair-no-position, pair-no-version}
+use Rattle.inputs.proofs.StateLineLaws.{pair-more, pair-read}
 use Rattle.inputs.proofs.state_reader.pair_line.Statement.{statement}
 use Rattle.inputs.proofs.state_reader.pair_line.Tie as tie
 

@@ -1,4 +1,5 @@
--- `inputs::state_reader::read_after_size` meets its contract: what follows the `pair` lines is the end of the text, or no state is read.
+-- `inputs::state_reader::read_after_size` meets its contract: what follows the `pair` lines is the
+-- end of the text, or no state is read.
 use mathlib.Core.Path.{sym, _∙_, ap}
 use mathlib.Core.Option.{Option}
 use borrow.Author.Needs.{needs}

@@ -1,5 +1,5 @@
--- `inputs::state_reader::read_keeps` meets its contract. The loop's invariant: the lines so far all lead, and are counted; the first of
--- their values stand in the block.
+-- `inputs::state_reader::read_keeps` meets its contract. The loop's invariant: the lines so far all
+-- lead, and are counted; the first of their values stand in the block.
 use mathlib.Core.Path.{sym, _∙_, ap}
 use Prim.Native.Nat.{_-_, _≤_}
 use native.Mathlib.Omega.{arith}
@@ -9,7 +9,8 @@ use borrow.Author.Needs.{needs}
 use Rattle.lines.specs.Readings.{lineOf}
 use Rattle.lines.proofs.SectionLaws.{LineHere, line-here}
 use Rattle.rules.specs.StateText.{readKeep}
-use Rattle.inputs.proofs.StateRunLaws.{none-open, none-end, KeepsTo, keeps-start, keeps-next, keeps-block, keeps-other, keeps-stop}
+use Rattle.inputs.proofs.StateRunLaws.{none-open, none-end, KeepsTo, keeps-start, keeps-next}
+use Rattle.inputs.proofs.StateRunLaws.{keeps-block, keeps-other, keeps-stop}
 use Rattle.inputs.proofs.state_reader.read_keeps.Statement.{statement}
 use Rattle.inputs.proofs.state_reader.read_keeps.Tie as tie
 

@@ -1,5 +1,5 @@
--- `inputs::state_reader::read_pairs` meets its contract. The loop's invariant: the lines so far all lead, and are counted; the first of
--- their positions and versions stand in the arrays.
+-- `inputs::state_reader::read_pairs` meets its contract. The loop's invariant: the lines so far all
+-- lead, and are counted; the first of their positions and versions stand in the arrays.
 use mathlib.Core.Path.{sym, _∙_, ap}
 use Prim.Native.Nat.{_-_, _≤_}
 use native.Mathlib.Omega.{arith}
@@ -9,7 +9,8 @@ use Rattle.lines.specs.Readings.{lineOf}
 use Rattle.lines.proofs.SectionLaws.{LineHere, line-here}
 use Rattle.rules.specs.StateText.{readPair}
 use Rattle.inputs.specs.StateReader.{pairOf}
-use Rattle.inputs.proofs.StateRunLaws.{none-other, none-open, none-end, PairsTo, pairs-start, pairs-room, pairs-next, pairs-stop}
+use Rattle.inputs.proofs.StateRunLaws.{none-other, none-open, none-end, PairsTo, pairs-start}
+use Rattle.inputs.proofs.StateRunLaws.{pairs-room, pairs-next, pairs-stop}
 use Rattle.inputs.proofs.state_reader.read_pairs.Statement.{statement}
 use Rattle.inputs.proofs.state_reader.read_pairs.Tie as tie
 

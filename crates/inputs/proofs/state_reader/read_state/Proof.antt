@@ -1,4 +1,5 @@
--- `inputs::state_reader::read_state` meets its contract: the first line is the `size` line, and the state is read of it and the text after it.
+-- `inputs::state_reader::read_state` meets its contract: the first line is the `size` line, and the
+-- state is read of it and the text after it.
 use mathlib.Core.Path.{sym, _∙_, ap}
 use borrow.Author.Tests.{not-true, not-false}
 use borrow.Author.Needs.{needs}
@@ -6,7 +7,8 @@ use Rattle.lines.specs.Readings.{lineOf}
 use Rattle.lines.proofs.SectionLaws.{LineHere, line-here}
 use Rattle.inputs.specs.State.{numberedBlock}
 use Rattle.inputs.specs.StateReader.{orRefused}
-use Rattle.inputs.proofs.StateReaderLaws.{none-refused, text-long, text-read, text-no-line, text-no-size, text-size}
+use Rattle.inputs.proofs.StateReaderLaws.{none-refused, text-long, text-read, text-no-line}
+use Rattle.inputs.proofs.StateReaderLaws.{text-no-size, text-size}
 use Rattle.inputs.proofs.state_reader.read_state.Statement.{statement}
 use Rattle.inputs.proofs.state_reader.read_state.Tie as tie
 

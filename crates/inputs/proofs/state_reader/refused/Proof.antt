@@ -1,4 +1,5 @@
--- `inputs::state_reader::refused` meets its contract: the state of the empty label is the one to begin with, and it gets the number.
+-- `inputs::state_reader::refused` meets its contract: the state of the empty label is the one to
+-- begin with, and it gets the number.
 use mathlib.Core.Path.{refl, _∙_, ap}
 use borrow.Author.Needs.{needs}
 use Rattle.inputs.specs.declared.state.NumberedState.{NumberedState}

@@ -1,4 +1,5 @@
--- `inputs::state_reader::size_line` meets its contract: the word, the size and the time are read one after the other, and the label is left to `with_label`.
+-- `inputs::state_reader::size_line` meets its contract: the word, the size and the time are read
+-- one after the other, and the label is left to `with_label`.
 use mathlib.Core.Path.{_≡_, sym, _∙_, ap}
 use mathlib.Core.Option.{some}
 use borrow.Author.Needs.{needs}
@@ -7,7 +8,7 @@ use Rattle.lines.specs.Cursor.{readAt, wordAt}
 use Rattle.lines.specs.Readings.{wordOf, nextNumberOf}
 use Rattle.rules.specs.Limits.{numberBound}
 use Rattle.inputs.specs.StateReader.{asSize}
-use Rattle.inputs.proofs.StateLineLaws.{size-no-word, size-no-size, size-no-time, size-labelled}
+use Rattle.inputs.proofs.StateLineLaws.{size-no-word, size-no-size, size-no-timestamp, size-labelled}
 use Rattle.inputs.proofs.state_reader.size_line.Statement.{statement}
 use Rattle.inputs.proofs.state_reader.size_line.Tie as tie
 
@@ -24,11 +25,11 @@ first : (P : tie.After-size)
 first P = sym (P .before .before .number .ensures) ∙ ap nextNumberOf (P .size .given .1)
 
 -- its time is read
-second : (P : tie.After-time)
+second : (P : tie.After-timestamp)
     → let n = P .before .before .before .before in
     readAt (readNumber numberBound) (n .before .before .before .before .before .before .before .before .before .args .l .now) (n .size .given .0 .1 .0 .at)
-    ≡ some (P .time .given .0 .0, P .time .given .0 .1 .0 .at)
-second P = sym (P .before .before .number2 .ensures) ∙ ap nextNumberOf (P .time .given .1)
+    ≡ some (P .timestamp .given .0 .0, P .timestamp .given .0 .1 .0 .at)
+second P = sym (P .before .before .number2 .ensures) ∙ ap nextNumberOf (P .timestamp .given .1)
 
 slice-aggregate-word : tie.Need-slice-aggregate-word
 slice-aggregate-word c = search needs
@@ -72,8 +73,8 @@ returns-2 c =
 number-requires-2 : tie.Need-number-requires-2
 number-requires-2 c κs = search needs
 
-enum-known-time : tie.Need-enum-known-time
-enum-known-time c = search needs
+enum-known-timestamp : tie.Need-enum-known-timestamp
+enum-known-timestamp c = search needs
 
 enum-told-3 : tie.Need-enum-told-3
 enum-told-3 c = search needs
@@ -85,7 +86,7 @@ returns-3 : tie.Need-returns-3
 returns-3 c =
     let s = c .before .before .before .before .before in
     let e = sym (c .before .before .before .number2 .ensures) ∙ ap nextNumberOf (c .before .enum-told3 .given .1) in
-    c .no-size3 .ensures ∙ sym (ap asSize (size-no-time _ _ (word (s .before .before .before .before)) _ _ (first s) e))
+    c .no-size3 .ensures ∙ sym (ap asSize (size-no-timestamp _ _ (word (s .before .before .before .before)) _ _ (first s) e))
 
 with-label-requires : tie.Need-with-label-requires
 with-label-requires c κs = search needs
@@ -112,7 +113,7 @@ size-line-spec =
     no-size-requires-2
     returns-2
     number-requires-2
-    enum-known-time
+    enum-known-timestamp
     enum-told-3
     no-size-requires-3
     returns-3

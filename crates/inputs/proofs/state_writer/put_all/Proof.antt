@@ -7,8 +7,8 @@ use Rattle.inputs.proofs.state_writer.put_all.Tie as tie
 put-bytes-requires : tie.Need-put-bytes-requires
 put-bytes-requires c κs = search needs
 
-next-place-requires : tie.Need-next-place-requires
-next-place-requires c κs = search needs
+next-offset-requires : tie.Need-next-offset-requires
+next-offset-requires c κs = search needs
 
 same-length : tie.Need-same-length
 same-length c = search needs
@@ -16,7 +16,7 @@ same-length c = search needs
 returns : tie.Need-returns
 returns c =
     let a = c .before .before .before .before .before .before .before in
-    wrote-put (a .args .s .now) _ (a .pre) (c .before .before .before .put-bytes .ensures) (c .next-place .ensures)
+    wrote-put (a .args .s .now) _ (a .pre) (c .before .before .before .put-bytes .ensures) (c .next-offset .ensures)
 
 pub put-all-spec : {M : Type 1} → statement M
-put-all-spec = tie.close (tie.spec put-bytes-requires next-place-requires same-length returns)
+put-all-spec = tie.close (tie.spec put-bytes-requires next-offset-requires same-length returns)

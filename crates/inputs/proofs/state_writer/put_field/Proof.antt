@@ -1,4 +1,5 @@
--- `inputs::state_writer::put_field` meets its contract: a tab, and the field that spells the byte string after it.
+-- `inputs::state_writer::put_field` meets its contract: a tab, and the field that encodes the byte
+-- string after it.
 use borrow.Author.Needs.{needs}
 use Rattle.lines.specs.Hex.{hexField}
 use Rattle.inputs.proofs.StateWriterLaws.{then-put}
@@ -14,8 +15,8 @@ put-all-requires c κs = search needs
 put-hex-requires : tie.Need-put-hex-requires
 put-hex-requires c κs = search needs
 
-next-place-requires : tie.Need-next-place-requires
-next-place-requires c κs = search needs
+next-offset-requires : tie.Need-next-offset-requires
+next-offset-requires c κs = search needs
 
 same-length : tie.Need-same-length
 same-length c = search needs
@@ -25,7 +26,7 @@ returns c =
     let a = c .before .before .before .before .before .before .before .before .before .before .before .before in
     let t = hexField (a .args .s .now) in
     let w = c .before .before .before .before .before .before .before .put-all .ensures in
-    then-put t w _ (a .pre) (c .before .before .before .put-hex .ensures) (c .next-place .ensures)
+    then-put t w _ (a .pre) (c .before .before .before .put-hex .ensures) (c .next-offset .ensures)
 
 pub put-field-spec : {M : Type 1} → statement M
 put-field-spec =
@@ -34,6 +35,6 @@ put-field-spec =
     slice-aggregate-put-all
     put-all-requires
     put-hex-requires
-    next-place-requires
+    next-offset-requires
     same-length
     returns)

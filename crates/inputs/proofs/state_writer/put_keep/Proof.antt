@@ -1,4 +1,5 @@
--- `inputs::state_writer::put_keep` meets its contract: the word, the value, a newline, each after what is written before it.
+-- `inputs::state_writer::put_keep` meets its contract: the word, the value, a newline, each after
+-- what is written before it.
 use mathlib.Core.List.{[], _∷_, _++_}
 use Prim.Native.Nat.{_+_, _≤_}
 use lib.ListN.{length}

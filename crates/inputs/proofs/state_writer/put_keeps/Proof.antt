@@ -1,4 +1,5 @@
--- `inputs::state_writer::put_keeps` meets its contract: after i turns the lines of the first i values are written.
+-- `inputs::state_writer::put_keeps` meets its contract: after i turns the lines of the first i
+-- values are written.
 use mathlib.Core.List.{[], flatMap}
 use Prim.Native.Nat.{_-_, _≤_}
 use native.Mathlib.Omega.{arith}
@@ -9,15 +10,16 @@ use Rattle.rules.specs.Limits.{hashLength}
 use Rattle.rules.specs.StateText.{writeKeep}
 use Rattle.tree.proofs.RunLaws.{length-runs}
 use Rattle.inputs.specs.StateWriter.{Wrote}
-use Rattle.inputs.proofs.StateWriterLaws.{wrote-length, texts-start, texts-room, texts-step, texts-end, value-at}
+use Rattle.inputs.proofs.StateWriterLaws.{wrote-length, texts-start, texts-room, texts-step, texts-end}
+use Rattle.inputs.proofs.StateWriterLaws.{value-at}
 use Rattle.inputs.proofs.state_writer.put_keeps.Statement.{statement}
 use Rattle.inputs.proofs.state_writer.put_keeps.Tie as tie
 
 abbrev Inv-loop : tie.InvT-loop
-Inv-loop out₀ at values count place₀ i₀ out place i = (i ≤ count) × Wrote out₀ at (flatMap writeKeep (take i (runs count hashLength values))) place out
+Inv-loop out₀ at values count offset₀ i₀ out offset i = (i ≤ count) × Wrote out₀ at (flatMap writeKeep (take i (runs count hashLength values))) offset out
 
 abbrev μ-loop : tie.MeasureT-loop
-μ-loop out₀ at values count place₀ i₀ out place i = count - i
+μ-loop out₀ at values count offset₀ i₀ out offset i = count - i
 
 loop-holds : tie.Need-loop-holds Inv-loop μ-loop
 loop-holds c =

@@ -1,4 +1,5 @@
--- `inputs::state_writer::put_number` meets its contract: a tab, and the digits of the number after it.
+-- `inputs::state_writer::put_number` meets its contract: a tab, and the digits of the number after
+-- it.
 use borrow.Author.Needs.{needs}
 use Rattle.lines.specs.Number.{decimal}
 use Rattle.inputs.proofs.StateWriterLaws.{then-put}
@@ -14,8 +15,8 @@ put-all-requires c κs = search needs
 put-decimal-requires : tie.Need-put-decimal-requires
 put-decimal-requires c κs = search needs
 
-next-place-requires : tie.Need-next-place-requires
-next-place-requires c κs = search needs
+next-offset-requires : tie.Need-next-offset-requires
+next-offset-requires c κs = search needs
 
 same-length : tie.Need-same-length
 same-length c = search needs
@@ -25,7 +26,7 @@ returns c =
     let a = c .before .before .before .before .before .before .before .before .before .before .before in
     let t = decimal (a .args .n) in
     let w = c .before .before .before .before .before .before .before .put-all .ensures in
-    then-put t w _ (a .pre) (c .before .before .before .put-decimal .ensures) (c .next-place .ensures)
+    then-put t w _ (a .pre) (c .before .before .before .put-decimal .ensures) (c .next-offset .ensures)
 
 pub put-number-spec : {M : Type 1} → statement M
 put-number-spec =
@@ -34,6 +35,6 @@ put-number-spec =
     slice-aggregate-put-all
     put-all-requires
     put-decimal-requires
-    next-place-requires
+    next-offset-requires
     same-length
     returns)

@@ -1,4 +1,5 @@
--- `inputs::state_writer::put_numbers` meets its contract: the word, the first number, the second, each after what is written before it.
+-- `inputs::state_writer::put_numbers` meets its contract: the word, the first number, the second,
+-- each after what is written before it.
 use mathlib.Core.List.{_∷_, _++_}
 use Prim.Native.Nat.{_+_, _≤_}
 use lib.ListN.{length}

@@ -1,4 +1,5 @@
--- `inputs::state_writer::put_pair` meets its contract: the word and the two numbers, and a newline after them.
+-- `inputs::state_writer::put_pair` meets its contract: the word and the two numbers, and a newline
+-- after them.
 use mathlib.Core.List.{[], _∷_, _++_}
 use Prim.Native.Nat.{_+_, _≤_}
 use lib.ListN.{length}

@@ -1,4 +1,5 @@
--- `inputs::state_writer::put_pairs` meets its contract: after i turns the lines of the first i pairs are written.
+-- `inputs::state_writer::put_pairs` meets its contract: after i turns the lines of the first i
+-- pairs are written.
 use mathlib.Core.Path.{sym}
 use mathlib.Core.List.{flatMap}
 use Prim.Native.Nat.{_-_, _≤_}
@@ -14,11 +15,11 @@ use Rattle.inputs.proofs.state_writer.put_pairs.Statement.{statement}
 use Rattle.inputs.proofs.state_writer.put_pairs.Tie as tie
 
 abbrev Inv-loop : tie.InvT-loop
-Inv-loop out₀ at positions versions place₀ i₀ out place i =
-    (i ≤ length positions) × Wrote out₀ at (flatMap writePair (take i (mapOf positions versions))) place out
+Inv-loop out₀ at positions versions offset₀ i₀ out offset i =
+    (i ≤ length positions) × Wrote out₀ at (flatMap writePair (take i (mapOf positions versions))) offset out
 
 abbrev μ-loop : tie.MeasureT-loop
-μ-loop out₀ at positions versions place₀ i₀ out place i = length positions - i
+μ-loop out₀ at positions versions offset₀ i₀ out offset i = length positions - i
 
 loop-holds : tie.Need-loop-holds Inv-loop μ-loop
 loop-holds c =

@@ -1,4 +1,5 @@
--- `inputs::state_writer::put_size` meets its contract: the word and the two numbers, the label, a newline, each after what is written before it.
+-- `inputs::state_writer::put_size` meets its contract: the word and the two numbers, the label, a
+-- newline, each after what is written before it.
 use mathlib.Core.List.{[], _∷_, _++_}
 use Prim.Native.Nat.{_+_, _≤_}
 use lib.ListN.{length}
@@ -13,14 +14,14 @@ use Rattle.inputs.proofs.state_writer.put_size.Tie as tie
 
 -- the word and the numbers, the label's field
 abbrev numbers : tie.Start → Bytes
-numbers P = ascii "size" ++ (tab ∷ decimal (P .args .size)) ++ (tab ∷ decimal (P .args .time))
+numbers P = ascii "size" ++ (tab ∷ decimal (P .args .size)) ++ (tab ∷ decimal (P .args .timestamp))
 
 abbrev field : tie.Start → Bytes
 field P = tab ∷ hexField (P .args .label .now)
 
 -- there is room for all pieces, and so for the first two
 room : (P : tie.Start) → P .args .at + length (numbers P ++ field P ++ newline ∷ []) ≤ length (P .args .out .now)
-room P = rw (size-pieces (P .args .size) (P .args .time) (P .args .label .now)) at (P .pre)
+room P = rw (size-pieces (P .args .size) (P .args .timestamp) (P .args .label .now)) at (P .pre)
 
 room-two : (P : tie.Start) → P .args .at + length (numbers P ++ field P) ≤ length (P .args .out .now)
 room-two P = room-first (numbers P ++ field P) (newline ∷ []) _ _ (room P)
@@ -60,7 +61,7 @@ returns c =
     let w = v .before .before .before .before in
     let p = w .before .before .before .before .before in
     let two = wrote-then (field p) (w .put-numbers .ensures) (v .put-field .ensures) in
-    rw (size-pieces (p .args .size) (p .args .time) (p .args .label .now)) (wrote-then (newline ∷ []) two (c .before .before .put-all .ensures))
+    rw (size-pieces (p .args .size) (p .args .timestamp) (p .args .label .now)) (wrote-then (newline ∷ []) two (c .before .before .put-all .ensures))
 
 pub put-size-spec : {M : Type 1} → statement M
 put-size-spec =

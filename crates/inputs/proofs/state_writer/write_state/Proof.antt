@@ -1,20 +1,22 @@
--- `inputs::state_writer::write_state` meets its contract: each refusal leaves the bytes, and a valid state's text is put from byte 0 on.
+-- `inputs::state_writer::write_state` meets its contract: each refusal leaves the bytes, and a
+-- valid state's text is put from byte 0 on.
 use mathlib.Core.Path.{_≡_, sym, _∙_}
 use mathlib.Core.Bool.{true}
 use native.Mathlib.Omega.{arith}
 use borrow.Author.Needs.{needs}
 use borrow.Author.Tests.{not-true, not-false}
-use Rattle.lists.specs.Choice.{given}
+use Rattle.lists.specs.Choice.{isSome}
 use Rattle.rules.specs.Refusals.{validState}
 use Rattle.rules.specs.StateText.{writeState}
 use Rattle.inputs.specs.State.{contents, stateOf}
 use Rattle.inputs.specs.StateWriter.{textFor}
-use Rattle.inputs.proofs.StateWriterLaws.{text-no-room, text-invalid, text-valid, none-written, first-written}
+use Rattle.inputs.proofs.StateWriterLaws.{text-no-room, text-invalid, text-valid, none-written}
+use Rattle.inputs.proofs.StateWriterLaws.{first-written}
 use Rattle.inputs.proofs.state_writer.write_state.Statement.{statement}
 use Rattle.inputs.proofs.state_writer.write_state.Tie as tie
 
 -- past both tests the state is valid
-valid : (P : tie.Else2) → given (validState (stateOf (P .before .before .before .before .args .state))) ≡ true
+valid : (P : tie.Else2) → isSome (validState (stateOf (P .before .before .before .before .args .state))) ≡ true
 valid P = sym (P .before .is-valid .ensures) ∙ not-false _ (P .if2 .left)
 
 returns : tie.Need-returns

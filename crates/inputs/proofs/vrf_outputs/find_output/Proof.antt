@@ -1,11 +1,13 @@
--- `inputs::vrf_outputs::find_output` meets its contract: where versions rise, a record of the version stands between the two bounds.
+-- `inputs::vrf_outputs::find_output` meets its contract: where versions rise, a record of the
+-- version stands between the two bounds.
 use mathlib.Core.Path.{refl, sym, _∙_}
 use Prim.Native.Nat.{_+_, _-_, _/_, _≤_}
 use native.Mathlib.Omega.{arith}
 use lib.ListN.{length}
 use Rattle.rules.specs.VrfOutputs.{recordLength}
 use Rattle.inputs.specs.VrfOutputs.{foundOutput}
-use Rattle.inputs.proofs.VrfOutputLaws.{Between, between-all, between-above, between-below, found-record, found-nothing}
+use Rattle.inputs.proofs.VrfOutputLaws.{Between, between-all, between-above, between-below}
+use Rattle.inputs.proofs.VrfOutputLaws.{found-record, found-nothing}
 use borrow.Author.Needs.{needs}
 use Rattle.inputs.proofs.vrf_outputs.find_output.Statement.{statement}
 use Rattle.inputs.proofs.vrf_outputs.find_output.Tie as tie

@@ -1,4 +1,5 @@
--- `inputs::vrf_outputs::output_at` meets its contract: the bytes so far are those of the record after its version.
+-- `inputs::vrf_outputs::output_at` meets its contract: the bytes so far are those of the record
+-- after its version.
 use mathlib.Core.Path.{_≡_, refl, sym, _∙_}
 use Prim.Native.Nat.{_+_, _*_, _-_, _≤_}
 use native.Mathlib.Omega.{arith}

@@ -1,18 +1,20 @@
--- `inputs::vrf_outputs::outputs_rise` meets its contract: the outputs read where the versions from the present record on rise.
+-- `inputs::vrf_outputs::outputs_rise` meets its contract: the outputs read where the versions from
+-- the present record on rise.
 use mathlib.Core.Path.{_≡_, sym, _∙_}
 use Prim.Native.Nat.{_-_, _≤_}
 use native.Mathlib.Omega.{arith}
 use lib.ListN.{drop}
-use Rattle.lists.specs.Choice.{given}
+use Rattle.lists.specs.Choice.{isSome}
 use Rattle.lists.specs.Lists.{rising}
 use Rattle.rules.specs.VrfOutputs.{readOutputs}
-use Rattle.inputs.proofs.VrfOutputLaws.{versions, given-rises, given-broken, rises-on, rises-not, rises-last}
+use Rattle.inputs.proofs.VrfOutputLaws.{versions, given-rises, given-broken, rises-on, rises-not}
+use Rattle.inputs.proofs.VrfOutputLaws.{rises-last}
 use borrow.Author.Needs.{needs}
 use Rattle.inputs.proofs.vrf_outputs.outputs_rise.Statement.{statement}
 use Rattle.inputs.proofs.vrf_outputs.outputs_rise.Tie as tie
 
 abbrev Inv-loop : tie.InvT-loop
-Inv-loop outputs count i₀ i = (i ≤ count) × (given (readOutputs outputs) ≡ rising (drop i (versions outputs)))
+Inv-loop outputs count i₀ i = (i ≤ count) × (isSome (readOutputs outputs) ≡ rising (drop i (versions outputs)))
 
 abbrev μ-loop : tie.MeasureT-loop
 μ-loop outputs count i₀ i = count - i

@@ -1,4 +1,4 @@
--- `inputs::vrf_outputs::version_at` meets its contract: the version is what its four bytes spell.
+-- `inputs::vrf_outputs::version_at` meets its contract: the version is what its four bytes encode.
 use mathlib.Core.Path.{sym, _∙_}
 use Rattle.inputs.proofs.VrfOutputLaws.{version-bytes}
 use borrow.Author.Needs.{needs}

@@ -1,4 +1,5 @@
--- `kt::exports::kt_ladder` meets its contract: the first i versions of the ladder are written to the front of the bytes lent.
+-- `kt::exports::kt_ladder` meets its contract: the first i versions of the ladder are written to
+-- the front of the bytes lent.
 use mathlib.Core.Path.{_≡_, ap, _∙_}
 use mathlib.Core.List.{List}
 use Prim.Native.Nat.{ℕ, _*_, _-_, _≤_, _<_}
@@ -10,7 +11,8 @@ use Rattle.tree.specs.Ladder.{ladderWithin, ladderCapacity}
 use Rattle.tree.proofs.FillLaws.{filled-at}
 use Rattle.tree.proofs.LadderFillLaws.{within-fits}
 use Rattle.kt.specs.Exports.{versionLength}
-use Rattle.kt.proofs.ExportLaws.{written, written-none, length-written, written-next, ladder-refused, ladder-written}
+use Rattle.kt.proofs.ExportLaws.{written, written-none, length-written, written-next, ladder-refused}
+use Rattle.kt.proofs.ExportLaws.{ladder-written}
 use Rattle.kt.proofs.exports.kt_ladder.Statement.{statement}
 use Rattle.kt.proofs.exports.kt_ladder.Tie as tie
 

@@ -1,4 +1,5 @@
--- `kt::exports::kt_sha256` meets its contract: one law for too little room, one for the digest copied whole.
+-- `kt::exports::kt_sha256` meets its contract: one law for too little room, one for the digest
+-- copied whole.
 use native.Mathlib.Omega.{arith}
 use Rattle.kt.proofs.ExportLaws.{digest-refused, digest-written}
 use borrow.Author.Needs.{needs}

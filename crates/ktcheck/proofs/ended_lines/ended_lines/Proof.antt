@@ -1,4 +1,5 @@
--- `ktcheck::ended_lines::ended_lines` meets its contract: the lines counted, with those from the place on, are all lines of the text.
+-- `ktcheck::ended_lines::ended_lines` meets its contract: the lines counted, with those from the
+-- offset on, are all lines of the text.
 use mathlib.Core.Path.{_≡_, refl, sym, _∙_, ap, subst}
 use Prim.Native.Nat.{_+_, _-_, _≤_}
 use native.Mathlib.Omega.{arith}
@@ -7,7 +8,7 @@ use borrow.Author.Needs.{needs}
 use Rattle.lines.specs.Line.{endedLines, openRest}
 use Rattle.lines.specs.Readings.{lineOf}
 use Rattle.lines.proofs.SectionLaws.{LineHere, line-here, line-none}
-use Rattle.verifier.proofs.ReadOnLaws.{read-line, read-place, read-stays, read-left}
+use Rattle.verifier.proofs.ReadOnLaws.{read-line, read-offset, read-stays, read-left}
 use Rattle.ktcheck.proofs.ended_lines.ended_lines.Statement.{statement}
 use Rattle.ktcheck.proofs.ended_lines.ended_lines.Tie as tie
 
@@ -17,16 +18,16 @@ Inv-loop s count₀ at₀ count at = (at ≤ length s) × (count ≤ at) × (cou
 abbrev μ-loop : tie.MeasureT-loop
 μ-loop s count₀ at₀ count at = length s - at
 
--- the line at the place, behind which the reader goes
+-- the line at the offset, after which the reader goes
 here : (c : tie.After-enum-told Inv-loop μ-loop)
-    → LineHere (c .before .before .before .before .before .args .text .now) (c .before .before .before .loop .at) (c .enum-told .given .0 .0) (c .before .before .read-on .result .place)
+    → LineHere (c .before .before .before .before .before .args .text .now) (c .before .before .before .loop .at) (c .enum-told .given .0 .0) (c .before .before .read-on .result .offset)
 here c =
     let s = c .before .before .before .before .before .args .text .now in
     let at = c .before .before .before .loop .at in
     let (stop, (next, _)) = c .enum-told .given .0 in
     let e = c .before .before .read-on .ensures in
     let l = sym (read-line s at _ e) ∙ ap lineOf (c .enum-told .given .1) in
-    subst (LineHere s at stop) (sym (read-place s at _ e stop (next .at) l)) (line-here s at stop (next .at) l)
+    subst (LineHere s at stop) (sym (read-offset s at _ e stop (next .at) l)) (line-here s at stop (next .at) l)
 
 loop-holds : tie.Need-loop-holds Inv-loop μ-loop
 loop-holds c = (omega arith, omega arith, omega arith, refl)

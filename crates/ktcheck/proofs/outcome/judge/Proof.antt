@@ -1,4 +1,5 @@
--- `ktcheck::outcome::judge` is safe: the line, the value and the text are first bytes of those lent for them.
+-- `ktcheck::outcome::judge` is safe: the line, the value and the text are first bytes of those lent
+-- for them.
 use borrow.Author.Needs.{needs}
 use Rattle.ktcheck.proofs.OutcomeLaws.{line-counted, value-counted, text-counted}
 use Rattle.ktcheck.proofs.outcome.judge.Statement.{statement}

@@ -1,4 +1,5 @@
--- `ktcheck::reading::read_open`: what was read stays within the bytes, of which there are as many as before.
+-- `ktcheck::reading::read_open`: what was read stays within the bytes, of which there are as many
+-- as before.
 use mathlib.Core.Path.{_≡_}
 use Prim.Native.Nat.{_-_, _≤_}
 use lib.ListN.{length}

@@ -1,4 +1,5 @@
--- `lines::hex::is_hex_digit` meets its contract: up to 57 the bytes from 48 on are digits, above it those from 97 to 102.
+-- `lines::hex::is_hex_digit` meets its contract: up to 57 the bytes from 48 on are digits, above it
+-- those from 97 to 102.
 use mathlib.Core.Path.{_≡_, _∙_}
 use mathlib.Core.Bool.{true, false}
 use native.Mathlib.Omega.{arith}

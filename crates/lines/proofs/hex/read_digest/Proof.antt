@@ -1,4 +1,5 @@
--- `lines::hex::read_digest` meets its contract: the bytes so far and what the digits left spell stay the value, and what is left has the bytes that are no digits.
+-- `lines::hex::read_digest` meets its contract: the bytes so far and what the digits left encode
+-- stay the value, and what is left has the bytes that are no digits.
 use mathlib.Core.Path.{_≡_, refl, sym, _∙_}
 use mathlib.Core.List.{_++_}
 use Prim.Native.Nat.{_+_, _-_, _*_, _≤_}
@@ -7,7 +8,9 @@ use lib.ListN.{length, take, drop, length-set}
 use Rattle.lists.specs.Lists.{all}
 use Rattle.lines.specs.Hex.{isHexDigit, unhex}
 use Rattle.lines.specs.Readings.{asDigest}
-use Rattle.lines.proofs.ReadingLaws.{digest-long, digest-other, digest-some, digit-pair, digit-other, digit-other-second, unhex-pair, unhex-end, digits-none, fill-step, fill-end}
+use Rattle.lines.proofs.ReadingLaws.{digest-long, digest-other, digest-some, digit-pair, digit-other}
+use Rattle.lines.proofs.ReadingLaws.{digit-other-second, unhex-pair, unhex-end, digits-none, fill-step}
+use Rattle.lines.proofs.ReadingLaws.{fill-end}
 use borrow.Author.Tests.{not-true, not-false}
 use borrow.Author.Needs.{needs}
 use Rattle.lines.proofs.hex.read_digest.Statement.{statement}

@@ -1,10 +1,11 @@
--- `lines::line::span` meets its contract: the place passed and what stands before the byte from there on stay the answer.
+-- `lines::line::span` meets its contract: the offset passed and what stands before the byte from
+-- there on stay the answer.
 use mathlib.Core.Path.{_≡_}
 use Prim.Native.Nat.{_+_, _-_, _≤_}
 use native.Mathlib.Omega.{arith}
 use lib.ListN.{length, drop}
 use Rattle.lines.specs.Line.{before}
-use Rattle.lines.proofs.PlaceLaws.{span-stop, span-more, span-end}
+use Rattle.lines.proofs.OffsetLaws.{span-stop, span-more, span-end}
 use borrow.Author.Needs.{needs}
 use Rattle.lines.proofs.line.span.Statement.{statement}
 use Rattle.lines.proofs.line.span.Tie as tie

@@ -1,4 +1,5 @@
--- `lines::number::read_number` meets its contract: what is read so far and the digits that are left stay the number.
+-- `lines::number::read_number` meets its contract: what is read so far and the digits that are left
+-- stay the number.
 use mathlib.Core.Path.{_≡_, sym, _∙_}
 use mathlib.Core.Logic.{⊎-elim}
 use Prim.Native.Nat.{_-_, _≤_}
@@ -6,7 +7,8 @@ use native.Mathlib.Omega.{arith}
 use lib.ListN.{length, drop}
 use Rattle.lines.specs.Number.{readNumber}
 use Rattle.lines.proofs.NumberLaws.{below-digits, above-digits}
-use Rattle.lines.proofs.ReadingLaws.{numberAfter, number-empty, number-zero, number-one, number-many, digits-end, digits-other, digits-beyond, digits-more}
+use Rattle.lines.proofs.ReadingLaws.{numberAfter, number-empty, number-zero, number-one, number-many}
+use Rattle.lines.proofs.ReadingLaws.{digits-end, digits-other, digits-beyond, digits-more}
 use borrow.Author.Needs.{needs}
 use Rattle.lines.proofs.number.read_number.Statement.{statement}
 use Rattle.lines.proofs.number.read_number.Tie as tie

@@ -1,4 +1,5 @@
--- `lines::part::equal` meets its contract: the bytes before i are the same, so those from i on decide.
+-- `lines::part::equal` meets its contract: the bytes before i are the same, so those from i on
+-- decide.
 use mathlib.Core.Path.{_≡_, refl}
 use Prim.Native.Nat.{_-_, _≤_}
 use native.Mathlib.Omega.{arith}

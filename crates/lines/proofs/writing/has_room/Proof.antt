@@ -1,4 +1,5 @@
--- `lines::writing::has_room` meets its contract: nothing fits behind the end, and before it what is left there.
+-- `lines::writing::has_room` meets its contract: nothing fits after the end, and before it what is
+-- left there.
 use mathlib.Core.Path.{sym}
 use Prim.Native.Nat.{_+_}
 use native.Mathlib.Omega.{arith}

@@ -1,4 +1,5 @@
--- `lines::writing::hex_digit` meets its contract: digits below 10 are written from 48 on, others from 97 on.
+-- `lines::writing::hex_digit` meets its contract: digits below 10 are written from 48 on, others
+-- from 97 on.
 use mathlib.Core.Path.{sym, _∙_}
 use native.Mathlib.Omega.{arith}
 use Rattle.lines.proofs.HexLaws.{hex-digit-low, hex-digit-high}

@@ -1,4 +1,5 @@
--- `lines::writing::put_bytes` meets its contract: the bytes are stored where there is room for them.
+-- `lines::writing::put_bytes` meets its contract: the bytes are stored where there is room for
+-- them.
 use mathlib.Core.Path.{sym, _∙_}
 use Prim.Native.Nat.{_+_, _≤_}
 use native.Mathlib.Omega.{arith}

@@ -1,4 +1,5 @@
--- `lines::writing::put_decimal` meets its contract: the digits of what is left of the number and those stored behind them stay its digits.
+-- `lines::writing::put_decimal` meets its contract: the digits of what is left of the number and
+-- those stored after them stay its digits.
 use mathlib.Core.Path.{_≡_, refl, sym, _∙_, ap}
 use mathlib.Core.List.{_++_, append-nil}
 use Prim.Native.Nat.{_+_, _-_, _%_, _≤_, _<_}
@@ -6,7 +7,7 @@ use native.Mathlib.Omega.{arith}
 use lib.ListN.{length, drop, length-set}
 use borrow.Author.Needs.{needs}
 use Rattle.lines.specs.Number.{decimal}
-use Rattle.lines.specs.Writing.{placeAfter, putAt}
+use Rattle.lines.specs.Writing.{offsetAfter, putAt}
 use Rattle.lines.proofs.NumberLaws.{decimal-short}
 use Rattle.lines.proofs.WritingLaws.{digits-stored, digits-whole, digits-room}
 use Rattle.lines.proofs.writing.put_decimal.Statement.{statement}
@@ -84,7 +85,7 @@ returns c =
     let (p, b) = c .before .before .put-bytes .ensures in
     let i = l .loop .first in
     let w = digits-whole (a .n) (l .loop .rest) (l .loop .digits) i (l .loop .inv .0) (l .loop .inv .3) (20 - i) (omega arith) (omega arith) in
-    (p ∙ ap (placeAfter (a .out .now) (a .at)) w, b ∙ ap (putAt (a .out .now) (a .at)) w)
+    (p ∙ ap (offsetAfter (a .out .now) (a .at)) w, b ∙ ap (putAt (a .out .now) (a .at)) w)
 
 pub put-decimal-spec : {M : Type 1} → statement M
 put-decimal-spec =

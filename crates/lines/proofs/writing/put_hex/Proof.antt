@@ -1,4 +1,5 @@
--- `lines::writing::put_hex` meets its contract: the digits are stored where there is room for two of each byte; the empty byte string is put as a dash.
+-- `lines::writing::put_hex` meets its contract: the digits are stored where there is room for two
+-- of each byte; the empty byte string is put as a dash.
 use mathlib.Core.Path.{_≡_, sym, ap, _∙_}
 use mathlib.Core.Option.{some}
 use Prim.Native.Nat.{ℕ, _+_, _*_, _≤_, _<_}

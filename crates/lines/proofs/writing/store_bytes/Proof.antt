@@ -1,11 +1,12 @@
--- `lines::writing::store_bytes` meets its contract: the bytes from i on, stored into what is there, make the whole text in its place.
+-- `lines::writing::store_bytes` meets its contract: the bytes from i on, stored into what is there,
+-- make the whole text in its place.
 use mathlib.Core.Path.{_≡_, refl, sym, _∙_}
 use Prim.Native.Nat.{_+_, _-_, _≤_}
 use native.Mathlib.Omega.{arith}
 use lib.ListN.{length, drop, getD, length-set}
 use lib.Seq.{sets}
 use Rattle.lists.specs.Lists.{written}
-use Rattle.lines.proofs.PlaceLaws.{at-cons, at-end}
+use Rattle.lines.proofs.OffsetLaws.{at-cons, at-end}
 use Rattle.lines.proofs.WritingLaws.{sets-start, sets-next, sets-done}
 use borrow.Author.Needs.{needs}
 use Rattle.lines.proofs.writing.store_bytes.Statement.{statement}

@@ -1,4 +1,5 @@
--- `lines::writing::store_hex` meets its contract: the digits of the bytes from i on, stored into what is there, make all digits in their place.
+-- `lines::writing::store_hex` meets its contract: the digits of the bytes from i on, stored into
+-- what is there, make all digits in their place.
 use mathlib.Core.Path.{_≡_, refl, sym, _∙_}
 use mathlib.Core.List.{_∷_}
 use Prim.Native.Nat.{_+_, _-_, _*_, _/_, _%_, _≤_}

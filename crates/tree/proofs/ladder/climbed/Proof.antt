@@ -1,8 +1,10 @@
--- `tree::ladder::climbed` meets its contract: the versions stored so far are those of the climb, and what is left is the climb from `high` on.
+-- `tree::ladder::climbed` meets its contract: the versions stored so far are those of the climb,
+-- and what is left is the climb from `high` on.
 use Prim.Native.Nat.{_+_, _-_, _<_}
 use native.Mathlib.Omega.{arith}
 use Rattle.tree.specs.Ladder.{ladderCapacity}
-use Rattle.tree.proofs.LadderFillLaws.{Climbing, climbing-start, climbing-room, climbing-next-fits, climbing-next, climbing-end}
+use Rattle.tree.proofs.LadderFillLaws.{Climbing, climbing-start, climbing-room, climbing-next-fits}
+use Rattle.tree.proofs.LadderFillLaws.{climbing-next, climbing-end}
 use Rattle.tree.proofs.ladder.climbed.Statement.{statement}
 use Rattle.tree.proofs.ladder.climbed.Tie as tie
 

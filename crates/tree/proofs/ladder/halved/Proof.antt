@@ -1,4 +1,5 @@
--- `tree::ladder::halved` meets its contract: the versions stored so far are the first of the ladder, and what is left is the halving between `low` and `high`.
+-- `tree::ladder::halved` meets its contract: the versions stored so far are the first of the
+-- ladder, and what is left is the halving between `low` and `high`.
 use Prim.Native.Nat.{_-_, _<_}
 use mathlib.Core.Path.{refl}
 use native.Mathlib.Omega.{arith}

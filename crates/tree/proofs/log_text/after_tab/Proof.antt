@@ -4,7 +4,7 @@ use Prim.Native.Nat.{_+_}
 use native.Mathlib.Omega.{arith}
 use lib.ListN.{length}
 use Rattle.lines.specs.Line.{tab}
-use Rattle.lines.proofs.PlaceLaws.{at-end, after-at}
+use Rattle.lines.proofs.OffsetLaws.{at-end, after-at}
 use borrow.Author.Needs.{needs}
 use Rattle.tree.proofs.log_text.after_tab.Statement.{statement}
 use Rattle.tree.proofs.log_text.after_tab.Tie as tie

@@ -4,8 +4,8 @@ use borrow.Author.Needs.{needs}
 use Rattle.tree.proofs.log_text.leaf_at.Statement.{statement}
 use Rattle.tree.proofs.log_text.leaf_at.Tie as tie
 
-time-at-requires : tie.Need-time-at-requires
-time-at-requires c κs = search needs
+timestamp-at-requires : tie.Need-timestamp-at-requires
+timestamp-at-requires c κs = search needs
 
 prefix-root-at-requires : tie.Need-prefix-root-at-requires
 prefix-root-at-requires c κs = search needs
@@ -18,4 +18,4 @@ unfolding logLeafString
 returns c = cc
 
 pub leaf-at-spec : {M : Type 1} → statement M
-leaf-at-spec = tie.close (tie.spec time-at-requires prefix-root-at-requires digest-40-requires returns)
+leaf-at-spec = tie.close (tie.spec timestamp-at-requires prefix-root-at-requires digest-40-requires returns)

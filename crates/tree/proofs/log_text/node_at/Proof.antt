@@ -1,4 +1,5 @@
--- `tree::log_text::node_at` meets its contract: the value stands where its number says, or beyond the last.
+-- `tree::log_text::node_at` meets its contract: the value stands where its number says, or beyond
+-- the last.
 use mathlib.Core.Path.{sym, _∙_}
 use native.Mathlib.Omega.{arith}
 use Rattle.tree.specs.LogTree.{zeros}

@@ -4,7 +4,7 @@ use native.Mathlib.Omega.{arith}
 use mathlib.Core.Option.{none, some}
 use Rattle.lines.specs.Line.{tab}
 use Rattle.lines.specs.Readings.{numberOf}
-use Rattle.lines.proofs.PlaceLaws.{span-end}
+use Rattle.lines.proofs.OffsetLaws.{span-end}
 use Rattle.tree.proofs.LogTextLaws.{number-between, number-none}
 use borrow.Author.Needs.{needs}
 use Rattle.tree.proofs.log_text.number_at.Statement.{statement}

@@ -3,8 +3,8 @@ use mathlib.Core.Path.{_≡_, sym, _∙_, ap}
 use Prim.Native.Nat.{_+_, _-_}
 use native.Mathlib.Omega.{arith}
 use lib.ListN.{take, drop}
+use Rattle.lines.specs.Layout.{valueDigits}
 use Rattle.tree.specs.LogTree.{zeros}
-use Rattle.tree.specs.LogText.{valueDigits}
 use Rattle.tree.proofs.LogTextLaws.{value-read, value-short}
 use borrow.Author.Needs.{needs}
 use Rattle.tree.proofs.log_text.value_at.Statement.{statement}

@@ -1,4 +1,5 @@
--- `tree::log_tree::is_entry_met` meets its contract: the last entry of an odd number is compared, another is not.
+-- `tree::log_tree::is_entry_met` meets its contract: the last entry of an odd number is compared,
+-- another is not.
 use mathlib.Core.Path.{_∙_}
 use borrow.Author.Needs.{needs}
 use Rattle.tree.specs.LogHead.{knownIn}

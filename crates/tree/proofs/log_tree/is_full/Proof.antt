@@ -1,4 +1,5 @@
--- `tree::log_tree::is_full` meets its contract: the number of a block is its start by its width, and size by its width counts the whole blocks of size entries.
+-- `tree::log_tree::is_full` meets its contract: the number of a block is its start by its width,
+-- and kept_size by its width counts the whole blocks of kept_size entries.
 use native.Mathlib.Omega.{arith}
 use native.Mathlib.Nat.{div-le-self}
 use Rattle.tree.proofs.DecisionLaws.{whole-some, full-taken, full-left}

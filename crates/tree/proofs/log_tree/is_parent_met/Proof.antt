@@ -1,4 +1,5 @@
--- `tree::log_tree::is_parent_met` meets its contract: equal halves are those of a whole block, others of no full subtree.
+-- `tree::log_tree::is_parent_met` meets its contract: equal halves are those of a whole block,
+-- others of no full subtree.
 use native.Mathlib.Omega.{arith}
 use borrow.Author.Needs.{needs}
 use Rattle.tree.specs.LogHead.{knownIn}

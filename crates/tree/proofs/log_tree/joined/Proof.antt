@@ -1,4 +1,5 @@
--- `tree::log_tree::joined` meets its contract: the string is that of the children's values, each after its mark, and all kept values are met if this one is and those below it are.
+-- `tree::log_tree::joined` meets its contract: the string is that of the children's values, each
+-- after its mark, and all kept values are met if this one is and those below it are.
 use Rattle.tree.proofs.WalkedLaws.{joined-made}
 use borrow.Author.Needs.{needs}
 use Rattle.tree.proofs.log_tree.joined.Statement.{statement}

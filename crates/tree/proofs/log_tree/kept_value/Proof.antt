@@ -1,4 +1,5 @@
--- `tree::log_tree::kept_value` meets its contract: as many values stand before it as size has higher digits that are set.
+-- `tree::log_tree::kept_value` meets its contract: as many values stand before it as kept_size has
+-- higher digits that are set.
 use mathlib.Core.Path.{_∙_}
 use Prim.Native.Nat.{_*_}
 use native.Mathlib.Omega.{arith}
@@ -19,7 +20,7 @@ div-stored-at c = omega (arith, whole-some (c .before .pre .0 .0))
 cast-stored-at : tie.Need-cast-stored-at
 cast-stored-at c =
     let s = c .before in
-    omega (arith, ones-le 64 _ (lt-of-le-of-lt (div-le-self (s .args .size) (2 * s .args .width)) (s .fits .size .fits)))
+    omega (arith, ones-le 64 _ (lt-of-le-of-lt (div-le-self (s .args .kept-size) (2 * s .args .width)) (s .fits .kept-size .fits)))
 
 stored-at-requires : tie.Need-stored-at-requires
 stored-at-requires c κs =

@@ -1,4 +1,5 @@
--- `tree::prefix_tree::lookup_root` meets its contract: from the siblings that are left the value leads to the root.
+-- `tree::prefix_tree::lookup_root` meets its contract: from the siblings that are left the value
+-- leads to the root.
 use mathlib.Core.Path.{_≡_, sym, _∙_, ap}
 use Prim.Native.Nat.{_≤_}
 use native.Mathlib.Omega.{arith}

@@ -1,4 +1,5 @@
--- `tree::prefix_tree::terminal_fits` meets its contract: by what stands at the place, and by where the bits of two outputs part.
+-- `tree::prefix_tree::terminal_fits` meets its contract: by what stands at the place, and by where
+-- the bits of two outputs part.
 use mathlib.Core.Path.{_∙_}
 use native.Mathlib.Omega.{arith}
 use borrow.Author.Needs.{needs}

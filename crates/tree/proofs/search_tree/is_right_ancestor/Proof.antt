@@ -1,4 +1,5 @@
--- `tree::search_tree::is_right_ancestor` meets its contract: an entry of the log is listed if it is next from itself on.
+-- `tree::search_tree::is_right_ancestor` meets its contract: an entry of the log is listed if it is
+-- next from itself on.
 use mathlib.Core.Path.{sym, ap, _∙_}
 use Prim.Native.Nat.{ℕ}
 use lib.Dec.{eqb}
@@ -17,12 +18,12 @@ returns : tie.Need-returns
 returns c =
     let a = c .before .before .args in
     ap (λ (b : ℕ). eqb b (a .x)) (c .next-right-ancestor .ensures)
-    ∙ sym (listed-next (a .n) (rightAncestors (a .n) (a .p)) (a .x) (right-ancestors-rising (a .n) (a .p)) (c .before .if1 .taken))
+    ∙ sym (listed-next (a .tree-size) (rightAncestors (a .tree-size) (a .p)) (a .x) (right-ancestors-rising (a .tree-size) (a .p)) (c .before .if1 .taken))
 
 returns-2 : tie.Need-returns-2
 returns-2 c =
     let a = c .before .args in
-    sym (listed-none (a .n) (rightAncestors (a .n) (a .p)) (a .x) (path-within (a .n) (a .p)) (c .if1 .left))
+    sym (listed-none (a .tree-size) (rightAncestors (a .tree-size) (a .p)) (a .x) (path-within (a .tree-size) (a .p)) (c .if1 .left))
 
 pub is-right-ancestor-spec : {M : Type 1} → statement M
 is-right-ancestor-spec = tie.close (tie.spec next-right-ancestor-requires returns returns-2)

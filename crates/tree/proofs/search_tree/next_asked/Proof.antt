@@ -1,4 +1,5 @@
--- `tree::search_tree::next_asked` meets its contract: `next` is the next of the frontier and the right paths of the positions from i on.
+-- `tree::search_tree::next_asked` meets its contract: `next` is the next of the frontier and the
+-- right paths of the positions from i on.
 use mathlib.Core.Path.{_≡_, _∙_}
 use Prim.Native.Nat.{_-_, _≤_}
 use native.Mathlib.Omega.{arith}
@@ -21,7 +22,7 @@ next-on-frontier-requires c κs = search needs
 loop-holds : tie.Need-loop-holds Inv-loop μ-loop
 loop-holds c =
     let a = c .before .before .args in
-    (omega arith, c .next-on-frontier .ensures ∙ asked-start (a .n) (a .x) (a .positions .now))
+    (omega arith, c .next-on-frontier .ensures ∙ asked-start (a .tree-size) (a .x) (a .positions .now))
 
 sub-i : tie.Need-sub-i Inv-loop μ-loop
 sub-i c = search needs
@@ -48,7 +49,7 @@ loop-again c =
     let a = at4 .before .before .before .args in
     let l = at4 .loop in (
       omega arith,
-      asked-step (a .n) (a .x) (l .i - 1) (l .i) (l .next) (c .before .next-right-ancestor .result) (c .smaller .result) (a .positions .now) (omega arith) (l .inv .0)
+      asked-step (a .tree-size) (a .x) (l .i - 1) (l .i) (l .next) (c .before .next-right-ancestor .result) (c .smaller .result) (a .positions .now) (omega arith) (l .inv .0)
           (l .inv .1) (c .before .next-right-ancestor .ensures) (c .smaller .ensures),
     )
 

@@ -1,4 +1,5 @@
--- `tree::search_tree::parting` meets its contract: the law of the leading zeros of two numbers' difference.
+-- `tree::search_tree::parting` meets its contract: the law of the leading zeros of two numbers'
+-- difference.
 use native.Mathlib.Omega.{arith}
 use Rattle.tree.proofs.PartingLaws.{parting}
 use Rattle.tree.proofs.search_tree.parting.Statement.{statement}

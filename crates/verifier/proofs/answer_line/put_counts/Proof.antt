@@ -1,4 +1,5 @@
--- `verifier::answer_line::put_counts` meets its contract: each number after its tab, and a newline, each after what is written before it.
+-- `verifier::answer_line::put_counts` meets its contract: each number after its tab, and a newline,
+-- each after what is written before it.
 use mathlib.Core.List.{[], _∷_, _++_}
 use borrow.Author.Needs.{needs}
 use Rattle.lines.specs.Number.{decimal}
@@ -13,14 +14,14 @@ slice-aggregate-put-bytes c = search needs
 put-bytes-requires : tie.Need-put-bytes-requires
 put-bytes-requires c κs = search needs
 
-next-place-requires : tie.Need-next-place-requires
-next-place-requires c κs = search needs
+next-offset-requires : tie.Need-next-offset-requires
+next-offset-requires c κs = search needs
 
 put-decimal-requires : tie.Need-put-decimal-requires
 put-decimal-requires c κs = search needs
 
-next-place-requires-2 : tie.Need-next-place-requires-2
-next-place-requires-2 c κs = search needs
+next-offset-requires-2 : tie.Need-next-offset-requires-2
+next-offset-requires-2 c κs = search needs
 
 slice-aggregate-put-bytes-2 : tie.Need-slice-aggregate-put-bytes-2
 slice-aggregate-put-bytes-2 c = search needs
@@ -28,14 +29,14 @@ slice-aggregate-put-bytes-2 c = search needs
 put-bytes-requires-2 : tie.Need-put-bytes-requires-2
 put-bytes-requires-2 c κs = search needs
 
-next-place-requires-3 : tie.Need-next-place-requires-3
-next-place-requires-3 c κs = search needs
+next-offset-requires-3 : tie.Need-next-offset-requires-3
+next-offset-requires-3 c κs = search needs
 
 put-decimal-requires-2 : tie.Need-put-decimal-requires-2
 put-decimal-requires-2 c κs = search needs
 
-next-place-requires-4 : tie.Need-next-place-requires-4
-next-place-requires-4 c κs = search needs
+next-offset-requires-4 : tie.Need-next-offset-requires-4
+next-offset-requires-4 c κs = search needs
 
 slice-aggregate-put-bytes-3 : tie.Need-slice-aggregate-put-bytes-3
 slice-aggregate-put-bytes-3 c = search needs
@@ -43,8 +44,8 @@ slice-aggregate-put-bytes-3 c = search needs
 put-bytes-requires-3 : tie.Need-put-bytes-requires-3
 put-bytes-requires-3 c κs = search needs
 
-next-place-requires-5 : tie.Need-next-place-requires-5
-next-place-requires-5 c κs = search needs
+next-offset-requires-5 : tie.Need-next-offset-requires-5
+next-offset-requires-5 c κs = search needs
 
 same-length : tie.Need-same-length
 same-length c = search needs
@@ -60,14 +61,14 @@ returns c =
     let k = g .before .before in
     let w = k .before .before .before in
     let a = w .before .before .before .before in
-    let first = tab ∷ decimal (a .args .size) in
+    let first = tab ∷ decimal (a .args .tree-size) in
     let second = tab ∷ decimal (a .args .pairs) in
     let room = room-first (first ++ second) (newline ∷ []) _ _ (a .pre) in
-    let one = both-put (tab ∷ []) (decimal (a .args .size)) _ _ (room-first first second _ _ room) (w .put-bytes .ensures) (k .next-place .ensures)
-    (g .put-decimal .ensures) (f .next-place2 .ensures) in
-    let two = both-put (tab ∷ []) (decimal (a .args .pairs)) _ _ (room-then second one room) (v .put-bytes2 .ensures) (m .next-place3 .ensures)
-    (d .put-decimal2 .ensures) (n .next-place4 .ensures) in
-    then-put (newline ∷ []) (wrote-then second one two) _ (a .pre) (c .before .before .before .put-bytes3 .ensures) (c .next-place5 .ensures)
+    let one = both-put (tab ∷ []) (decimal (a .args .tree-size)) _ _ (room-first first second _ _ room) (w .put-bytes .ensures) (k .next-offset .ensures)
+    (g .put-decimal .ensures) (f .next-offset2 .ensures) in
+    let two = both-put (tab ∷ []) (decimal (a .args .pairs)) _ _ (room-then second one room) (v .put-bytes2 .ensures) (m .next-offset3 .ensures)
+    (d .put-decimal2 .ensures) (n .next-offset4 .ensures) in
+    then-put (newline ∷ []) (wrote-then second one two) _ (a .pre) (c .before .before .before .put-bytes3 .ensures) (c .next-offset5 .ensures)
 
 pub put-counts-spec : {M : Type 1} → statement M
 put-counts-spec =
@@ -75,16 +76,16 @@ put-counts-spec =
     (tie.spec
     slice-aggregate-put-bytes
     put-bytes-requires
-    next-place-requires
+    next-offset-requires
     put-decimal-requires
-    next-place-requires-2
+    next-offset-requires-2
     slice-aggregate-put-bytes-2
     put-bytes-requires-2
-    next-place-requires-3
+    next-offset-requires-3
     put-decimal-requires-2
-    next-place-requires-4
+    next-offset-requires-4
     slice-aggregate-put-bytes-3
     put-bytes-requires-3
-    next-place-requires-5
+    next-offset-requires-5
     same-length
     returns)

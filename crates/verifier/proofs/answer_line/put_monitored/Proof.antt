@@ -1,4 +1,5 @@
--- `verifier::answer_line::put_monitored` meets its contract: the word, a tab and a dash, and the last two fields after them.
+-- `verifier::answer_line::put_monitored` meets its contract: the word, a tab and a dash, and the
+-- last two fields after them.
 use mathlib.Core.List.{_∷_, _++_}
 use Prim.Native.Nat.{_+_, _≤_}
 use native.Mathlib.Omega.{arith}
@@ -19,16 +20,16 @@ abbrev word : Bytes
 word = ascii "yes" ++ tab ∷ ascii "-"
 
 -- there is room for both pieces
-room : (P : tie.After-put-bytes-arg) → let a = P .before .args in 0 + length (word ++ countsText (a .size) (a .pairs)) ≤ length (a .out .now)
-room P = let a = P .before .args in omega (arith, P .put-bytes-arg .given .0, monitored-fits (a .size) (a .pairs) (omega arith) (omega arith))
+room : (P : tie.After-put-bytes-arg) → let a = P .before .args in 0 + length (word ++ countsText (a .tree-size) (a .pairs)) ≤ length (a .out .now)
+room P = let a = P .before .args in omega (arith, P .put-bytes-arg .given .0, monitored-fits (a .tree-size) (a .pairs) (omega arith) (omega arith))
 
 -- the first is written
-front : (P : tie.After-next-place) → Wrote (P .before .before .before .before .args .out .now) 0 word (P .next-place .result) (P .before .put-bytes .last .0)
+front : (P : tie.After-next-offset) → Wrote (P .before .before .before .before .args .out .now) 0 word (P .next-offset .result) (P .before .put-bytes .last .0)
 unfolding ascii
 front P =
     let p = P .before .before .before in
     let a = p .before .args in
-    wrote-put word _ (room-first word (countsText (a .size) (a .pairs)) _ _ (room p)) (P .before .put-bytes .ensures) (P .next-place .ensures)
+    wrote-put word _ (room-first word (countsText (a .tree-size) (a .pairs)) _ _ (room p)) (P .before .put-bytes .ensures) (P .next-offset .ensures)
 
 slice-aggregate-put-bytes : tie.Need-slice-aggregate-put-bytes
 slice-aggregate-put-bytes c = search needs
@@ -36,21 +37,21 @@ slice-aggregate-put-bytes c = search needs
 put-bytes-requires : tie.Need-put-bytes-requires
 put-bytes-requires c κs = search needs
 
-next-place-requires : tie.Need-next-place-requires
-next-place-requires c κs = search needs
+next-offset-requires : tie.Need-next-offset-requires
+next-offset-requires c κs = search needs
 
 put-counts-requires : tie.Need-put-counts-requires
 put-counts-requires c κs =
     let w = c .before in
     let p = w .before .before .before in
     let a = p .before .args in
-    room-then (countsText (a .size) (a .pairs)) (front w) (room p)
+    room-then (countsText (a .tree-size) (a .pairs)) (front w) (room p)
 
 returns : tie.Need-returns
 returns c =
     let w = c .before .before in
     let a = w .before .before .before .before .args in
-    rw (monitored-pieces (a .size) (a .pairs)) (wrote-then (countsText (a .size) (a .pairs)) (front w) (c .put-counts .ensures))
+    rw (monitored-pieces (a .tree-size) (a .pairs)) (wrote-then (countsText (a .tree-size) (a .pairs)) (front w) (c .put-counts .ensures))
 
 pub put-monitored-spec : {M : Type 1} → statement M
 put-monitored-spec =
@@ -58,6 +59,6 @@ put-monitored-spec =
     (tie.spec
     slice-aggregate-put-bytes
     put-bytes-requires
-    next-place-requires
+    next-offset-requires
     put-counts-requires
     returns)

@@ -1,4 +1,5 @@
--- `verifier::answer_line::put_refusal` meets its contract: the word and a tab, the number, a newline, each after what is written before it.
+-- `verifier::answer_line::put_refusal` meets its contract: the word and a tab, the number, a
+-- newline, each after what is written before it.
 use mathlib.Core.List.{[], _∷_, _++_}
 use Prim.Native.Nat.{_+_, _≤_}
 use native.Mathlib.Omega.{arith}
@@ -26,14 +27,14 @@ slice-aggregate-put-bytes c = search needs
 put-bytes-requires : tie.Need-put-bytes-requires
 put-bytes-requires c κs = search needs
 
-next-place-requires : tie.Need-next-place-requires
-next-place-requires c κs = search needs
+next-offset-requires : tie.Need-next-offset-requires
+next-offset-requires c κs = search needs
 
 put-decimal-requires : tie.Need-put-decimal-requires
 put-decimal-requires c κs = search needs
 
-next-place-requires-2 : tie.Need-next-place-requires-2
-next-place-requires-2 c κs = search needs
+next-offset-requires-2 : tie.Need-next-offset-requires-2
+next-offset-requires-2 c κs = search needs
 
 slice-aggregate-put-bytes-2 : tie.Need-slice-aggregate-put-bytes-2
 slice-aggregate-put-bytes-2 c = search needs
@@ -41,8 +42,8 @@ slice-aggregate-put-bytes-2 c = search needs
 put-bytes-requires-2 : tie.Need-put-bytes-requires-2
 put-bytes-requires-2 c κs = search needs
 
-next-place-requires-3 : tie.Need-next-place-requires-3
-next-place-requires-3 c κs = search needs
+next-offset-requires-3 : tie.Need-next-offset-requires-3
+next-offset-requires-3 c κs = search needs
 
 returns : tie.Need-returns
 unfolding ascii
@@ -52,8 +53,8 @@ returns c =
     let p = k .before .before .before in
     let n = p .before .args .number in
     let w = both-put word (decimal n) _ _ (room-first (word ++ decimal n) (newline ∷ []) _ _ (room p)) (k .before .put-bytes .ensures)
-    (k .next-place .ensures) (d .before .put-decimal .ensures) (d .next-place2 .ensures) in
-    rw (refusal-pieces n) (then-put (newline ∷ []) w _ (room p) (c .before .put-bytes2 .ensures) (c .next-place3 .ensures))
+    (k .next-offset .ensures) (d .before .put-decimal .ensures) (d .next-offset2 .ensures) in
+    rw (refusal-pieces n) (then-put (newline ∷ []) w _ (room p) (c .before .put-bytes2 .ensures) (c .next-offset3 .ensures))
 
 pub put-refusal-spec : {M : Type 1} → statement M
 put-refusal-spec =
@@ -61,10 +62,10 @@ put-refusal-spec =
     (tie.spec
     slice-aggregate-put-bytes
     put-bytes-requires
-    next-place-requires
+    next-offset-requires
     put-decimal-requires
-    next-place-requires-2
+    next-offset-requires-2
     slice-aggregate-put-bytes-2
     put-bytes-requires-2
-    next-place-requires-3
+    next-offset-requires-3
     returns)

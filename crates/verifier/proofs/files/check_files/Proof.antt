@@ -1,9 +1,11 @@
--- `verifier::files::check_files` meets its contract: files that were not read or are too long are refused, and else the call that the request asks for is made.
+-- `verifier::files::check_files` meets its contract: files that were not read or are too long are
+-- refused, and else the call that the request asks for is made.
 use mathlib.Core.Path.{_≡_, sym, _∙_}
 use mathlib.Core.Bool.{true}
 use borrow.Author.Tests.{not-true, not-false}
 use Rattle.verifier.specs.Files.{areWithin}
-use Rattle.verifier.proofs.FilesLaws.{unread-refused, over-refused, refusal-told, request-within, call-told}
+use Rattle.verifier.proofs.FilesLaws.{unread-refused, over-refused, refusal-told, request-within}
+use Rattle.verifier.proofs.FilesLaws.{call-told}
 use borrow.Author.Needs.{needs}
 use Rattle.verifier.proofs.files.check_files.Statement.{statement}
 use Rattle.verifier.proofs.files.check_files.Tie as tie

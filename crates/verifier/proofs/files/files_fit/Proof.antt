@@ -1,4 +1,5 @@
--- `verifier::files::files_fit` meets its contract: a file that is too long decides, and else the length of the signed text does.
+-- `verifier::files::files_fit` meets its contract: a file that is too long decides, and else the
+-- length of the signed text does.
 use mathlib.Core.Path.{refl, sym}
 use mathlib.Core.Bool.{and-true}
 use borrow.Author.Tests.{le-leb, lt-leb}

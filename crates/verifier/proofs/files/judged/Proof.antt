@@ -1,11 +1,14 @@
--- `verifier::files::judged` meets its contract: the kind asked for is told, and the call of that kind is made with the request's own identifier.
+-- `verifier::files::judged` meets its contract: the call asked for is judged with the request's own
+-- identifier, the line and the new state's text are written.
 use mathlib.Core.Path.{_≡_, sym}
 use Prim.Native.Nat.{_≤_}
 use native.Mathlib.Omega.{arith}
 use lib.ListN.{length}
 use lib.Seq.{length-take-le}
-use Rattle.verifier.specs.Request.{identifierRoom, askedKind}
-use Rattle.verifier.proofs.FilesLaws.{asked-left}
+use Rattle.rules.specs.Program.{requested}
+use Rattle.checks.specs.Calls.{argumentsOf}
+use Rattle.verifier.specs.Request.{identifierRoom, requestIn}
+use Rattle.verifier.proofs.FilesLaws.{call-refused, call-accepted}
 use borrow.Author.Needs.{needs}
 use Rattle.verifier.proofs.files.judged.Statement.{statement}
 use Rattle.verifier.proofs.files.judged.Tie as tie
@@ -14,79 +17,48 @@ use Rattle.verifier.proofs.files.judged.Tie as tie
 within : (P : tie.Start) → P .args .request .length ≤ length (P .args .request .identifier)
 within P = let e : length (P .args .request .identifier) ≡ identifierRoom = search needs in omega (arith, P .pre)
 
-enum-told : tie.Need-enum-told
-enum-told c = search needs
-
 array-share-prefix-identifier : tie.Need-array-share-prefix-identifier
-array-share-prefix-identifier c = within (c .before .before .before .before .before .before .before)
+array-share-prefix-identifier c = within (c .before .before .before .before .before)
 
-slice-aggregate-searched : tie.Need-slice-aggregate-searched
-slice-aggregate-searched c = sym (length-take-le _ _ (within (c .before .before .before .before .before .before .before .before)))
+slice-aggregate-judge : tie.Need-slice-aggregate-judge
+slice-aggregate-judge c = sym (length-take-le _ _ (within (c .before .before .before .before .before .before)))
 
-searched-requires : tie.Need-searched-requires
-searched-requires c κs = search needs
+judge-requires : tie.Need-judge-requires
+judge-requires c κs = search needs
 
-enum-told-2 : tie.Need-enum-told-2
-enum-told-2 c = search needs
-
-array-share-prefix-identifier-2 : tie.Need-array-share-prefix-identifier-2
-array-share-prefix-identifier-2 c = within (c .before .before .before .before .before .before .before)
-
-slice-aggregate-monitored : tie.Need-slice-aggregate-monitored
-slice-aggregate-monitored c = sym (length-take-le _ _ (within (c .before .before .before .before .before .before .before .before)))
-
-monitored-requires : tie.Need-monitored-requires
-monitored-requires c κs = search needs
-
-enum-told-3 : tie.Need-enum-told-3
-enum-told-3 c = search needs
-
-array-share-prefix-identifier-3 : tie.Need-array-share-prefix-identifier-3
-array-share-prefix-identifier-3 c = within (c .before .before .before .before .before .before .before)
-
-slice-aggregate-unasked : tie.Need-slice-aggregate-unasked
-slice-aggregate-unasked c = sym (length-take-le _ _ (within (c .before .before .before .before .before .before .before .before)))
-
-unasked-requires : tie.Need-unasked-requires
-unasked-requires c κs = search needs
+refused-requires : tie.Need-refused-requires
+refused-requires c κs = search needs
 
 returns : tie.Need-returns
-unfolding askedKind
+unfolding argumentsOf requested requestIn
 returns c =
-    let T = c .before .before .before .before .before in
-    asked-left (T .before .before .before .before .before .before .before .args .request) _ (T .enum-told .given .1) _ _ _ _ _ _ _ _ _ _ _ _ (c .searched .ensures)
+    let r = c .before .before .before .before .judge .ensures in
+    call-refused _ _ _ _ _ (omega arith) _ _ (r .0) (r .1) (c .before .before .if1 .taken) _ _ _ _ (c .refused .ensures)
+
+put-accepted-requires : tie.Need-put-accepted-requires
+put-accepted-requires c κs = search needs
+
+write-state-requires : tie.Need-write-state-requires
+write-state-requires c κs = search needs
 
 returns-2 : tie.Need-returns-2
-unfolding askedKind
+unfolding argumentsOf requested requestIn
 returns-2 c =
-    let T = c .before .before .before .before in
-    let a = T .before .before .before .before .before .before .before .args in
-    asked-left (a .request) _ (T .enum-told2 .given .1) _ _ _ _ _ _ _ _ _ _ _ _ (c .monitored .ensures (a .value .now))
-
-returns-3 : tie.Need-returns-3
-unfolding askedKind
-returns-3 c =
-    let T = c .before .before .before in
-    let a = T .before .before .before .before .before .before .before .args in
-    asked-left (a .request) _ (T .enum-told3 .given .1) _ _ _ _ _ _ _ _ _ _ _ _
-    (c .unasked .ensures (a .request .clock) (a .value .now) (a .text .now))
+    let w = c .write-state .ensures in
+    let Q = c .before .before in
+    let accepted = Q .before .before .before .if1 .left in
+    let r = Q .before .before .before .before .before .judge .ensures in
+    call-accepted _ _ _ _ _ (omega arith) _ _ (r .0) (r .1) accepted _ _ _ _ _ _ (Q .put-accepted .ensures) (omega arith) (w .0) (w .1)
 
 pub judged-spec : {M : Type 1} → statement M
 judged-spec =
     tie.close
     (tie.spec
-    enum-told
     array-share-prefix-identifier
-    slice-aggregate-searched
-    searched-requires
-    enum-told-2
-    array-share-prefix-identifier-2
-    slice-aggregate-monitored
-    monitored-requires
-    enum-told-3
-    array-share-prefix-identifier-3
-    slice-aggregate-unasked
-    unasked-requires
+    slice-aggregate-judge
+    judge-requires
+    refused-requires
     returns
-    returns-2
-    returns-3)
+    put-accepted-requires
+    write-state-requires
+    returns-2)

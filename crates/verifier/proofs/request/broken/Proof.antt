@@ -2,7 +2,8 @@
 use mathlib.Core.Path.{refl}
 use native.Mathlib.Omega.{arith}
 use Rattle.rules.specs.Program.{brokenRequest}
-use Rattle.verifier.specs.Request.{askedKind, requestIn}
+use Rattle.checks.specs.Calls.{askedKind}
+use Rattle.verifier.specs.Request.{requestIn}
 use Rattle.verifier.proofs.request.broken.Statement.{statement}
 use Rattle.verifier.proofs.request.broken.Tie as tie
 

@@ -1,4 +1,5 @@
--- `verifier::request::read_request` meets its contract: there is one line; its word tells the kind, and the other fields are left to `with_fields`.
+-- `verifier::request::read_request` meets its contract: there is one line; its word tells the kind,
+-- and the other fields are left to `with_fields`.
 use mathlib.Core.Path.{sym, _∙_, ap}
 use Prim.Native.Nat.{_-_, _≤_}
 use native.Mathlib.Omega.{arith}
@@ -8,7 +9,8 @@ use Rattle.lines.specs.Number.{ascii}
 use Rattle.lines.specs.Readings.{lineOf, wordOf}
 use Rattle.lines.proofs.SectionLaws.{LineHere, line-here}
 use Rattle.rules.specs.Limits.{requestLimit}
-use Rattle.verifier.proofs.RequestLaws.{request-no-line, request-longer, request-search, request-monitor, request-neither}
+use Rattle.verifier.proofs.RequestLaws.{request-no-line, request-longer, request-search}
+use Rattle.verifier.proofs.RequestLaws.{request-monitor, request-neither}
 use Rattle.verifier.proofs.request.read_request.Statement.{statement}
 use Rattle.verifier.proofs.request.read_request.Tie as tie
 

@@ -1,4 +1,5 @@
--- `hash::hasher::Hasher::finish` meets its contract: the digest of what is pending is `closed`, by its law.
+-- `hash::hasher::Hasher::finish` meets its contract: the digest of what is pending is `closed`, by
+-- its law.
 use Rattle.hash.proofs.HasherLaws.{closed-law}
 use borrow.Author.Needs.{needs}
 use Rattle.hash.proofs.hasher.Hasher.finish.Statement.{statement}

@@ -1,4 +1,5 @@
--- `hash::hasher::Hasher::update` meets its contract: one law for each of the two ways: the part fits the block, or fills it.
+-- `hash::hasher::Hasher::update` meets its contract: one law for each of the two ways: the part
+-- fits the block, or fills it.
 use mathlib.Core.Path.{ap, _∙_}
 use mathlib.Core.List.{List}
 use Prim.Native.Nat.{ℕ, _-_, _%_}

@@ -1,21 +1,21 @@
 -- `lines::cursor::Cursor::bytes` meets its contract: the field at the cursor is read as hex.
 use mathlib.Core.Path.{sym, _∙_, ap}
 use native.Mathlib.Omega.{arith}
-use Rattle.lines.specs.Hex.{spelledLength}
-use Rattle.lines.specs.Readings.{spellingOf}
+use Rattle.lines.specs.Hex.{decodedLength}
+use Rattle.lines.specs.Readings.{hexLengthOf}
 use Rattle.lines.proofs.CursorLaws.{read-beyond, read-none, read-some}
 use borrow.Author.Needs.{needs}
 use Rattle.lines.proofs.cursor.Cursor.bytes.Statement.{statement}
 use Rattle.lines.proofs.cursor.Cursor.bytes.Tie as tie
 
 returns : tie.Need-returns
-returns c = sym (read-beyond spelledLength _ _ (omega arith))
+returns c = sym (read-beyond decodedLength _ _ (omega arith))
 
 field-requires : tie.Need-field-requires
 field-requires c κs = search needs
 
-spelled-length-requires : tie.Need-spelled-length-requires
-spelled-length-requires c κs = search needs
+decoded-length-requires : tie.Need-decoded-length-requires
+decoded-length-requires c κs = search needs
 
 enum-known-length : tie.Need-enum-known-length
 enum-known-length c = search needs
@@ -32,14 +32,14 @@ enum-told c = search needs
 returns-2 : tie.Need-returns-2
 returns-2 c =
     let r = c .before .before .before in
-    let e = sym (r .spelled-length .ensures) ∙ ap spellingOf (c .before .length .given .1) in
-    sym (read-some spelledLength _ _ _ (r .before .field .ensures) (omega arith) _ e)
+    let e = sym (r .decoded-length .ensures) ∙ ap hexLengthOf (c .before .length .given .1) in
+    sym (read-some decodedLength _ _ _ (r .before .field .ensures) (omega arith) _ e)
 
 returns-3 : tie.Need-returns-3
 returns-3 c =
     let r = c .before .before in
-    let e = sym (r .spelled-length .ensures) ∙ ap spellingOf (c .enum-told .given .1) in
-    sym (read-none spelledLength _ _ _ (r .before .field .ensures) (omega arith) e)
+    let e = sym (r .decoded-length .ensures) ∙ ap hexLengthOf (c .enum-told .given .1) in
+    sym (read-none decodedLength _ _ _ (r .before .field .ensures) (omega arith) e)
 
 pub bytes-spec : {M : Type 1} → statement M
 bytes-spec =
@@ -47,7 +47,7 @@ bytes-spec =
     (tie.spec
     returns
     field-requires
-    spelled-length-requires
+    decoded-length-requires
     enum-known-length
     add-t11
     add-t12

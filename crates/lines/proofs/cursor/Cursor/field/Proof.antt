@@ -1,9 +1,10 @@
--- `lines::cursor::Cursor::field` meets its contract: the field stops at the first tab from the cursor on.
+-- `lines::cursor::Cursor::field` meets its contract: the field stops at the first tab from the
+-- cursor on.
 use mathlib.Core.Path.{sym}
 use native.Mathlib.Omega.{arith}
 use Rattle.lines.specs.Line.{tab}
 use Rattle.lines.specs.Cursor.{fieldAt}
-use Rattle.lines.proofs.PlaceLaws.{before-at}
+use Rattle.lines.proofs.OffsetLaws.{before-at}
 use Rattle.lines.proofs.CursorLaws.{field-beyond}
 use borrow.Author.Needs.{needs}
 use Rattle.lines.proofs.cursor.Cursor.field.Statement.{statement}

@@ -1,4 +1,4 @@
--- `lines::cursor::Cursor::left` meets its contract: nothing is left behind the text's end.
+-- `lines::cursor::Cursor::left` meets its contract: nothing is left after the text's end.
 use native.Mathlib.Omega.{arith}
 use lib.ListN.{length-drop}
 use borrow.Author.Needs.{needs}

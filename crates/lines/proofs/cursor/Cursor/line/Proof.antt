@@ -1,4 +1,5 @@
--- `lines::cursor::Cursor::line` meets its contract: the line stops at the first newline from the cursor on.
+-- `lines::cursor::Cursor::line` meets its contract: the line stops at the first newline from the
+-- cursor on.
 use mathlib.Core.Path.{sym}
 use native.Mathlib.Omega.{arith}
 use Rattle.lines.proofs.CursorLaws.{line-ended, line-open}

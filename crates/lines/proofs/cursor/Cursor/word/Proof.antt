@@ -1,4 +1,5 @@
--- `lines::cursor::Cursor::word` meets its contract: the field at the cursor is compared with the word.
+-- `lines::cursor::Cursor::word` meets its contract: the field at the cursor is compared with the
+-- word.
 use mathlib.Core.Path.{sym, _∙_}
 use native.Mathlib.Omega.{arith}
 use Rattle.lines.proofs.CursorLaws.{word-beyond, word-other, word-same}

@@ -1,4 +1,5 @@
--- `tree::ladder::Ladder::of` meets its contract: one law for 2^32 - 1, and for the others the ladder is the one within 32 bits.
+-- `tree::ladder::Ladder::of` meets its contract: one law for 2^32 - 1, and for the others the
+-- ladder is the one within 32 bits.
 use mathlib.Core.Path.{sym, ap, _∙_}
 use native.Mathlib.Omega.{arith}
 use lib.ListN.{length}

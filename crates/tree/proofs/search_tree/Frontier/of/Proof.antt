@@ -1,11 +1,13 @@
--- `tree::search_tree::Frontier::of` meets its contract: the entries stored so far are those of the highest digits of n, and `left` has the digits below them.
+-- `tree::search_tree::Frontier::of` meets its contract: the entries stored so far are those of the
+-- highest digits of n, and `left` has the digits below them.
 use mathlib.Core.Path.{sym}
 use Prim.Native.Nat.{_-_, _<_, _≤_}
 use native.Mathlib.Omega.{arith}
 use lib.Count.{ones-le}
 use Rattle.tree.specs.SearchTree.{frontierCapacity}
 use Rattle.tree.proofs.FrontierLaws.{frontier-length}
-use Rattle.tree.proofs.FrontierFillLaws.{Descending, descending-start, descending-more, descending-bounds, descending-next, descending-end}
+use Rattle.tree.proofs.FrontierFillLaws.{Descending, descending-start, descending-more}
+use Rattle.tree.proofs.FrontierFillLaws.{descending-bounds, descending-next, descending-end}
 use Rattle.tree.proofs.search_tree.Frontier.of.Statement.{statement}
 use Rattle.tree.proofs.search_tree.Frontier.of.Tie as tie
 
@@ -16,21 +18,21 @@ abbrev μ-loop : tie.MeasureT-loop
 μ-loop n count positions₀ left₀ i₀ positions left i = count - i
 
 cast-length : tie.Need-cast-length Inv-loop μ-loop
-cast-length c = omega (arith, ones-le 64 (c .args .n) (c .fits .n .fits))
+cast-length c = omega (arith, ones-le 64 (c .args .tree-size) (c .fits .tree-size .fits))
 
 loop-holds : tie.Need-loop-holds Inv-loop μ-loop
-loop-holds c = (descending-start (c .args .n) (c .fits .n .fits), omega arith)
+loop-holds c = (descending-start (c .args .tree-size) (c .fits .tree-size .fits), omega arith)
 
 power-requires : tie.Need-power-requires Inv-loop μ-loop
-power-requires c κs = descending-more (c .before .loop .inv .0) (omega (arith, frontier-length (c .before .before .args .n)))
+power-requires c κs = descending-more (c .before .loop .inv .0) (omega (arith, frontier-length (c .before .before .args .tree-size)))
 
 -- what is known in a turn
 bounds : (c : tie.After-power Inv-loop μ-loop)
     → (c .before .before .loop .i < frontierCapacity) × (c .power .result ≤ c .before .before .loop .left)
-    × (c .before .before .loop .left - c .power .result < c .before .before .before .args .n)
+    × (c .before .before .loop .left - c .power .result < c .before .before .before .args .tree-size)
 bounds c =
     let at3 = c .before .before .before in
-    rw (c .power .ensures) (descending-bounds (at3 .fits .n .fits) (c .before .before .loop .inv .0) (omega (arith, frontier-length (at3 .args .n))))
+    rw (c .power .ensures) (descending-bounds (at3 .fits .tree-size .fits) (c .before .before .loop .inv .0) (omega (arith, frontier-length (at3 .args .tree-size))))
 
 sub-left : tie.Need-sub-left Inv-loop μ-loop
 sub-left c = omega (arith, bounds c)
@@ -56,13 +58,13 @@ loop-less c = omega arith
 loop-again : tie.Need-loop-again Inv-loop μ-loop
 loop-again c =
     let at3 = c .before .before .before in (
-      rw (c .power .ensures) (descending-next (at3 .fits .n .fits) (c .before .before .loop .inv .0) (omega (arith, frontier-length (at3 .args .n)))),
+      rw (c .power .ensures) (descending-next (at3 .fits .tree-size .fits) (c .before .before .loop .inv .0) (omega (arith, frontier-length (at3 .args .tree-size)))),
       omega arith,
     )
 
 returns : tie.Need-returns Inv-loop μ-loop
 returns c =
-    let n = c .before .before .args .n in
+    let n = c .before .before .args .tree-size in
     (descending-end (c .before .loop .inv .0) (omega (arith, frontier-length n)), sym (frontier-length n))
 
 pub of-spec : {M : Type 1} → statement M

@@ -1,4 +1,4 @@
--- `verifier::reading::Reader::left` meets its contract: the cursor at its place is asked.
+-- `verifier::reading::Reader::left` meets its contract: the cursor at its offset is asked.
 use mathlib.Core.Path.{_≡_}
 use Prim.Native.Nat.{ℕ}
 use Rattle.lines.specs.Cursor.{leftAt}

@@ -1,4 +1,4 @@
--- `verifier::reading::Reader::line` meets its contract: the cursor at its place is asked.
+-- `verifier::reading::Reader::line` meets its contract: the cursor at its offset is asked.
 use mathlib.Core.Path.{_≡_}
 use Prim.Native.Nat.{ℕ}
 use contract.Running.{givenOf, tables, tablesOf}

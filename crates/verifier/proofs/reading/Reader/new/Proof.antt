@@ -1,4 +1,5 @@
--- `verifier::reading::Reader::new` meets its contract: one copy of what the text owns goes into the reader, and one stays with the caller.
+-- `verifier::reading::Reader::new` meets its contract: one copy of what the text owns goes into the
+-- reader, and one stays with the caller.
 use mathlib.Core.Path.{_≡_, refl}
 use mathlib.Core.List.{[], _∷_}
 use Prim.Native.Nat.{ℕ, _<_, _^_}
@@ -14,7 +15,8 @@ use contract.Lifetimes.{Lfts}
 use contract.Running.{givenOf, tables, tablesOf}
 use types.Kit.{Given, ‵, raw, _⊛_, _$_, _∵_, !, qed, by, move, use1, split}
 use types.Part.{agg}
-use types.Run.{look, init, forget, stop, from, load, and-then, no-more, assigns, returns, enter, alloc1, alloc0, params1, pass1, pass0, free1, free0}
+use types.Run.{look, init, forget, stop, from, load, and-then, no-more, assigns, returns, enter, alloc1}
+use types.Run.{alloc0, params1, pass1, pass0, free1, free0}
 use denote.Ref.{RefT}
 use denote.Slice.{sliceTy}
 use denote.Triple.Table.{entered}
