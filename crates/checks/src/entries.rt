@@ -240,7 +240,7 @@ fn lookups_shown(entries: &[u8], from: usize, wanted: &[u32]) -> LookupsShown
     }
 }
 
-// Whether a version stands at an offset among those wanted.
+// Whether a version stands at an index among those wanted.
 pub(crate) fn is_at(wanted: &[u32], i: usize, version: u32) -> bool
     ensures { λ r. ⌜ r ≡ begins (version ∷ []) (drop i (now (wanted .entry))) ⌝ }
 {

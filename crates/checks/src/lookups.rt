@@ -477,7 +477,7 @@ fn leaf_reaches(rest: &[u8], output: [u8; 32], root: [u8; 32]) -> bool
     )
 }
 
-// Whether what stands at an offset fits a lookup with these siblings, and leads to the root.
+// Whether what stands at a lookup's place fits its siblings, and leads to the root.
 fn leads_to(output: [u8; 32], terminal: Terminal, siblings: &[u8], root: [u8; 32]) -> bool
     ensures { λ r. ⌜ r ≡ leadsTo output (terminalOf terminal) root (now (siblings .entry)) ⌝ }
 {

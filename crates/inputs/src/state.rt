@@ -206,7 +206,7 @@ fn zeros_from(s: &[u8], from: usize) -> bool
     true
 }
 
-// Whether positions and versions are zero from an offset on.
+// Whether positions and versions are zero from an index on.
 fn zero_pairs_from(
     positions: [u64; State::PAIRS],
     versions: [u32; State::PAIRS],

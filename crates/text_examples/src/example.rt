@@ -17,7 +17,7 @@ const KIND: usize = 0;
 
 const NAME: usize = 1;
 
-const PLACE: usize = 2;
+const OFFSET: usize = 2;
 
 const NUMBER: usize = 3;
 
@@ -110,7 +110,7 @@ fn show(line: &[u8]) {
     } else {
         line::text(name);
     }
-    line::spaced(field(line, PLACE));
+    line::spaced(field(line, OFFSET));
     line::spaced(field(line, NUMBER));
 }
 
@@ -124,7 +124,7 @@ fn answer(kind: u64, line: &[u8]) {
         if other_length <= OTHER_ROOM {
             by_kind(
                 kind,
-                said(field(line, PLACE)),
+                said(field(line, OFFSET)),
                 said(field(line, NUMBER)),
                 &text[0..length],
                 &other[0..other_length],
@@ -134,11 +134,11 @@ fn answer(kind: u64, line: &[u8]) {
 }
 
 // What comes back, by the kind. Those that are not named here are given bytes.
-fn by_kind(kind: u64, place: u64, number: u64, text: &[u8], other: &[u8]) {
-    let at = place as usize;
+fn by_kind(kind: u64, offset: u64, number: u64, text: &[u8], other: &[u8]) {
+    let at = offset as usize;
     match kind {
         1 => fields::number(number, text),
-        2 => fields::spelling(text),
+        2 => fields::hex_length(text),
         3 => fields::digest(text),
         4 => fields::word_at(at, text, other),
         5 => fields::number_at(at, number, text),
@@ -148,10 +148,10 @@ fn by_kind(kind: u64, place: u64, number: u64, text: &[u8], other: &[u8]) {
         9 => fields::line_at(at, text),
         10 => writers::bytes(at, text),
         11 => writers::decimal(at, text),
-        13 => writers::spelled(at, text),
+        13 => writers::decoded(at, text),
         18 => states::of_text(text),
-        19 => states::unused_room(place, text),
+        19 => states::unused_room(offset, text),
         20 => responses::response(text),
-        _ => given::spelled(kind, at, number, text, other),
+        _ => given::decoded(kind, at, number, text, other),
     }
 }

@@ -19,7 +19,7 @@ pub(crate) fn number(bound: u64, s: &[u8]) {
     }
 }
 
-pub(crate) fn spelling(s: &[u8]) {
+pub(crate) fn hex_length(s: &[u8]) {
     match decoded_length(s) {
         HexLength::Read(n) => line::number(n as u64),
         HexLength::Unread => line::broken(),

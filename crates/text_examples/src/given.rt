@@ -64,7 +64,7 @@ fn by_kind(kind: u64, at: usize, number: u64, bytes: &[u8], other: &[u8]) {
 }
 
 // What comes back of the bytes that a text encodes.
-pub(crate) fn spelled(kind: u64, at: usize, number: u64, text: &[u8], other: &[u8]) {
+pub(crate) fn decoded(kind: u64, at: usize, number: u64, text: &[u8], other: &[u8]) {
     let mut bytes = [0u8; ROOM];
     let length = next_offset(put_decoded(&mut bytes, 0, text), 0);
     if length <= ROOM {

@@ -35,29 +35,27 @@ pub(crate) fn of_text(text: &[u8]) {
     state(read_state(text), text);
 }
 
-// One more than there is room for.
-const OVER_PAIRS: usize = State::PAIRS + 1;
-
-const OVER_LABEL: usize = State::LABEL + 1;
-
 // Whether a state of two values and two pairs is valid, with something put where it should not be.
-fn changed(given: State, place: u64) {
-    let mut s = given;
-    match place {
-        1 => s.label.bytes[State::LABEL - 1] = 1,
-        2 => s.log.values[64] = 1,
-        3 => s.map.positions[2] = 1,
-        4 => s.map.versions[State::PAIRS - 1] = 1,
-        5 => s.map.count = OVER_PAIRS,
-        6 => s.label.length = OVER_LABEL,
-        7 => s.label.length = 0,
+fn changed(valid: State, part: u64) {
+    let mut label = valid.label;
+    let mut log = valid.log;
+    let mut map = valid.map;
+    match part {
+        1 => label.bytes[State::LABEL - 1] = 1,
+        2 => log.values[64] = 1,
+        3 => map.positions[2] = 1,
+        4 => map.versions[State::PAIRS - 1] = 1,
+        5 => map.count = State::PAIRS + 1,
+        6 => label.length = State::LABEL + 1,
+        7 => label.length = 0,
         _ => {}
     }
+    let s = State { label, log, map };
     line::whether(s.is_valid());
 }
 
 // The same of the state that a text says.
-pub(crate) fn unused_room(place: u64, text: &[u8]) {
+pub(crate) fn unused_room(part: u64, text: &[u8]) {
     let n = read_state(text);
-    changed(n.state, place);
+    changed(n.state, part);
 }

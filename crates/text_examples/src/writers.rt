@@ -31,7 +31,7 @@ pub(crate) fn decimal(at: usize, s: &[u8]) {
     after(put, &lent);
 }
 
-pub(crate) fn spelled(at: usize, s: &[u8]) {
+pub(crate) fn decoded(at: usize, s: &[u8]) {
     let mut lent = [b'.'; LENT];
     let put = put_decoded(&mut lent, at, s);
     after(put, &lent);

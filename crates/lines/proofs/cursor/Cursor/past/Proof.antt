@@ -1,4 +1,4 @@
--- `lines::cursor::Cursor::after` meets its contract: by cases of the line.
+-- `lines::cursor::Cursor::past` meets its contract: by cases of the line.
 use mathlib.Core.Path.{sym, ap}
 use borrow.Author.Needs.{needs}
 use Rattle.lines.specs.Cursor.{past}

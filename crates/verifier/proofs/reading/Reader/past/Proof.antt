@@ -1,4 +1,4 @@
--- `verifier::reading::Reader::after` meets its contract: the cursor is asked for the offset, and
+-- `verifier::reading::Reader::past` meets its contract: the cursor is asked for the offset, and
 -- one copy of the reader is opened, whose text goes into the reader that is made.
 use mathlib.Core.Path.{_≡_, refl, sym, subst}
 use mathlib.Core.List.{List, [], _∷_}
