@@ -6,6 +6,7 @@ ghost use Rattle.lines.specs.Cursor.{leftAt, lineAt, past, fieldAt, read
 ghost use Rattle.lines.specs.Readings.{lineOf, wordOf, nextNumberOf, nextBytesOf};
 use crate::hex::HexLength;
 use crate::hex::decoded_length;
+use crate::line::line_end;
 use crate::line::span;
 use crate::number::Number;
 use crate::number::read_number;
@@ -58,7 +59,7 @@ impl Cursor {
         ensures { λ r. ⌜ lineOf r ≡ lineAt (now (text .entry)) (self .at) ⌝ }
     {
         let at = self.at;
-        let stop = span(text, at, b'\n');
+        let stop = line_end(text, at);
         if stop < text.len() {
             return NextLine::Ended {
                 stop,

@@ -11,6 +11,7 @@ ghost use Rattle.tree.specs.LogText.{nodesIn};
 use hash::strings::digest_40;
 use lines::hex::read_digest;
 use lines::layout::Layout;
+use lines::line::line_end;
 use lines::line::span;
 use lines::number::Number;
 use lines::number::read_number;
@@ -62,7 +63,7 @@ pub(crate) fn next_line(text: &[u8], at: usize) -> usize
     requires { ⌜ at < length (now text) ⌝ }
     ensures { λ r. ⌜ r ≡ nextLine (now (text .entry)) at ⌝ }
 {
-    span(text, at, b'\n') + 1
+    line_end(text, at) + 1
 }
 
 // Where the first entry line from a line's start on begins, or the text's end where there is none.
