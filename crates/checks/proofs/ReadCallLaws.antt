@@ -2,7 +2,7 @@
 -- they let pass.
 use mathlib.Core.Path.{_≡_, refl, sym, ap, _∙_}
 use mathlib.Core.Bool.{Bool, true, false}
-use mathlib.Core.List.{_++_}
+use mathlib.Core.List.{[], _++_}
 use mathlib.Core.Option.{Option}
 use Prim.Native.Nat.{ℕ}
 use lib.Count.{ones}
@@ -19,12 +19,14 @@ use Rattle.inputs.specs.State.{stateOf, contents, labelIn, logIn, mapIn}
 use Rattle.checks.specs.declared.call.AskedKind.{AskedKind}
 use Rattle.checks.specs.declared.call.Answer.{Answer}
 use Rattle.checks.specs.declared.readings.Call.{Call as CallBlock}
+use Rattle.checks.specs.declared.trial.Tried.{Tried}
 use Rattle.checks.specs.declared.trial.Checked.{Checked}
 use Rattle.checks.specs.Calls.{askedKind, argumentsOf, answerOf, numberTried, rules16, IsGiven}
-use Rattle.checks.specs.Calls.{Readable, IsChecked, Leaves}
+use Rattle.checks.specs.Calls.{Readable, Checkable, Is6to13Tried, Is14Tried, IsChecked, Leaves}
 use Rattle.checks.specs.Calls.{Accepting, IsAcceptedAnswer, AreAcceptedBytes, IsReadAnswer}
 use Rattle.checks.specs.Calls.{AreReadBytes}
 use Rattle.checks.proofs.TrialLaws.{first-refuses}
+use Rattle.checks.proofs.Trial6to14Laws.{lines-refused, lines-passed}
 use Rattle.checks.proofs.StateStructLaws.{stands-for}
 use Rattle.checks.proofs.LastChecksLaws.{text-differs, text-same}
 use Rattle.checks.proofs.AcceptLaws.{refusal, answer-refused, bytes-refused}
@@ -35,6 +37,29 @@ IsStateChecked asked text k b identifier outputs r block =
     IsChecked asked text k identifier (take (b .label .length) (b .label .bytes))
     (take (b .map .count) (b .map .positions)) (take (b .map .count) (b .map .versions)) outputs (b .log .values)
     r block
+
+-- what 6 to 13 say of them
+abbrev pub IsStateTried : AskedKind → Bytes → CallBlock → StateBlock → Bytes → Bytes → Tried → Type 0
+IsStateTried asked text k b identifier outputs t =
+    Is6to13Tried asked text k identifier (take (b .label .length) (b .label .bytes))
+    (take (b .map .count) (b .map .positions)) (take (b .map .count) (b .map .versions)) outputs t
+
+-- 6 to 14 where one of 6 to 13 applies
+abbrev pub stopped : Tried → Checked
+stopped t = record { number = t .number; position = 0; timestamp = 0; root = [] }
+
+module _ (asked : AskedKind) (text : Bytes) (k : CallBlock) (b : StateBlock) (identifier outputs : Bytes)
+    (x : Checkable text k identifier (b .label .bytes) (b .label .length) (b .map .positions)
+    (b .map .versions) (b .map .count) outputs) (t : Tried) (g : IsStateTried asked text k b identifier outputs t)
+  where
+    pub state-stopped : (t .number ≡ 0 → ⊥)
+        → IsStateChecked asked text k b identifier outputs (stopped t) []
+    state-stopped z = lines-refused x asked t g z (b .log .values) (stopped t) [] refl
+
+    -- where none does, 14 decides
+    pub state-checked : t .number ≡ 0 → (r : Checked) (block : Bytes)
+        → Is14Tried text k t (b .log .values) r block → IsStateChecked asked text k b identifier outputs r block
+    state-checked w r block h = lines-passed x asked t g w (b .log .values) r block h
 
 module _ (asked : AskedKind) (text : Bytes) (k : CallBlock) (b : StateBlock) (identifier outputs : Bytes)
     (r : Checked) (block : Bytes) (t : IsStateChecked asked text k b identifier outputs r block)

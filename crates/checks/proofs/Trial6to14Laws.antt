@@ -28,12 +28,14 @@ use Rattle.inputs.specs.Response.{partsIn}
 use Rattle.inputs.proofs.PairLaws.{map-versions}
 use Rattle.checks.specs.declared.call.AskedKind.{AskedKind}
 use Rattle.checks.specs.declared.readings.Call.{Call as CallBlock}
+use Rattle.checks.specs.declared.trial.Tried.{Tried}
 use Rattle.checks.specs.declared.trial.Checked.{Checked}
 use Rattle.checks.specs.declared.trial.Tried9to11.{Tried9to11}
 use Rattle.checks.specs.declared.lookups.Judged.{Judged}
 use Rattle.checks.specs.Calls.{IsCall, askedKind, entriesText, numberTried, rules6to8, rules9to11}
-use Rattle.checks.specs.Calls.{rules12and13, rules14, rules9to14, IsNumber6to8, TargetFits, Shapeable}
-use Rattle.checks.specs.Calls.{IsFirst, Is9to14Checked, Checkable, IsChecked}
+use Rattle.checks.specs.Calls.{rules12and13, rules14, rules9to13, rules6to13, IsNumber6to8, TargetFits}
+use Rattle.checks.specs.Calls.{Shapeable, Passed, Leaves}
+use Rattle.checks.specs.Calls.{IsFirst, Is9to13Tried, Is14Tried, Checkable, Is6to13Tried, IsChecked}
 use Rattle.checks.proofs.TrialLaws.{Numbered, none-applies, number-first, number-next, number-none}
 use Rattle.checks.proofs.TrialLaws.{number-front, number-rest}
 use Rattle.checks.proofs.TargetLaws.{target-lengths}
@@ -48,13 +50,13 @@ numbered6to8 = omega arith
 numbered9to11 : Numbered rules9to11
 numbered9to11 = omega arith
 
-numbered12and13 : Numbered rules12and13
-numbered12and13 = omega arith
+numbered6to13 : Numbered rules6to13
+numbered6to13 = omega arith
 
--- ---- 9 to 14
+-- ---- 9 to 13
 
 -- `Stand` is what 9 to 11 leave of the commitments, and 12 and 13 ask for
-module _ (text : Bytes) (k : CallBlock) (label : Bytes) (ps vs : List ℕ) (outputs kept : Bytes)
+module _ (text : Bytes) (k : CallBlock) (label : Bytes) (ps vs : List ℕ) (outputs : Bytes)
     (Stand : Call → Type 0)
   where
     -- what is said of each call that the arguments stand for
@@ -81,16 +83,15 @@ module _ (text : Bytes) (k : CallBlock) (label : Bytes) (ps vs : List ℕ) (outp
         → outputMissing c ≡ false → Stand c
         → (judged .number ≡ numberTried rules12and13 c) × (judged .number ≡ 0 → IsFirstOf judged c)
 
-    -- all of them
-    abbrev Told : Checked → Bytes → Type 0
-    Told r block = Is9to14Checked text k label ps vs outputs kept r block
+    -- both
+    abbrev Told : Tried → Type 0
+    Told t = Is9to13Tried text k label ps vs outputs t
 
     module _ (shown : Tried9to11) (hs : TriedBy shown) where
       -- refused with 9 to 11
-      pub tried-refused : (shown .number ≡ 0 → ⊥) → (r : Checked) (block : Bytes) → r .number ≡ shown .number
-          → Told r block
-      tried-refused z r block e c i l m v = (
-        e ∙ number-front rules9to11 (rules12and13 ++ rules14) c (shown .number) (hs c i m .0) z,
+      pub tried-refused : (shown .number ≡ 0 → ⊥) → (t : Tried) → t .number ≡ shown .number → Told t
+      tried-refused z t e c i l m = (
+        e ∙ number-front rules9to11 rules12and13 c (shown .number) (hs c i m .0) z,
         λ q. absurd (z (sym e ∙ q)),
       )
 
@@ -99,77 +100,62 @@ module _ (text : Bytes) (k : CallBlock) (label : Bytes) (ps vs : List ℕ) (outp
         none9to11 : Each (NoneApplies rules9to11)
         none9to11 c i l m = none-applies rules9to11 c numbered9to11 (sym w ∙ hs c i m .0)
 
-        -- so the others are left
-        others-left : Each (λ c. numberTried (rules12and13 ++ rules14) c ≡ numberTried rules9to14 c)
-        others-left c i l m = number-rest rules9to11 (rules12and13 ++ rules14) c (none9to11 c i l m)
-
-        -- what is found of 12 and 13
+        -- so 12 and 13 are left
         judged-told :
-            Each (λ c. (judged .number ≡ numberTried rules12and13 c)
+            Each (λ c. (judged .number ≡ numberTried rules9to13 c)
             × (judged .number ≡ 0 → IsFirstOf judged c))
         judged-told c i l m =
-            let (nine, (ten, _)) = none9to11 c i l m in
-            hj c i l nine ten (hs c i m .1 w .1)
+            let none = none9to11 c i l m in
+            let (e, f) = hj c i l (none .0) (none .1 .0) (hs c i m .1 w .1) in
+            (e ∙ number-rest rules9to11 rules12and13 c none, f)
 
         -- refused with 12 or 13
-        pub judged-refused : (judged .number ≡ 0 → ⊥) → (r : Checked) (block : Bytes)
-            → r .number ≡ judged .number → Told r block
-        judged-refused z r block e c i l m v = (
-          e ∙ number-front rules12and13 rules14 c (judged .number) (judged-told c i l m .0) z
-              ∙ others-left c i l m,
-          λ q. absurd (z (sym e ∙ q)),
+        pub judged-refused : (judged .number ≡ 0 → ⊥) → (t : Tried) → t .number ≡ judged .number → Told t
+        judged-refused z t e c i l m = (e ∙ judged-told c i l m .0, λ q. absurd (z (sym e ∙ q)))
+
+        -- not refused
+        pub judged-passed : judged .number ≡ 0
+            → Told (record { number = 0; position = judged .position; timestamp = shown .timestamp })
+        judged-passed x c i l m = (
+          sym x ∙ judged-told c i l m .0,
+          λ _. record { isFirst = judged-told c i l m .1 x; timestamp = hs c i m .1 w .0 },
         )
 
-        module _ (x : judged .number ≡ 0) (p : Shapeable text k ps vs outputs) (s nodes : Bytes)
-            (isEntries : s ≡ entriesText text k) (isNodes : nodes ≡ partOf text (k .response .nodes .part))
-            (h : LogHead) (block : Bytes)
-            (isHead : headWith block h
-            ≡ logHead (k .response .«tree_size») (knownIn s (k .«kept_size») kept) (nodesThere nodes))
-          where
-            -- the head is that of the call
-            head-told :
-                Each (λ c. c .state .log .values ≡ runs (ones (k .«kept_size»)) hashLength kept
-                → headWith block h ≡ headOf c)
-            head-told c i l m v =
-                let e = entries-were c (none9to11 c i l m .0) in
-                head-shown p c i e s nodes kept isEntries isNodes v _ isHead
+-- ---- 14
 
-            -- 14 applies where the kept values are not met
-            fourteen : (c : Call) → headWith block h ≡ headOf c → historyDiffers c ≡ not (h .met)
-            unfolding historyDiffers
-            fourteen c e = ap (λ (y : Head). not (y .met)) (sym e)
+module _ (text : Bytes) (k : CallBlock) (t : Tried) (kept s nodes : Bytes)
+    (isEntries : s ≡ entriesText text k) (isNodes : nodes ≡ partOf text (k .response .nodes .part))
+    (h : LogHead) (block : Bytes)
+    (isHead : headWith block h
+    ≡ logHead (k .response .«tree_size») (knownIn s (k .«kept_size») kept) (nodesThere nodes))
+  where
+    -- 14 applies where the kept values are not met
+    fourteen : (c : Call) → headWith block h ≡ headOf c → historyDiffers c ≡ not (h .met)
+    unfolding historyDiffers
+    fourteen c e = ap (λ (y : Head). not (y .met)) (sym e)
 
-            -- it is left of 9 to 14
-            history-left : Each (λ c. numberTried rules14 c ≡ numberTried rules9to14 c)
-            history-left c i l m =
-                number-rest rules12and13 rules14 c
-                (none-applies rules12and13 c numbered12and13 (sym x ∙ judged-told c i l m .0))
-                ∙ others-left c i l m
+    -- refused
+    pub head-refused : h .met ≡ false → (r : Checked) → r .number ≡ 14 → Is14Tried text k t kept r block
+    head-refused f r e c ps vs outputs i p nine passed v =
+        let is = head-shown p c i (entries-were c nine) s nodes kept isEntries isNodes v _ isHead in (
+          e ∙ number-first 14 historyDiffers [] c (fourteen c is ∙ ap not f),
+          λ q. absurd (omega (arith, e, q)),
+        )
 
-            -- refused with 14
-            pub head-refused : h .met ≡ false → (r : Checked) → r .number ≡ 14 → Told r block
-            head-refused f r e c i l m v = (
-              e ∙ number-first 14 historyDiffers [] c (fourteen c (head-told c i l m v) ∙ ap not f)
-                  ∙ history-left c i l m,
-              λ q. absurd (omega (arith, e, q)),
-            )
-
-            -- not refused
-            pub head-passed : h .met ≡ true
-                → Told
-                (record { number = 0; position = judged .position; timestamp = shown .timestamp; root = h .root })
-                block
-            head-passed f c i l m v =
-                let e = head-told c i l m v in (
-                  number-none c ∙ number-next 14 historyDiffers [] c (fourteen c e ∙ ap not f)
-                      ∙ history-left c i l m,
-                  λ _. record {
-                    isFirst = judged-told c i l m .1 x;
-                    timestamp = hs c i m .1 w .0;
-                    root = ap (λ (y : Head). y .root) e;
-                    values = ap (λ (y : Head). y .values) e;
-                  },
-                )
+    -- not refused
+    pub head-passed : h .met ≡ true
+        → Is14Tried text k t kept
+        (record { number = 0; position = t .position; timestamp = t .timestamp; root = h .root }) block
+    head-passed f c ps vs outputs i p nine passed v =
+        let is = head-shown p c i (entries-were c nine) s nodes kept isEntries isNodes v _ isHead in (
+          number-none c ∙ number-next 14 historyDiffers [] c (fourteen c is ∙ ap not f),
+          λ _. record {
+            isFirst = passed .isFirst;
+            timestamp = passed .timestamp;
+            root = ap (λ (y : Head). y .root) is;
+            values = ap (λ (y : Head). y .values) is;
+          },
+        )
 
 -- ---- 6 to 8
 
@@ -217,11 +203,11 @@ module _ {text : Bytes} {k : CallBlock} {identifier label : Bytes} {size : ℕ} 
     module _ (kind : AskedKind) (n : ℕ)
         (h : IsNumber6to8 kind text k identifier (take size label) (take pairs versions′) n)
       where
-        -- what comes of 6 to 14
-        abbrev Whole : Bytes → Checked → Bytes → Type 0
-        Whole kept r block =
-            IsChecked kind text k identifier (take size label) (take pairs positions) (take pairs versions′)
-            outputs kept r block
+        -- what comes of 6 to 13
+        abbrev Whole : Tried → Type 0
+        Whole t =
+            Is6to13Tried kind text k identifier (take size label) (take pairs positions) (take pairs versions′)
+            outputs t
 
         -- the number is that of a call with these parts and this state
         number-told : (c : Call) → c .parts ≡ partsIn text (k .response)
@@ -232,30 +218,23 @@ module _ {text : Bytes} {k : CallBlock} {identifier label : Bytes} {size : ℕ} 
             → n ≡ numberTried rules6to8 c
         number-told c p s q i l m = h c p s q i l (ap versions m ∙ map-versions _ _ (x .pairs .alike))
 
-        -- 6 to 14 are those of the two parts
-        checks-parts : (c : Call) → numberTried (rules6to8 ++ rules9to14) c ≡ numberTried checks c
-        unfolding checks
-        checks-parts c = refl
-
         -- refused with 6 to 8
-        pub first-refused : (n ≡ 0 → ⊥) → (kept : Bytes) (r : Checked) (block : Bytes) → r .number ≡ n
-            → Whole kept r block
-        first-refused z kept r block e c i q d l m v = (
-          e ∙ number-front rules6to8 rules9to14 c n (number-told c (i .parts) (i .size) q d l m) z
-              ∙ checks-parts c,
+        pub first-refused : (n ≡ 0 → ⊥) → (t : Tried) → t .number ≡ n → Whole t
+        first-refused z t e c i q d l m = (
+          e ∙ number-front rules6to8 rules9to13 c n (number-told c (i .parts) (i .size) q d l m) z,
           λ y. absurd (z (sym e ∙ y)),
         )
 
         module _ (w : n ≡ 0) where
-          -- what is left of 6 to 14 are 9 to 14
-          pub first-passed : (kept : Bytes) (r : Checked) (block : Bytes)
-              → Is9to14Checked text k (take size label) (take pairs positions) (take pairs versions′)
-              outputs kept r block → Whole kept r block
-          first-passed kept r block g c i q d l m v =
+          -- what is left of 6 to 13 are 9 to 13
+          pub first-passed : (t : Tried)
+              → Is9to13Tried text k (take size label) (take pairs positions) (take pairs versions′) outputs t
+              → Whole t
+          first-passed t g c i q d l m =
               let told = number-told c (i .parts) (i .size) q d l m in
               let none6to8 = none-applies rules6to8 c numbered6to8 (sym w ∙ told) in
-              let (e, f) = g c i (requested-was c (none6to8 .0) .1 ∙ l) m v in
-              (e ∙ number-rest rules6to8 rules9to14 c none6to8 ∙ checks-parts c, f)
+              let (e, f) = g c i (requested-was c (none6to8 .0) .1 ∙ l) m in
+              (e ∙ number-rest rules6to8 rules9to13 c none6to8, f)
 
           -- a call with these parts and this state
           blank : Call
@@ -300,3 +279,39 @@ module _ {text : Bytes} {k : CallBlock} {identifier label : Bytes} {size : ℕ} 
           first-possible =
               let told = number-told blank refl refl refl refl refl refl in
               possible blank refl refl (none-applies rules6to8 blank numbered6to8 (sym w ∙ told))
+
+    -- ---- 6 to 14
+
+    module _ (kind : AskedKind) (t : Tried)
+        (g : Is6to13Tried kind text k identifier (take size label) (take pairs positions)
+        (take pairs versions′) outputs t)
+      where
+        -- what comes of them
+        abbrev All : Bytes → Checked → Bytes → Type 0
+        All kept r block =
+            IsChecked kind text k identifier (take size label) (take pairs positions) (take pairs versions′)
+            outputs kept r block
+
+        -- they are those of the two parts
+        checks-parts : (c : Call) → numberTried (rules6to13 ++ rules14) c ≡ numberTried checks c
+        unfolding checks
+        checks-parts c = refl
+
+        -- refused with 6 to 13
+        pub lines-refused : (t .number ≡ 0 → ⊥) → (kept : Bytes) (r : Checked) (block : Bytes)
+            → r .number ≡ t .number → All kept r block
+        lines-refused z kept r block e c i q d l m v = (
+          e ∙ number-front rules6to13 rules14 c (t .number) (g c i q d l m .0) z ∙ checks-parts c,
+          λ y. absurd (z (sym e ∙ y)),
+        )
+
+        -- what is left of 6 to 14 is 14
+        pub lines-passed : t .number ≡ 0 → (kept : Bytes) (r : Checked) (block : Bytes)
+            → Is14Tried text k t kept r block → All kept r block
+        lines-passed w kept r block h c i q d l m v =
+            let (e, f) = g c i q d l m in
+            let none = none-applies rules6to13 c numbered6to13 (sym w ∙ e) in
+            let (six, (seven, (eight, (nine, _)))) = none in
+            let p = possible c (i .parts) (i .size) (six, (seven, (eight, tt))) in
+            let (a, b) = h c _ _ outputs i p nine (f w) v in
+            (a ∙ number-rest rules6to13 rules14 c none ∙ checks-parts c, b)

@@ -53,6 +53,7 @@ use Rattle.checks.specs.declared.call.Answer.{Answer}
 use Rattle.checks.specs.declared.readings.Call.{Call as CallBlock}
 use Rattle.checks.specs.declared.readings.ReadCall.{ReadCall}
 use Rattle.checks.specs.declared.readings.ReadCall.the-variants.{Read, Refused}
+use Rattle.checks.specs.declared.trial.Tried.{Tried}
 use Rattle.checks.specs.declared.trial.Checked.{Checked}
 use Rattle.checks.specs.declared.trial.Shape.{Shape}
 use Rattle.checks.specs.declared.trial.Tried9to11.{Tried9to11}
@@ -194,8 +195,11 @@ rules12and13 = rule 12 lookupFails ∷ rule 13 resultsWrong ∷ []
 abbrev pub rules14 : List Rule
 rules14 = rule 14 historyDiffers ∷ []
 
-abbrev pub rules9to14 : List Rule
-rules9to14 = rules9to11 ++ rules12and13 ++ rules14
+abbrev pub rules9to13 : List Rule
+rules9to13 = rules9to11 ++ rules12and13
+
+abbrev pub rules6to13 : List Rule
+rules6to13 = rules6to8 ++ rules9to13
 
 abbrev pub rules16 : List Rule
 rules16 = rule 16 roomMissing ∷ []
@@ -313,6 +317,17 @@ IsJudged text k label outputs offsets j =
     → (j .number ≡ numberTried rules12and13 c)
     × (j .number ≡ 0 → IsFirst (k .response .kind) c (k .response .target .version) (j .position))
 
+-- what comes of a call to which none of 6 to 13 applies
+pub record Passed (c : Call) (k : CallBlock) (t : Tried) : Type 0 where
+  pub isFirst : IsFirst (k .response .kind) c (k .response .target .version) (t .position)
+  pub timestamp : t .timestamp ≡ lastTimestamp c
+
+-- 9 to 13, of a call to which none of 6 to 8 applies
+abbrev pub Is9to13Tried : Bytes → CallBlock → Bytes → List ℕ → List ℕ → Bytes → Tried → Type 0
+Is9to13Tried text k label ps vs outputs t =
+    (c : Call) → IsCall c k text outputs → c .parts .label ≡ label → c .state .monitoringMap ≡ mapOf ps vs
+    → (t .number ≡ numberTried rules9to13 c) × (t .number ≡ 0 → Passed c k t)
+
 -- the block of the values of the full subtrees afterwards
 abbrev pub valuesBlock : Call → Bytes
 valuesBlock c =
@@ -326,13 +341,13 @@ pub record Leaves (c : Call) (k : CallBlock) (r : Checked) (block : Bytes) : Typ
   pub root : r .root ≡ logRoot c
   pub values : block ≡ valuesBlock c
 
--- 9 to 14, of a call to which none of 6 to 8 applies
-abbrev pub Is9to14Checked : Bytes → CallBlock → Bytes → List ℕ → List ℕ → Bytes → Bytes → Checked → Bytes
-    → Type 0
-Is9to14Checked text k label ps vs outputs kept r block =
-    (c : Call) → IsCall c k text outputs → c .parts .label ≡ label → c .state .monitoringMap ≡ mapOf ps vs
+-- 14, of a call to which none of 6 to 13 applies
+abbrev pub Is14Tried : Bytes → CallBlock → Tried → Bytes → Checked → Bytes → Type 0
+Is14Tried text k t kept r block =
+    (c : Call) (ps vs : List ℕ) (outputs : Bytes) → IsCall c k text outputs → Shapeable text k ps vs outputs
+    → notAsAsked c ≡ false → Passed c k t
     → c .state .log .values ≡ runs (ones (k .«kept_size»)) hashLength kept
-    → (r .number ≡ numberTried rules9to14 c) × (r .number ≡ 0 → Leaves c k r block)
+    → (r .number ≡ numberTried rules14 c) × (r .number ≡ 0 → Leaves c k r block)
 
 -- ---- 6 to 14
 
@@ -350,6 +365,14 @@ pub record Checkable (text : Bytes) (k : CallBlock) (identifier′ label′ : By
   pub positionsWithin : pairs′ ≤ length positions
   pub versionsWithin : pairs′ ≤ length versions′
   pub pairs : ArePairs (take pairs′ positions) (take pairs′ versions′)
+
+abbrev pub Is6to13Tried : AskedKind → Bytes → CallBlock → Bytes → Bytes → List ℕ → List ℕ → Bytes → Tried
+    → Type 0
+Is6to13Tried kind text k identifier label ps vs outputs t =
+    (c : Call) → IsCall c k text outputs → c .inputs .kind ≡ askedKind kind
+    → c .inputs .identifier ≡ identifier
+    → c .state .label ≡ label → c .state .monitoringMap ≡ mapOf ps vs
+    → (t .number ≡ numberTried rules6to13 c) × (t .number ≡ 0 → Passed c k t)
 
 abbrev pub IsChecked : AskedKind → Bytes → CallBlock → Bytes → Bytes → List ℕ → List ℕ → Bytes → Bytes
     → Checked → Bytes → Type 0

@@ -13,7 +13,8 @@ use crate::readings::Call;
 use crate::readings::ReadCall;
 use crate::readings::read_call;
 use crate::tree_head::is_tree_head;
-use crate::trial::try_6_to_14;
+use crate::trial::try_6_to_13;
+use crate::trial::try_14;
 use inputs::refusal::Refusal;
 use inputs::state::State;
 use tree::log_head::LogHead;
@@ -118,8 +119,7 @@ fn answered(
         (now (identifier .entry)) (now (outputs .entry)) (now (signed .entry)) (now (output .entry))
         (now (output .exit)) ⌝ }
 {
-    let mut values = [0u8; LogHead::BLOCK];
-    let checked = try_6_to_14(
+    let tried = try_6_to_13(
         asked,
         text,
         call,
@@ -130,9 +130,12 @@ fn answered(
         &state.map.versions,
         state.map.count,
         outputs,
-        &state.log.values,
-        &mut values,
     );
+    if tried.number != 0 {
+        return refused(tried.number, state);
+    }
+    let mut values = [0u8; LogHead::BLOCK];
+    let checked = try_14(text, call, tried, &state.log.values, &mut values);
     if checked.number != 0 {
         return refused(checked.number, state);
     }

@@ -9,7 +9,8 @@ use crate::limits::InputLimit;
 use crate::readings::ReadCall;
 use crate::readings::read_call;
 use crate::tree_head::place_tree_head;
-use crate::trial::try_6_to_14;
+use crate::trial::try_6_to_13;
+use crate::trial::try_14;
 use inputs::state::State;
 use tree::log_head::LogHead;
 
@@ -50,8 +51,7 @@ pub fn signed_text(
         b"",
     ) {
         ReadCall::Read(call) => {
-            let mut values = [0u8; LogHead::BLOCK];
-            let checked = try_6_to_14(
+            let tried = try_6_to_13(
                 numbered(kind),
                 response,
                 call,
@@ -62,9 +62,12 @@ pub fn signed_text(
                 &state.map.versions,
                 state.map.count,
                 outputs,
-                &state.log.values,
-                &mut values,
             );
+            if tried.number != 0 {
+                return tried.number;
+            }
+            let mut values = [0u8; LogHead::BLOCK];
+            let checked = try_14(response, call, tried, &state.log.values, &mut values);
             if checked.number != 0 {
                 return checked.number;
             }

@@ -1,9 +1,10 @@
 // Refusals 6 to 14 in the order of trial (paper 01, Sixteen numbers), on a response that was read.
+// The walk (14) is called by itself, so that nothing of 6 to 13 lies on the stack below it.
 ghost use mathlib.Core.Path.{_≡_};
 ghost use Prim.Native.Nat.{_≤_};
 ghost use lib.ListN.{length, take};
 ghost use Rattle.rules.specs.Limits.{labelLimit};
-ghost use Rattle.checks.specs.Calls.{Checkable, IsChecked, Shapeable, Is9to14Checked};
+ghost use Rattle.checks.specs.Calls.{Checkable, Is6to13Tried, Shapeable, Is9to13Tried, Is14Tried};
 ghost use Rattle.checks.specs.Calls.{Is9to11Tried, IsShape};
 ghost use Rattle.checks.specs.Steps.{recordsCapacity};
 use crate::call::AskedKind;
@@ -20,8 +21,15 @@ use tree::log_head::LogHead;
 use tree::log_head::log_head;
 use tree::log_head::nodes_asked;
 
-// The number of the first refusal that applies, or 0; the position of a search's first complete
-// entry, the time of the last entry, the root of the log.
+// The number of the first refusal from 6 to 13 that applies, or 0; the position of a search's first
+// complete entry, the timestamp of the last entry.
+pub(crate) struct Tried {
+    pub(crate) number: u64,
+    pub(crate) position: u64,
+    pub(crate) timestamp: u64,
+}
+
+// The same of 6 to 14, and the root of the log.
 pub(crate) struct Checked {
     pub(crate) number: u64,
     pub(crate) position: u64,
@@ -44,9 +52,9 @@ struct Tried9to11 {
     timestamp: u64,
 }
 
-// Tries 6 to 14. The label and the pairs of the state are the first bytes and numbers of the arrays
-// lent. The values of the full subtrees go into the block lent.
-pub(crate) fn try_6_to_14<'a>(
+// Tries 6 to 13. The label and the pairs of the state are the first bytes and numbers of the arrays
+// lent.
+pub(crate) fn try_6_to_13<'a>(
     asked: AskedKind,
     text: &[u8],
     call: Call,
@@ -57,15 +65,12 @@ pub(crate) fn try_6_to_14<'a>(
     versions: &'a [u32],
     pairs: usize,
     outputs: &[u8],
-    kept: &'a [u8; LogHead::BLOCK],
-    values: &mut [u8; LogHead::BLOCK],
-) -> Checked
+) -> Tried
     requires { ⌜ Checkable (now text) call (now identifier) (now label) length (now positions)
         (now versions) pairs (now outputs) ⌝ }
-    ensures { λ k. ⌜ IsChecked asked (now (text .entry)) call (now (identifier .entry))
+    ensures { λ t. ⌜ Is6to13Tried asked (now (text .entry)) call (now (identifier .entry))
         (take length (now (label .entry))) (take pairs (now (positions .entry)))
-        (take pairs (now (versions .entry))) (now (outputs .entry)) (now (kept .entry))
-        k (now (values .exit)) ⌝ }
+        (take pairs (now (versions .entry))) (now (outputs .entry)) t ⌝ }
 {
     let number = try_6_to_8(
         asked,
@@ -76,46 +81,30 @@ pub(crate) fn try_6_to_14<'a>(
         &versions[..pairs],
     );
     if number != 0 {
-        return unchecked(number);
+        return refused_lines(number);
     }
-    try_9_to_14(
+    try_9_to_13(
         text,
         call,
         &label[..length],
         &positions[..pairs],
         &versions[..pairs],
         outputs,
-        kept,
-        values,
     )
 }
 
-// Tries 9 to 14 on a call to which none of 6 to 8 applies.
-fn try_9_to_14(
+// Tries 14 on a call to which none of 6 to 13 applies. The values of the full subtrees go into the
+// block lent.
+pub(crate) fn try_14(
     text: &[u8],
     call: Call,
-    label: &[u8],
-    positions: &[u64],
-    versions: &[u32],
-    outputs: &[u8],
+    tried: Tried,
     kept: &[u8; LogHead::BLOCK],
     values: &mut [u8; LogHead::BLOCK],
 ) -> Checked
-    requires possible { ⌜ Shapeable (now text) call (now positions) (now versions) (now outputs) ⌝ }
-    requires label { ⌜ length (now label) ≤ labelLimit ⌝ }
-    ensures { λ k. ⌜ Is9to14Checked (now (text .entry)) call (now (label .entry))
-        (now (positions .entry)) (now (versions .entry)) (now (outputs .entry)) (now (kept .entry))
-        k (now (values .exit)) ⌝ }
+    ensures { λ k. ⌜ Is14Tried (now (text .entry)) call tried (now (kept .entry)) k
+        (now (values .exit)) ⌝ }
 {
-    let mut commitments = [0u32; Commitments::RECORDS];
-    let shown = try_9_to_11(text, call, positions, versions, outputs, &mut commitments);
-    if shown.number != 0 {
-        return unchecked(shown.number);
-    }
-    let judged = try_12_and_13(text, call, label, outputs, &commitments);
-    if judged.number != 0 {
-        return unchecked(judged.number);
-    }
     let head = log_head(
         call.response.entries.part.of(text),
         call.response.nodes.part.of(text),
@@ -124,27 +113,61 @@ fn try_9_to_14(
         kept,
         values,
     );
-    if !head.met {
-        return unchecked(Refusal::FULL_SUBTREE);
-    }
     let root = head.root;
+    if !head.met {
+        return Checked {
+            number: Refusal::FULL_SUBTREE,
+            position: 0,
+            timestamp: 0,
+            root,
+        };
+    }
     Checked {
         number: 0,
-        position: judged.position,
-        timestamp: shown.timestamp,
+        position: tried.position,
+        timestamp: tried.timestamp,
         root,
     }
 }
 
-// A refusal.
-fn unchecked(number: u64) -> Checked
-    ensures { λ k. ⌜ k .number ≡ number ⌝ }
+// Tries 9 to 13 on a call to which none of 6 to 8 applies.
+fn try_9_to_13(
+    text: &[u8],
+    call: Call,
+    label: &[u8],
+    positions: &[u64],
+    versions: &[u32],
+    outputs: &[u8],
+) -> Tried
+    requires possible { ⌜ Shapeable (now text) call (now positions) (now versions) (now outputs) ⌝ }
+    requires label { ⌜ length (now label) ≤ labelLimit ⌝ }
+    ensures { λ t. ⌜ Is9to13Tried (now (text .entry)) call (now (label .entry))
+        (now (positions .entry)) (now (versions .entry)) (now (outputs .entry)) t ⌝ }
 {
-    Checked {
+    let mut commitments = [0u32; Commitments::RECORDS];
+    let shown = try_9_to_11(text, call, positions, versions, outputs, &mut commitments);
+    if shown.number != 0 {
+        return refused_lines(shown.number);
+    }
+    let judged = try_12_and_13(text, call, label, outputs, &commitments);
+    if judged.number != 0 {
+        return refused_lines(judged.number);
+    }
+    Tried {
+        number: 0,
+        position: judged.position,
+        timestamp: shown.timestamp,
+    }
+}
+
+// A refusal.
+fn refused_lines(number: u64) -> Tried
+    ensures { λ t. ⌜ t .number ≡ number ⌝ }
+{
+    Tried {
         number,
         position: 0,
         timestamp: 0,
-        root: [0u8; 32],
     }
 }
 

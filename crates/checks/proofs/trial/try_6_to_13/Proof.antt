@@ -1,12 +1,12 @@
--- `checks::trial::try_6_to_14` meets its contract: 6 to 8 are tried, and 9 to 14 on what they let
+-- `checks::trial::try_6_to_13` meets its contract: 6 to 8 are tried, and 9 to 13 on what they let
 -- pass.
 use mathlib.Core.Path.{sym}
 use native.Mathlib.Omega.{arith}
 use lib.Seq.{length-take-le}
 use Rattle.checks.proofs.Trial6to14Laws.{label-fits, first-refused, first-passed, first-possible}
 use borrow.Author.Needs.{needs}
-use Rattle.checks.proofs.trial.try_6_to_14.Statement.{statement}
-use Rattle.checks.proofs.trial.try_6_to_14.Tie as tie
+use Rattle.checks.proofs.trial.try_6_to_13.Statement.{statement}
+use Rattle.checks.proofs.trial.try_6_to_13.Tie as tie
 
 -- from before 6 to 8, and from past them, back to the start
 abbrev begin : tie.After-shared-slice-known6 → tie.Start
@@ -27,50 +27,50 @@ try-6-to-8-requires c κs =
     let P = begin (c .before .before) .pre in
     (P .offsets .0, (omega (arith, P .identifier), label-fits P))
 
-unchecked-requires : tie.Need-unchecked-requires
-unchecked-requires c κs = search needs
+refused-lines-requires : tie.Need-refused-lines-requires
+refused-lines-requires c κs = search needs
 
 returns : tie.Need-returns
 returns c =
     let T = c .before .before in
-    first-refused (start T .pre) _ _ (T .try-6-to-8 .ensures) (c .before .if1 .taken) _ _ _
-    (c .unchecked .ensures)
+    first-refused (start T .pre) _ _ (T .try-6-to-8 .ensures) (c .before .if1 .taken) _
+    (c .refused-lines .ensures)
 
-slice-aggregate-try-9-to-14 : tie.Need-slice-aggregate-try-9-to-14
-slice-aggregate-try-9-to-14 c = sym (length-take-le _ _ (start (c .before .before) .pre .labelWithin))
+slice-aggregate-try-9-to-13 : tie.Need-slice-aggregate-try-9-to-13
+slice-aggregate-try-9-to-13 c = sym (length-take-le _ _ (start (c .before .before) .pre .labelWithin))
 
-slice-aggregate-try-9-to-14-2 : tie.Need-slice-aggregate-try-9-to-14-2
-slice-aggregate-try-9-to-14-2 c =
+slice-aggregate-try-9-to-13-2 : tie.Need-slice-aggregate-try-9-to-13-2
+slice-aggregate-try-9-to-13-2 c =
     sym (length-take-le _ _ (start (c .before .before .before) .pre .positionsWithin))
 
-slice-aggregate-try-9-to-14-3 : tie.Need-slice-aggregate-try-9-to-14-3
-slice-aggregate-try-9-to-14-3 c =
+slice-aggregate-try-9-to-13-3 : tie.Need-slice-aggregate-try-9-to-13-3
+slice-aggregate-try-9-to-13-3 c =
     sym (length-take-le _ _ (start (c .before .before .before .before) .pre .versionsWithin))
 
-try-9-to-14-requires : tie.Need-try-9-to-14-requires
-try-9-to-14-requires c κs =
-    let T = c .before .before .before .before .before in
+try-9-to-13-requires : tie.Need-try-9-to-13-requires
+try-9-to-13-requires c κs =
+    let T = c .before .before .before .before in
     let P = start T .pre in
-    let z = c .before .before .before .before .if1 .left in
+    let z = c .before .before .before .if1 .left in
     (first-possible P _ _ (T .try-6-to-8 .ensures) z, label-fits P)
 
 returns-2 : tie.Need-returns-2
 returns-2 c =
-    let T = c .before .before .before .before .before .before in
-    let z = c .before .before .before .before .before .if1 .left in
-    first-passed (start T .pre) _ _ (T .try-6-to-8 .ensures) z _ _ _ (c .try-9-to-14 .ensures)
+    let T = c .before .before .before .before .before in
+    let z = c .before .before .before .before .if1 .left in
+    first-passed (start T .pre) _ _ (T .try-6-to-8 .ensures) z _ (c .try-9-to-13 .ensures)
 
-pub try-6-to-14-spec : {M : Type 1} → statement M
-try-6-to-14-spec =
+pub try-6-to-13-spec : {M : Type 1} → statement M
+try-6-to-13-spec =
     tie.close
     (tie.spec
     slice-aggregate-try-6-to-8
     slice-aggregate-try-6-to-8-2
     try-6-to-8-requires
-    unchecked-requires
+    refused-lines-requires
     returns
-    slice-aggregate-try-9-to-14
-    slice-aggregate-try-9-to-14-2
-    slice-aggregate-try-9-to-14-3
-    try-9-to-14-requires
+    slice-aggregate-try-9-to-13
+    slice-aggregate-try-9-to-13-2
+    slice-aggregate-try-9-to-13-3
+    try-9-to-13-requires
     returns-2)
