@@ -39,7 +39,7 @@ entryIn s =
 
 -- ---- the entries that a text shows
 
--- by the letter that it begins with, and no other line among the entries
+-- a line is an entry line by the letter that it begins with, as no lookup line does
 unfoldable pub isEntryLine : Bytes → Bool
 isEntryLine l = eqb (getD l 0 0) entryLetter
 
