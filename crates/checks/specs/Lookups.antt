@@ -31,7 +31,7 @@ use Rattle.checks.specs.Entries.{versionsOf}
 
 -- ---- one lookup
 
--- whether what stands at its offset fits its siblings, given by their digits, and leads to a prefix
+-- whether what stands at its place fits its siblings, given by their digits, and leads to a prefix
 -- root
 unfoldable pub leadsTo : Bytes → Terminal → Bytes → Bytes → Bool
 leadsTo output t root siblings =
@@ -57,7 +57,7 @@ leafReaches output root s =
     (drop afterValues s))
     (λ _. false)
 
--- what stands at its offset, with the commitment of its version
+-- what stands at its place, with the commitment of its version
 unfoldable pub terminalWith : Bytes → Result → Terminal
 terminalWith commitment included = searchedLeaf commitment
 terminalWith commitment absent = emptyPlace

@@ -133,7 +133,7 @@ unfolding mapOf
 map-made [] = refl
 map-made (e ∷ es) = ap (λ (l : List MapEntry). e ∷ l) (map-made es)
 
--- a pair has the position and the version of its offset
+-- a pair has the position and the version of its index
 pub map-at : (ps vs : List ℕ) (i : ℕ) (d : MapEntry) → i < length ps → i < length vs
     → getD (mapOf ps vs) i d ≡ record { position = getD ps i 0; version = getD vs i 0 }
 unfolding mapOf
@@ -142,7 +142,7 @@ map-at (p ∷ ps) [] i d h l = absurd (omega arith)
 map-at (p ∷ ps) (v ∷ vs) zero d h l = refl
 map-at (p ∷ ps) (v ∷ vs) (suc i) d h l = map-at ps vs i d (omega arith) (omega arith)
 
--- the pairs from an offset on are the one there and those after it
+-- the pairs from an index on are the one there and those after it
 pub pairs-from : (ps vs : List ℕ) (i : ℕ) → i < length ps → i < length vs
     → mapOf (drop i ps) (drop i vs) ≡ record { position = getD ps i 0; version = getD vs i 0 } ∷ mapOf (drop (i + 1) ps) (drop (i + 1) vs)
 unfolding mapOf

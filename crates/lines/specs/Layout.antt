@@ -2,8 +2,8 @@
 use Prim.Native.Nat.{ℕ, _+_, _*_}
 use Rattle.hash.specs.Sha256.{digestLength}
 
--- the first field of a line, after its word and a tab: of a `step` line, of an `entry` line, of an
--- `in`, `no` or `nl` line, of a `node` line
+-- the offset of a line's first field, after its word and a tab: of a `step` line, of an `entry`
+-- line, of an `in`, `no` or `nl` line, of a `node` line
 abbrev pub stepFields : ℕ
 stepFields = 5
 

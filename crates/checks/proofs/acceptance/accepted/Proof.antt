@@ -23,7 +23,7 @@ sized P =
       versionsRoom = search needs;
     }
 
--- from past the map back to the offset before it
+-- from past the map back to before it
 abbrev start : tie.After-old → tie.Start
 start P = P .before .before .before .before
 

@@ -36,7 +36,7 @@ enum-known-stop c = search needs
 enum-told : tie.Need-enum-told
 enum-told c = search needs
 
--- from past the match back to the offset where the function begins
+-- from past the match back to where the function begins
 abbrev start : tie.At-match-came → tie.Start
 start P = P .before .before .before .before .before .before .before .before .before .before
 

@@ -26,7 +26,7 @@ abbrev μ-loop : tie.MeasureT-loop
     marks at from timestamps =
     tree-size - from
 
--- from the entry found back to the position wanted, and to the offset where the function begins
+-- from the entry found back to the position wanted, and to where the function begins
 abbrev wanted : tie.After-known-told Inv-loop μ-loop → tie.After-next-asked Inv-loop μ-loop
 wanted P = P .before .before .before .before .before
 

@@ -19,7 +19,7 @@ use Rattle.checks.proofs.entries.monitored_entry.Tie as tie
 abbrev lookups : tie.Start → List Lookup
 lookups S = looseIn (drop (S .args .from) (S .args .entries .now))
 
--- from the largest pair back to the offset where the function begins
+-- from the largest pair back to where the function begins
 abbrev start : tie.After-pair → tie.Start
 start P = P .before .before .before .before .before .before .before
 

@@ -18,7 +18,7 @@ Inv-loop entries sought outputs steps offsets ladder at₀ results₀ at results
 abbrev μ-loop : tie.MeasureT-loop
 μ-loop entries sought outputs steps offsets ladder at₀ results₀ at results = length entries - at
 
--- from the loop back to the offset where the function begins
+-- from the loop back to where the function begins
 abbrev start : tie.At-loop Inv-loop μ-loop → tie.Start Inv-loop μ-loop
 start L = L .before .before .before .before .before .before .before
 

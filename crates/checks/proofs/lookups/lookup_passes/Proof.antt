@@ -11,7 +11,7 @@ use Rattle.checks.proofs.TriedLookupLaws.{passes-monitored}
 use Rattle.checks.proofs.lookups.lookup_passes.Statement.{statement}
 use Rattle.checks.proofs.lookups.lookup_passes.Tie as tie
 
--- from the record that was found back to the offset where the function begins
+-- from the record that was found back to where the function begins
 abbrev start : tie.After-find-output → tie.Start
 start F = F .before .before .before .before .before
 

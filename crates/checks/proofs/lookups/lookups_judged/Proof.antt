@@ -20,7 +20,7 @@ Inv-loop entries from sought outputs steps offsets ladder at₀ summary₀ at su
 abbrev μ-loop : tie.MeasureT-loop
 μ-loop entries from sought outputs steps offsets ladder at₀ summary₀ at summary = length entries - at
 
--- from the loop back to the offset where the function begins
+-- from the loop back to where the function begins
 abbrev start : tie.At-loop Inv-loop μ-loop → tie.Start Inv-loop μ-loop
 start L = L .before .before .before .before .before .before .before
 

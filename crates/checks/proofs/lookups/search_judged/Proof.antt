@@ -7,7 +7,7 @@ use borrow.Author.Needs.{needs}
 use Rattle.checks.proofs.lookups.search_judged.Statement.{statement}
 use Rattle.checks.proofs.lookups.search_judged.Tie as tie
 
--- from the ladder back to the offset where the function begins
+-- from the ladder back to where the function begins
 abbrev start : tie.After-of3 → tie.Start
 start L = L .before .before .before .before .before .before .before .before
 

@@ -16,7 +16,7 @@ use Rattle.checks.proofs.ShapeLaws.{monitoring-not, monitoring-shape}
 use Rattle.checks.proofs.monitoring.monitoring_asked.Statement.{statement}
 use Rattle.checks.proofs.monitoring.monitoring_asked.Tie as tie
 
--- from past the text of the entries back to the offset where the function begins, and from past the
+-- from past the text of the entries back to where the function begins, and from past the
 -- entries to that text
 abbrev start : tie.After-of → tie.Start
 start P = P .before .before .before .before .before .before

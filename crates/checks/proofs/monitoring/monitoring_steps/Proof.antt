@@ -21,7 +21,7 @@ Inv-loop steps versions marks₀ outputs offsets₀ at₀ there₀ marks offsets
 abbrev μ-loop : tie.MeasureT-loop
 μ-loop steps versions marks₀ outputs offsets₀ at₀ there₀ marks offsets at there = length steps - at
 
--- from the loop back to the offset where the function begins
+-- from the loop back to where the function begins
 abbrev start : tie.At-loop Inv-loop μ-loop → tie.Start Inv-loop μ-loop
 start L = L .before .before .before .before .before .before
 

@@ -16,7 +16,7 @@ use borrow.Author.Needs.{needs}
 use Rattle.checks.proofs.readings.read_call.Statement.{statement}
 use Rattle.checks.proofs.readings.read_call.Tie as tie
 
--- from past 1, past 2, past 3 and past 4 back to the offset before them
+-- from past 1, past 2, past 3 and past 4 back to before them
 abbrev start : tie.Else1 → tie.Start
 start L = L .before .before .before .before .before .before .before
 

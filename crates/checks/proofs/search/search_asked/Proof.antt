@@ -10,7 +10,7 @@ use Rattle.checks.proofs.ShapeLaws.{part-short, target-version, no-pair
 use Rattle.checks.proofs.search.search_asked.Statement.{statement}
 use Rattle.checks.proofs.search.search_asked.Tie as tie
 
--- from past the ladder back to the offset where the function begins
+-- from past the ladder back to where the function begins
 abbrev start : tie.After-of → tie.Start
 start P = P .before .before .before .before .before .before
 

@@ -19,7 +19,7 @@ Inv-loop steps wanted version outputs offsets₀ at₀ there₀ i₀ offsets at 
 abbrev μ-loop : tie.MeasureT-loop
 μ-loop steps wanted version outputs offsets₀ at₀ there₀ i₀ offsets at there i = length wanted - i
 
--- from the loop back to the offset where the function begins
+-- from the loop back to where the function begins
 abbrev start : tie.At-loop Inv-loop μ-loop → tie.Start Inv-loop μ-loop
 start L = L .before .before .before .before .before
 

@@ -27,7 +27,7 @@ sized P =
       versionsRoom = search needs;
     }
 
--- from past the reading back to the offset before it
+-- from past the reading back to before it
 abbrev start : tie.After-read-call → tie.Start
 start R = R .before .before .before .before .before .before .before .before
 

@@ -14,7 +14,7 @@ use borrow.Author.Needs.{needs}
 use Rattle.checks.proofs.tree_head.is_tree_head.Statement.{statement}
 use Rattle.checks.proofs.tree_head.is_tree_head.Tie as tie
 
--- from past the configuration back to the offset before it
+-- from past the configuration back to before it
 abbrev start : tie.Else2 → tie.Start
 start E = E .before .before .before .before .before .before
 
