@@ -28,9 +28,9 @@ use Rattle.rules.specs.VrfOutputs.{VrfOutput, record_length, read_record, read_r
 use Rattle.rules.specs.Response.{Step}
 use Rattle.rules.specs.Refusals.{commitment_asked}
 use Rattle.inputs.specs.declared.vrf_outputs.FoundOutput.{FoundOutput}
-use Rattle.inputs.specs.VrfOutputs.{find_output, records_below}
+use Rattle.inputs.specs.VrfOutputs.{records_below, IsRecordOf}
 use Rattle.inputs.specs.Response.{steps_in}
-use Rattle.inputs.proofs.VrfOutputLaws.{found_record, found_is, found_index, fewer_below}
+use Rattle.inputs.proofs.VrfOutputLaws.{found_is, found_index, fewer_below}
 use Rattle.checks.specs.declared.sections.NextStep.TheVariants.{Step as StepAt}
 use Rattle.checks.specs.Sections.{StepLines, CommitmentAt, IsNextStep}
 use Rattle.checks.specs.Steps.{versions_of, records_capacity, CommitmentsBy, IsNoted}
@@ -60,7 +60,7 @@ record_within s xs v h e t =
 
 -- ---- the offset of one commitment
 
-module _ (outputs : Bytes) (v offset : ℕ) (offsets : List ℕ) (r : FoundOutput) (f : r ≡ find_output outputs v) where
+module _ (outputs : Bytes) (v offset : ℕ) (offsets : List ℕ) (r : FoundOutput) (f : IsRecordOf outputs v r) where
   -- where an output is found, the offset at the number of its record becomes the commitment's
   pub noted-found : r.found ≡ true → IsNoted outputs v offset offsets r.found (set offsets r.index offset)
   noted-found t xs e = (sym has, λ _. ap (λ (j : ℕ). set offsets j offset) index, λ z. absurd (false≢true (sym z ∙ t)))
@@ -69,9 +69,7 @@ module _ (outputs : Bytes) (v offset : ℕ) (offsets : List ℕ) (r : FoundOutpu
       has = found_is outputs v r f xs e
 
       index : r.index ≡ records_below xs v
-      index =
-          ap (λ (r : FoundOutput). r.index) (f ∙ found_record outputs v xs e)
-          ∙ found_index xs (records_below xs v) v (has ∙ t)
+      index = ap (λ (r : FoundOutput). r.index) (f xs e) ∙ found_index xs (records_below xs v) v (has ∙ t)
 
   -- where none is, the table stays
   pub noted-missing : r.found ≡ false → IsNoted outputs v offset offsets r.found offsets

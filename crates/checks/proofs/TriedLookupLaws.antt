@@ -31,8 +31,8 @@ use Rattle.rules.proofs.KindLaws.{search-rules, monitoring-rules}
 use Rattle.inputs.specs.declared.response_lines.Kind.{Kind}
 use Rattle.inputs.specs.declared.response_lines.Kind.TheVariants.{Search, Monitor}
 use Rattle.inputs.specs.declared.vrf_outputs.FoundOutput.{FoundOutput}
-use Rattle.inputs.specs.VrfOutputs.{found_output, find_output, records_below}
-use Rattle.inputs.proofs.VrfOutputLaws.{record_of, found_record, found_output_lem, found_index}
+use Rattle.inputs.specs.VrfOutputs.{found_output, record_of, records_below, IsRecordOf}
+use Rattle.inputs.proofs.VrfOutputLaws.{found_output_lem, found_index}
 use Rattle.checks.specs.declared.lookups.Sought.{Sought}
 use Rattle.checks.specs.Sections.{CommitmentAt, read_lookup, OfLookup}
 use Rattle.checks.specs.Steps.{versions_of, CommitmentsBy}
@@ -178,7 +178,7 @@ tried_passes c root l e = sym (choose_false ((kind_rules c).untried l) (λ _. tr
 -- one of which its version, the record found for it, and whether it is included are told
 module _ (line root outputs steps : Bytes) (offsets : List ℕ) (s : Sought) (v : ℕ) (found : FoundOutput)
     (there : Bool)
-    (version_told : OfLookup line (λ (l : Lookup). l.version) v) (output_told : found ≡ find_output outputs v)
+    (version_told : OfLookup line (λ (l : Lookup). l.version) v) (output_told : IsRecordOf outputs v found)
     (there_told : OfLookup line (λ (l : Lookup). is_included l.result) there) where
   -- the record is that of the version
   found-told : (c : Call) (l : Lookup) → TriedWith c s outputs steps offsets → read_lookup line ≡ some l
@@ -190,7 +190,7 @@ module _ (line root outputs steps : Bytes) (offsets : List ℕ) (s : Sought) (v 
       let xs = c.outputs in
       let has = all_at (has_output xs) (step_versions c.parts) u w.there m in
       let is : found ≡ found_output (records_below xs u) (record_of xs u) =
-      output_told ∙ ap (find_output outputs) (version_told l q) ∙ found_record outputs u xs w.outputs in (
+      subst (λ (x : ℕ). IsRecordOf outputs x found) (version_told l q) output_told xs w.outputs in (
         ap (λ (x : FoundOutput). x.output) is ∙ found_output_lem xs (records_below xs u) u has,
         ap (λ (x : FoundOutput). x.index) is ∙ found_index xs (records_below xs u) u has,
       )

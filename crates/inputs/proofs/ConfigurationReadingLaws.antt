@@ -1,21 +1,18 @@
 -- Laws of reading a configuration (crate rules, specs/Configuration.antt): what each step of the
--- reader means at its offset, one law for each way out; and what the answer says
--- (specs/Configuration.antt).
-use mathlib.Core.Path.{◌≡◌, refl, sym, ◌∙◌, ap, ap₂}
-use mathlib.Core.List.{[], ◌++◌}
-use mathlib.Core.Option.{Option, none, some, bind, some-injective, none-ne-some}
+-- reader means at its offset, one law for each way out.
+use mathlib.Core.Path.{◌≡◌, refl, sym, ◌∙◌, ap}
+use mathlib.Core.List.{[]}
+use mathlib.Core.Option.{Option, none, some, bind}
 use Prim.Native.Nat.{ℕ, zero, suc, ◌+◌, ◌-◌, ◌*◌, ◌^◌, ◌≤◌, ◌<◌}
 use native.Mathlib.Nat.{pow-le-pow_right}
 use native.Mathlib.Omega.{arith}
 use lib.Dec.{eqb}
-use lib.ListN.{length, take, drop, get_or, length-append, length-drop}
-use lib.Seq.{length-take-le, drop-drop, take-append_seam, drop-append_seam}
+use lib.ListN.{length, take, drop, get_or, length-drop}
+use lib.Seq.{drop-drop}
 use borrow.Author.Tests.{eq-eqb, ne_eqb}
 use Rattle.lists.specs.Choice.{◌>>◌}
 use Rattle.lists.specs.Lists.{Bytes, same}
-use Rattle.lists.proofs.ChoiceLaws.{bind_some, bind_by, test_some}
 use Rattle.lists.proofs.ListLaws.{equal_same, differ_same}
-use Rattle.tree.proofs.DigitLaws.{by_order}
 use Rattle.lines.specs.declared.part.Part.{Part}
 use Rattle.lines.specs.Readings.{part_of}
 use Rattle.lines.proofs.OffsetLaws.{at_cons, at_end}
@@ -23,16 +20,8 @@ use Rattle.rules.specs.Encoding.{bytes_after, uint, read_uint, read_opaque}
 use Rattle.rules.specs.Configuration.{Configuration, p256_suite, contact_monitoring, read_present, read_optional}
 use Rattle.rules.specs.Configuration.{read_configuration}
 use Rattle.rules.proofs.EncodingLaws.{after_byte, after_none, byte_fits, bytes_front, bytes_short, uint_front}
-use Rattle.rules.proofs.EncodingLaws.{uint_short, bytes_read, opaque_takes}
-use Rattle.inputs.specs.declared.configuration.Lifetime.{Lifetime}
-use Rattle.inputs.specs.declared.configuration.Lifetime.TheVariants.{Limited, Unlimited}
-use Rattle.inputs.specs.declared.configuration.Configuration.{Configuration as ConfigurationParts}
-use Rattle.inputs.specs.declared.configuration.ReadConfiguration.{ReadConfiguration}
-use Rattle.inputs.specs.declared.configuration.ReadConfiguration.TheVariants.{Read, Unread}
-use Rattle.inputs.specs.Numbers.{number_unless}
-use Rattle.inputs.specs.Configuration.{uint8, uint16, uint64, as_lifetime, lifetime_of, key_part}
-use Rattle.inputs.specs.Configuration.{configuration_parts, configuration_read, configuration_number}
-use Rattle.inputs.specs.Configuration.{configuration_in, read_front, read_times}
+use Rattle.rules.proofs.EncodingLaws.{uint_short}
+use Rattle.inputs.specs.Configuration.{uint8, uint16, uint64, read_front, read_times}
 
 -- ---- numbers
 
@@ -83,16 +72,6 @@ module _ (k : ℕ) (s : Bytes) (at : ℕ) where
     opaque-there p a z h =
         let m : p.stop - p.start ≡ n = omega arith in
         rw e (bytes_front n (drop start s) (omega (arith, length-drop start s)) ∙ rw (m, a, z, drop-drop n start s) refl)
-
--- a part within the bytes, after a length at an offset, is the part that its bytes fill as a key
-pub fills_part : (s : Bytes) (at : ℕ) (p : Part) → p.start ≡ at + uint16 → p.start ≤ p.stop → p.stop ≤ length s
-    → p ≡ key_part at (part_of s p)
-unfolding key_part part_of
-fills_part s at p a l h =
-    let n : length (part_of s p) ≡ p.stop - p.start =
-    length-take-le (p.stop - p.start) (drop p.start s) (omega (arith, length-drop p.start s)) in
-    let f : ℕ → ℕ → Part = λ x y. record { start = x; stop = y } in
-    ap₂ f a (omega arith)
 
 -- ---- optional numbers
 
@@ -273,134 +252,3 @@ module _ (s : Bytes) where
           configuration-there m =
               sym (in_groups s)
               ∙ rw (e1, e2, equal_same (drop end s) [] (at_end s end h), eq-eqb suite p256_suite q, eq-eqb mode contact_monitoring m) refl
-
--- ---- what is answered
-
--- a lifetime is what the optional number that it says stands for
-lifetime_said : (l : Lifetime) → as_lifetime (lifetime_of l) ≡ l
-lifetime_said (Limited n) = refl
-lifetime_said Unlimited = refl
-
--- and says the optional number that it stands for
-lifetime_kept : (o : Option ℕ) → lifetime_of (as_lifetime o) ≡ o
-lifetime_kept none = refl
-lifetime_kept (some n) = refl
-
-module _ (s : Bytes) where
-  -- an answer as it is promised, and its number
-  abbrev Answers : ReadConfiguration → Type 0
-  Answers r =
-      (r ≡ configuration_read (read_configuration s)) × (configuration_number r ≡ number_unless 2 (read_configuration s))
-
-  -- where nothing reads, nothing is answered
-  pub answered-none : read_configuration s ≡ none → Answers Unread
-  unfolding configuration_read number_unless
-  answered-none e = rw e (refl, refl)
-
-  -- where what parts say reads, they are answered, if those of the keys stand one after the other
-  pub answered-parts : (p : ConfigurationParts) → read_configuration s ≡ some (configuration_in s p)
-      → p.signature ≡ key_part (uint16 + uint8) (part_of s p.signature)
-      → p.vrf ≡ key_part p.signature.stop (part_of s p.vrf)
-      → Answers (Read p)
-  unfolding configuration_read number_unless configuration_parts configuration_in
-  answered-parts p e a b = rw e (ap Read (rw (← a, ← b, lifetime_said p.lifetime) refl), refl)
-
--- ---- what the answer says
-
--- what follows a number of k bytes at an offset
-uint_rest : (k at : ℕ) (s : Bytes) (p : ℕ × Bytes) → read_uint k (drop at s) ≡ some p → p.1 ≡ drop (at + k) s
-uint_rest k at s p e =
-    by_order (length (drop at s)) k
-    (λ h. absurd (none-ne-some p (sym (uint_short k (drop at s) h) ∙ e)))
-    (λ h. ap (λ (q : ℕ × Bytes). q.1) (some-injective p _ (sym e ∙ uint_front k (drop at s) h))
-    ∙ drop-drop k at s)
-
-module _ (s : Bytes) (at : ℕ) (p : Bytes × Bytes) (e : read_opaque uint16 (drop at s) ≡ some p) where
-  -- a key and the rest follow its length
-  key-follows : drop (at + uint16) s ≡ p.0 ++ p.1
-  unfolding read_opaque
-  key-follows =
-      let (x, q, r) = bind_some (read_uint uint16 (drop at s)) _ p e in
-      sym (uint_rest uint16 at s x q) ∙ (bytes_read x.0 x.1 p.0 p.1 r).0
-
-  -- the key stands in its part
-  part-holds : part_of s (key_part at p.0) ≡ p.0
-  unfolding key_part part_of
-  part-holds =
-      let n : at + uint16 + length p.0 - (at + uint16) ≡ length p.0 = omega arith in
-      rw (n, key-follows) (take-append_seam p.0 p.1)
-
-  -- the rest follows the part
-  part-rest : p.1 ≡ drop (key_part at p.0).stop s
-  unfolding key_part
-  part-rest =
-      sym (sym (drop-drop (length p.0) (at + uint16) s) ∙ ap (drop (length p.0)) key-follows
-      ∙ drop-append_seam p.0 p.1)
-
-  -- and the part lies within the bytes
-  part-within : (key_part at p.0).stop ≤ length s
-  unfolding key_part
-  part-within = omega (
-    arith,
-    opaque_takes uint16 (drop at s) p e,
-    length-drop at s,
-    length-drop (at + uint16) s,
-    ap length key-follows,
-    length-append p.0 p.1,
-  )
-
--- both keys stand in their parts, within the bytes
-front_holds : (s : Bytes) (f : ℕ × ℕ × Bytes × Bytes × Bytes) → read_front s ≡ some f
-    → let signature = key_part (uint16 + uint8) f.2 in
-    let vrf = key_part signature.stop f.3 in
-    (part_of s signature ≡ f.2) × (part_of s vrf ≡ f.3) × (vrf.stop ≤ length s)
-unfolding read_front
-front_holds s f e =
-    bind_by (read_uint uint16 s) _ f e λ x1 e1 r1.
-    bind_by (read_uint uint8 x1.1) _ f r1 λ x2 e2 r2.
-    bind_by (read_opaque uint16 x2.1) _ f r2 λ x3 e3 r3.
-    bind_by (read_opaque uint16 x3.1) _ f r3 λ x4 e4 r4.
-    let k2 = rw (uint_rest uint16 0 s x1 e1) at e2 in
-    let k3 = rw (uint_rest uint8 uint16 s x2 k2) at e3 in
-    let k4 = rw (part-rest s (uint16 + uint8) x3 k3) at e4 in
-    let q = some-injective _ f r4 in
-    let at = (key_part (uint16 + uint8) x3.0).stop in
-    rw (← q) (part-holds s (uint16 + uint8) x3 k3, part-holds s at x4 k4, part-within s at x4 k4)
-
--- what the parts of a configuration that reads say is that configuration, and they lie within the
--- bytes
-pub parts_hold : (s : Bytes) (c : Configuration) → read_configuration s ≡ some c
-    → (configuration_in s (configuration_parts c) ≡ c) × ((configuration_parts c).vrf.stop ≤ length s)
-unfolding taken configuration_in configuration_parts
-parts_hold s c e =
-    bind_by (read_front s) _ c (in_groups s ∙ e) λ f e1 r1.
-    bind_by (read_times f.4) _ c r1 λ t _ r2.
-    let (_, r3) = test_some (same t.4 []) _ c r2 in
-    let (_, r4) = test_some (eqb f.0 p256_suite) _ c r3 in
-    let (_, r5) = test_some (eqb f.1 contact_monitoring) _ c r4 in
-    let q = some-injective _ c r5 in
-    let (signature, vrf, within) = front_holds s f e1 in
-    rw (← q) (rw (signature, vrf, lifetime_kept t.3) refl, within)
-
-module _ (s : Bytes) where
-  -- where nothing is answered, nothing reads
-  pub none_read : Unread ≡ configuration_read (read_configuration s) → read_configuration s ≡ none
-  unfolding configuration_read
-  none_read e = go (read_configuration s) e
-    where
-      go : (o : Option Configuration) → Unread ≡ configuration_read o → o ≡ none
-      go none e = refl
-      go (some c) e = cc
-
-  -- where parts are answered, what they say reads
-  pub parts-read : (p : ConfigurationParts) → Read p ≡ configuration_read (read_configuration s)
-      → read_configuration s ≡ some (configuration_in s p)
-  unfolding configuration_read
-  parts-read p e = go (read_configuration s) refl e
-    where
-      go : (o : Option Configuration) → read_configuration s ≡ o → Read p ≡ configuration_read o
-          → read_configuration s ≡ some (configuration_in s p)
-      go none r e = cc
-      go (some c) r e =
-          let q : p ≡ configuration_parts c = cc in
-          r ∙ ap some (sym (rw q (parts_hold s c r).0))

@@ -3,9 +3,7 @@ pub mod RoomLaws
 pub mod PairLaws
 pub mod StateBlockLaws
 pub mod ConfigurationReadingLaws
-pub mod AnswerLaws
 pub mod ResponseLineLaws
-pub mod ResponsePartLaws
 pub mod StateWriterLaws
 pub mod StateRoundTripLaws
 pub mod FrontLaws
@@ -15,10 +13,5 @@ pub mod StateReaderLaws
 pub mod StateInLaws
 pub mod ResponseLaws
 pub mod ResponseFieldLaws
-pub mod ResponseHeaderLaws
 pub mod ResponseSectionLaws
 pub mod ResponseBodyLaws
-pub mod PlaceLaws
-pub mod ResponsePlaceLaws
-pub mod ResponseAnswerLaws
-pub mod PlaceExamples

@@ -22,31 +22,10 @@ use Rattle.inputs.specs.declared.response.Section.{Section}
 use Rattle.inputs.specs.declared.response.Sort.TheVariants.{Steps, Entries, Nodes, Ends}
 use Rattle.inputs.specs.declared.response_header.Header.{Header}
 use Rattle.inputs.specs.declared.response.Response.{Response}
-use Rattle.inputs.specs.ResponseLines.{decoded}
-use Rattle.inputs.specs.Response.{finding_in, steps_in, entries_in, nodes_in, parts_in, Counted, Ordered, Filled}
+use Rattle.inputs.specs.Response.{steps_in, entries_in, nodes_in, parts_in, Counted, Ordered, Filled}
 use Rattle.inputs.specs.Response.{loose_in}
-use Rattle.inputs.proofs.ResponseSectionLaws.{SectionOf}
-
--- the parts that the lines after a header make with it, if nothing stands after the last newline
-unfoldable pub parts_after : Bytes → Header → Option Parts
-parts_after s h = do
-  same (open_rest (drop h.next s)) []
-  read_body (decoded (part_of s h.identifier)) (decoded (part_of s h.label)) h.tree_size
-      (finding_in s h.kind h.target) (ended_lines (drop h.next s))
-
--- the response that a header and sections are
-abbrev pub with_sections : Header → Section → Section → Section → Response
-with_sections h steps entries nodes =
-    record {
-      kind = h.kind;
-      identifier = h.identifier;
-      label = h.label;
-      tree_size = h.tree_size;
-      target = h.target;
-      steps = steps;
-      entries = entries;
-      nodes = nodes;
-    }
+use Rattle.inputs.specs.ResponseHeader.{parts_after}
+use Rattle.inputs.specs.ResponseSections.{SectionOf}
 
 -- what is no value is none
 none_otherwise : {A : Type 0} (o : Option A) → ((a : A) → o ≡ some a → ⊥) → o ≡ none
@@ -65,8 +44,19 @@ module _
     (c : SectionOf Nodes s entries.part.stop nodes)
     (d : SectionOf Ends s nodes.part.stop ends)
   where
+    -- the response that a header and sections are
     abbrev whole : Response
-    whole = with_sections h steps entries nodes
+    whole =
+        record {
+          kind = h.kind;
+          identifier = h.identifier;
+          label = h.label;
+          tree_size = h.tree_size;
+          target = h.target;
+          steps = steps;
+          entries = entries;
+          nodes = nodes;
+        }
 
     -- the `end` lines
     abbrev ends_in : List (ReadForm end_form)

@@ -1,128 +1,119 @@
--- Laws of the first line of a response and of its target line (specs/ResponseHeader.antt): their
--- fields as parts of the text.
-use mathlib.Core.Path.{◌≡◌, refl, sym, ◌∙◌, ap}
+-- Laws of the fields of the lines before the sections of a response (specs/ResponseHeader.antt):
+-- the parts of a line as parts of the text.
+use mathlib.Core.Path.{◌≡◌, refl, sym, ◌∙◌, ap, ap₂}
+use mathlib.Core.List.{◌++◌}
 use mathlib.Core.Option.{none, some, bind}
 use Prim.Native.Nat.{ℕ, ◌+◌, ◌-◌, ◌<◌}
 use native.Mathlib.Omega.{arith}
-use lib.ListN.{length, take, drop, length-take}
+use lib.ListN.{length, take, drop, length-drop, length-take, take-append-drop}
+use lib.Seq.{take-append-le, drop-append-le, drop-drop}
+use Rattle.lists.specs.Choice.{is_some}
 use Rattle.lists.specs.Lists.{Bytes}
-use Rattle.lines.specs.Line.{newline, read_line}
+use Rattle.lines.specs.Hex.{read_hex}
+use Rattle.lines.specs.Line.{read_line}
 use Rattle.lines.specs.Cursor.{line_at}
 use Rattle.lines.specs.Readings.{part_of}
 use Rattle.lines.specs.declared.part.Part.{Part}
-use Rattle.lines.proofs.SectionLaws.{line_here}
+use Rattle.lines.proofs.SectionLaws.{LineHere, line_here}
 use Rattle.rules.specs.Response.{search}
-use Rattle.rules.specs.ResponseText.{target_form, read_kt}
+use Rattle.rules.specs.ResponseText.{target_form}
 use Rattle.inputs.specs.declared.response_lines.Kind.{Kind}
+use Rattle.inputs.specs.declared.response_lines.Kind.TheVariants.{Search}
 use Rattle.inputs.specs.declared.response_lines.Target.{Target}
 use Rattle.inputs.specs.declared.response_lines.KtLine.{KtLine}
 use Rattle.inputs.specs.declared.response_lines.KtLine.TheVariants.{Read as Kt}
 use Rattle.inputs.specs.declared.response_lines.TargetLine.{TargetLine}
 use Rattle.inputs.specs.declared.response_lines.TargetLine.TheVariants.{Read as Sought}
-use Rattle.inputs.specs.declared.response_header.KtFrom.TheVariants.{Read as Opened, Unread as NoKt}
+use Rattle.inputs.specs.declared.response_header.KtFrom.TheVariants.{Read as Opened}
 use Rattle.inputs.specs.declared.response_header.FindingFrom.TheVariants.{Read as Found}
-use Rattle.inputs.specs.declared.response_header.FindingFrom.TheVariants.{Unread as NoFinding}
-use Rattle.inputs.specs.Places.{piece_from, line_start, field_of, shifted, field_part}
-use Rattle.inputs.specs.ResponseLines.{kt_as, target_as}
-use Rattle.inputs.specs.Response.{target_part}
-use Rattle.inputs.specs.ResponseHeader.{read_from, read_finding, opened_as, found_as}
-use Rattle.inputs.proofs.PlaceLaws.{line_place, line_first, FieldEncodes, target_encodes}
+use Rattle.inputs.specs.ResponseLines.{kt_of, target_of, Decodes, StandsIn, KtStands, TargetStands}
+use Rattle.inputs.specs.Response.{finding_in}
+use Rattle.inputs.specs.ResponseHeader.{read_kt, read_from, read_finding, opened_of, finding_of}
 use Rattle.inputs.proofs.ResponseLaws.{from_some}
-use Rattle.inputs.proofs.ResponsePartLaws.{kind_line_lem, kt-was, target-was}
 
--- ---- fields as parts of the text
+-- a part of a line is a part of the text, moved by the offset where the line begins
+part_moved : (s : Bytes) (at n : ℕ) (p q : Part) → StandsIn (take n (drop at s)) p → q.start ≡ at + p.start → q.stop ≡ at + p.stop
+    → part_of s q ≡ part_of (take n (drop at s)) p
+unfolding part_of
+part_moved s at n p q (f, w, _) a b =
+    let x = drop at s in
+    let l = take n x in
+    let m = p.stop - p.start in
+    let k : q.stop - q.start ≡ m = omega arith in
+    let d : drop q.start s ≡ drop p.start x = ap (λ (i : ℕ). drop i s) a ∙ sym (drop-drop p.start at s) in
+    let i : drop p.start x ≡ drop p.start l ++ drop n x =
+    ap (drop p.start) (sym (take-append-drop n x)) ∙ drop-append-le p.start l (drop n x) (omega arith) in
+    ap₂ take k (d ∙ i) ∙ take-append-le m (drop p.start l) (drop n x) (omega (arith, length-drop p.start l))
 
-module _ (s : Bytes) (i j at stop next : ℕ) (p : at ≡ line_start s i) (e : line_at s at ≡ some (stop, next)) where
-  -- a field of a line is a part of the text, moved by the offset where the line begins
-  field-moved : field_part s i j ≡ shifted at (field_of (take (stop - at) (drop at s)) j)
-  unfolding field_part part_of piece_from
-  field-moved =
-      let l : part_of s (piece_from newline s at) ≡ take (stop - at) (drop at s) =
-      ap (λ (m : ℕ). take (m - at) (drop at s)) (sym (line_place s at stop next e).0) in
-      rw (← p, l) refl
+-- moved so, it encodes what it did
+moved_decodes : (s : Bytes) (at n : ℕ) (p q : Part) → StandsIn (take n (drop at s)) p → q.start ≡ at + p.start → q.stop ≡ at + p.stop → Decodes s q
+moved_decodes s at n p q i a b = ap (λ (t : Bytes). is_some (read_hex t)) (part_moved s at n p q i a b) ∙ i.2
 
-  -- it stands within the text
-  moved-within : (b : Bytes) → FieldEncodes (take (stop - at) (drop at s)) j b
-      → let q = field_of (take (stop - at) (drop at s)) j in (at + q.start < length s) × (at + q.stop < length s)
-  moved-within b f =
-      let n = length-take (stop - at) (drop at s) in
-      let h = line_here s at stop next e in
-      let w = h.within in
-      let d = h.forward in
-      (omega (arith, f.forward, f.within), omega (arith, f.within))
+-- and stands within the text
+moved_within : (s : Bytes) (at stop next : ℕ) (p : Part) → LineHere s at stop next → StandsIn (take (stop - at) (drop at s)) p
+    → (at + p.start < length s) × (at + p.stop < length s)
+moved_within s at stop next p h (f, w, _) =
+    let n = length-take (stop - at) (drop at s) in
+    let a = h.forward in
+    let b = h.within in
+    (omega arith, omega arith)
 
--- where the line begins at the start, it is the same part
-shifted_none : (p : Part) → shifted 0 p ≡ p
-unfolding shifted
-shifted_none p =
-    let a : 0 + p.start ≡ p.start = omega arith in
-    let b : 0 + p.stop ≡ p.stop = omega arith in
-    rw (a, b) refl
-
-field_same : (s : Bytes) (j stop next : ℕ) → line_at s 0 ≡ some (stop, next)
-    → field_part s 0 j ≡ field_of (take (stop - 0) (drop 0 s)) j
-field_same s j stop next e =
-    field-moved s 0 j 0 stop next (line_first s) e ∙ shifted_none (field_of (take (stop - 0) (drop 0 s)) j)
-
--- ---- the first line
-
--- one that is not read
-pub kt_unopened : (s : Bytes) → read_from read_kt s 0 ≡ none → NoKt ≡ opened_as s (read_from read_kt s 0)
-unfolding opened_as
-kt_unopened s e = rw e refl
-
--- one that is, with its fields as parts of the text
-pub kt_opened : (s : Bytes) (stop next : ℕ) (r : KtLine) (kind : Kind) (identifier label : Part)
-    → line_at s 0 ≡ some (stop, next)
-    → r ≡ kt_as (take (stop - 0) (drop 0 s)) (read_kt (take (stop - 0) (drop 0 s))) → r ≡ Kt kind identifier label
-    → Opened kind identifier label next ≡ opened_as s (read_from read_kt s 0)
-unfolding opened_as
-kt_opened s stop next r kind identifier label e q k =
+-- the first line, with its fields as parts of the text
+pub line_opened : (s : Bytes) (stop next : ℕ) (r : KtLine) (kind : Kind) (identifier label : Part) → line_at s 0 ≡ some (stop, next)
+    → kt_of (take (stop - 0) (drop 0 s)) r ≡ read_kt (take (stop - 0) (drop 0 s)) → KtStands (take (stop - 0) (drop 0 s)) r → r ≡ Kt kind identifier label
+    → opened_of s (Opened kind identifier label next) ≡ read_from read_kt s 0
+line_opened s stop next r kind identifier label e q w k =
     let l = take (stop - 0) (drop 0 s) in
-    let (x, o, f, g) = kt-was l (read_kt l) r q kind identifier label k in
-    let i : identifier ≡ field_part s 0 2 = f ∙ sym (field_same s 2 stop next e) in
-    let j : label ≡ field_part s 0 3 = g ∙ sym (field_same s 3 stop next e) in
-    rw (from_some read_kt s 0 stop next _ e o, i, j, kind_line_lem kind) refl
+    let (i, j) = rw k at w in
+    rw (part_moved s 0 (stop - 0) identifier identifier i (omega arith) (omega arith), part_moved s 0 (stop - 0) label label j (omega arith) (omega arith))
+    (sym (from_some read_kt s 0 stop next _ e (sym q ∙ ap (kt_of l) k)))
 
--- ---- the target line
+-- they encode what they do in the line
+pub opened_decodes : (s : Bytes) (stop next : ℕ) (r : KtLine) (kind : Kind) (identifier label : Part) → line_at s 0 ≡ some (stop, next)
+    → KtStands (take (stop - 0) (drop 0 s)) r → r ≡ Kt kind identifier label → Decodes s identifier × Decodes s label
+opened_decodes s stop next r kind identifier label e w k =
+    let n = stop - 0 in
+    let (i, j) = rw k at w in
+    (moved_decodes s 0 n identifier identifier i (omega arith) (omega arith), moved_decodes s 0 n label label j (omega arith) (omega arith))
 
 -- a search whose target line is not read found nothing
-pub target_unfound : (s : Bytes) (at : ℕ) → read_from (read_line target_form) s at ≡ none
-    → NoFinding ≡ found_as s (read_finding search s at)
-unfolding read_finding bind found_as
+pub target_unfound : (s : Bytes) (at : ℕ) → read_from (read_line target_form) s at ≡ none → read_finding search s at ≡ none
+unfolding read_finding bind
 target_unfound s at e = rw e refl
+
+-- a part of a line as a part of the text
+abbrev moved : ℕ → Part → Part
+moved at p = record { start = at + p.start; stop = at + p.stop }
 
 -- the fields of a target line, as parts of the text, stand within it
 pub record TargetWithin (s : Bytes) (at : ℕ) (t : Target) : Type 0 where
   pub opening : (at + t.opening.start < length s) × (at + t.opening.stop < length s)
   pub value : (at + t.value.start < length s) × (at + t.value.stop < length s)
 
--- a target of the line at an offset as one of the text
-abbrev placed : ℕ → Target → Target
-placed at t = record { version = t.version; opening = shifted at t.opening; value = shifted at t.value }
-
 module _
     (s : Bytes) (at stop next : ℕ) (r : TargetLine) (t : Target) (e : line_at s at ≡ some (stop, next))
-    (q : r ≡ target_as (take (stop - at) (drop at s)) (read_line target_form (take (stop - at) (drop at s))))
-    (k : r ≡ Sought t) (i : at ≡ line_start s 2)
+    (w : TargetStands (take (stop - at) (drop at s)) r) (k : r ≡ Sought t)
   where
-    -- so they do where it is read
+    -- so they do where they stand in the line
     pub target-within : TargetWithin s at t
     target-within =
-        let l = take (stop - at) (drop at s) in
-        let (v, (opening, (value, _)), o, p) = target-was l (read_line target_form l) r q t k in
-        let (f, g) = target_encodes l v opening value o in
-        rw p (record {
-          opening = moved-within s 2 2 at stop next i e opening f;
-          value = moved-within s 2 3 at stop next i e value g;
-        })
+        let h = line_here s at stop next e in
+        let (i, j) = rw k at w in
+        record { opening = moved_within s at stop next t.opening h i; value = moved_within s at stop next t.value h j }
 
-    -- they are the places of what a search found
-    pub target_found : Found (placed at t) next ≡ found_as s (read_finding search s at)
-    unfolding found_as read_finding bind target_part
-    target_found =
-        let l = take (stop - at) (drop at s) in
-        let (v, x, o, p) = target-was l (read_line target_form l) r q t k in
-        let f = from_some (read_line target_form) s at stop next _ e o in
-        ap (λ (u : Target). Found (placed at u) next) p
-        ∙ rw (f, field-moved s 2 2 at stop next i e, field-moved s 2 3 at stop next i e) refl
+    -- there they encode what they do in the line
+    pub target-decodes : Decodes s (moved at t.opening) × Decodes s (moved at t.value)
+    target-decodes =
+        let (i, j) = rw k at w in
+        (moved_decodes s at (stop - at) t.opening (moved at t.opening) i refl refl, moved_decodes s at (stop - at) t.value (moved at t.value) j refl refl)
+
+    -- the line is what a search found, with its fields as parts of the text
+    pub target_found : target_of (take (stop - at) (drop at s)) r ≡ read_line target_form (take (stop - at) (drop at s))
+        → finding_of s Search (Found (record { version = t.version; opening = moved at t.opening; value = moved at t.value }) next) ≡ read_finding search s at
+    unfolding finding_in read_finding bind
+    target_found q =
+        let n = stop - at in
+        let l = take n (drop at s) in
+        let (i, j) = rw k at w in
+        let f = from_some (read_line target_form) s at stop next _ e (sym q ∙ ap (target_of l) k) in
+        rw (f, part_moved s at n t.opening (moved at t.opening) i refl refl, part_moved s at n t.value (moved at t.value) j refl refl) refl

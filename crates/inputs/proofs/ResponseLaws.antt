@@ -14,8 +14,8 @@ use Rattle.lines.specs.Cursor.{line_at}
 use Rattle.lines.proofs.SectionLaws.{LineHere, line_here, line_none}
 use Rattle.rules.specs.Response.{Kind, search, monitor, Finding, searched, monitored, Parts}
 use Rattle.rules.specs.ResponseText.{kt_form, head_form, target_form, read_body, read_rest, read_parts}
-use Rattle.rules.specs.ResponseText.{read_response, read_kt}
-use Rattle.inputs.specs.ResponseHeader.{read_from, read_finding}
+use Rattle.rules.specs.ResponseText.{read_response}
+use Rattle.inputs.specs.ResponseHeader.{read_kt, read_from, read_finding}
 
 -- ---- the line at an offset
 

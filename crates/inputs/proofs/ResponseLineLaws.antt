@@ -1,25 +1,40 @@
 -- Lines of a response read field by field: what a reader finds at an offset shows what the rest of
 -- the line's form reads as.
-use mathlib.Core.Path.{◌≡◌, refl, ◌∙◌, ap}
-use mathlib.Core.Bool.{◌||◌}
+use mathlib.Core.Path.{◌≡◌, refl, sym, ◌∙◌, ap}
+use mathlib.Core.Bool.{Bool, true, false, ◌&&◌, ◌||◌}
 use mathlib.Core.List.{List, [], ◌∷◌}
 use mathlib.Core.Option.{Option, none, some, bind, map}
-use Prim.Native.Nat.{ℕ, ◌≤◌}
-use Rattle.lists.specs.Choice.{is_some, or_else}
+use Prim.Native.Nat.{ℕ, ◌-◌, ◌≤◌, ◌<◌}
+use native.Mathlib.Omega.{arith}
+use lib.Dec.{ltb}
+use lib.ListN.{length}
+use Rattle.lists.specs.Choice.{provided, is_some, or_else}
 use Rattle.lists.specs.Lists.{Bytes}
-use Rattle.lists.proofs.ChoiceLaws.{given_or_else, bind_some, given_bind}
+use Rattle.lists.proofs.ChoiceLaws.{none_given, given_or_else, bind_some, given_provided, given_bind}
 use Rattle.lines.specs.Number.{ascii, read_number}
-use Rattle.lines.specs.Field.{Field, number, read_fields}
+use Rattle.lines.specs.Hex.{decoded_length}
+use Rattle.lines.specs.Field.{Field, number, bytes, read_field, read_fields}
 use Rattle.lines.specs.Line.{Read, read_line}
 use Rattle.lines.specs.Cursor.{field_at, fields_from, read_at, word_at}
+use Rattle.lines.specs.Readings.{part_of}
+use Rattle.lines.specs.declared.part.Part.{Part}
 use Rattle.lines.proofs.FormLaws.{word_form, word_on, word-off, line_on, line-off, field-on, field_off}
-use Rattle.lines.proofs.FormLaws.{field-given, with_rest, here-read, read-form, words-over, read-number-on}
+use Rattle.lines.proofs.FormLaws.{field-given, with_rest, here-read, read-form, words-over, read-ended}
+use Rattle.lines.proofs.FormLaws.{read-number-on, bytes_fit, bytes-unfit}
 use Rattle.lines.proofs.NumberLaws.{decimal_read}
 use Rattle.rules.specs.Response.{Kind, search}
 use Rattle.rules.specs.ResponseText.{kind_word, kt_form, read_kind_line}
 use Rattle.rules.specs.ResponseText.{step_form, entry_form, in_form, no_form, nl_form, node_form, read_step}
 use Rattle.rules.specs.ResponseText.{read_entry_line, read_in, read_no, read_nl, read_node}
-use Rattle.inputs.specs.ResponseLines.{number_after}
+use Rattle.inputs.specs.ResponseLines.{number_after, decoded, last_bytes_of, Decodes, StandsIn}
+use Rattle.inputs.specs.declared.response_lines.LastBytes.{LastBytes}
+use Rattle.inputs.specs.declared.response_lines.LastBytes.TheVariants.{Read as Last, Unread as NoLast}
+
+-- ---- forms, parts and kinds
+
+-- the part that a field fills, from its offset and the offset after it
+abbrev field_part : ℕ → ℕ → Part
+field_part at next = record { start = at; stop = next - 1 }
 
 -- the values of a first line, with its kind
 abbrev pub with_kind : Kind → Option (Read (kt_form search)) → Option (Kind × Read (kt_form search))
@@ -57,6 +72,58 @@ module _ (l : Bytes) where
   number_bound w bound v next e =
       let (at, p, q) = bind_some (word_at w l 0) (read_at (read_number bound) l) (v, next) e in
       (decimal_read bound (field_at l at) v (here-read l (read_number bound) at v next q).1).1
+
+  -- ---- byte strings
+
+  module _ (at n next : ℕ) (e : read_at decoded_length l at ≡ some (n, next)) where
+    -- it is encoded by the part that the field fills
+    part-decodes : Decodes l (field_part at next)
+    unfolding part_of is_some
+    part-decodes =
+        let f = (here-read l decoded_length at n next e).0 in
+        let (b, h, _, _) = bytes_fit l (λ _. true) at n next e refl in
+        rw (f.part, h) refl
+
+    -- the field of a byte string stands in the line
+    pub part-stands : (0 < next) × StandsIn l (field_part at next)
+    part-stands =
+        let f = (here-read l decoded_length at n next e).0 in
+        let p = f.begins in
+        let q = f.next_is in
+        let r = f.within in
+        (omega arith, (omega arith, omega arith, part-decodes))
+
+    -- a byte string whose length fits is read of that part
+    pub part-read : (fits : ℕ → Bool) → fits n ≡ true → read_at (read_field (bytes fits)) l at ≡ some (decoded (part_of l (field_part at next)), next)
+    unfolding decoded part_of
+    part-read fits t =
+        let f = (here-read l decoded_length at n next e).0 in
+        let (b, h, q, d) = bytes_fit l fits at n next e t in
+        rw (f.part, h) d
+
+    -- it is all that is left where the line ends after it, and its length fits
+    pub last-field : (fits : ℕ → Bool)
+        → read_fields (bytes fits ∷ []) (fields_from l at) ≡ provided (ltb (length l) next && fits n) (decoded (part_of l (field_part at next)), tt)
+    unfolding provided bind
+    last-field fits = go (ltb (length l) next) refl (fits n) refl
+      where
+        go : (u : Bool) → ltb (length l) next ≡ u → (t : Bool) → fits n ≡ t
+            → read_fields (bytes fits ∷ []) (fields_from l at) ≡ provided (u && t) (decoded (part_of l (field_part at next)), tt)
+        go true p true q = field-on l (bytes fits) [] at _ next (part-read fits q) ∙ rw (read-ended l next, p) refl
+        go true p false q = field_off l (bytes fits) [] at (bytes-unfit l fits at n next e q)
+        go false p true q = field-on l (bytes fits) [] at _ next (part-read fits q) ∙ rw (read-ended l next, p) refl
+        go false p false q = field_off l (bytes fits) [] at (bytes-unfit l fits at n next e q)
+
+  -- ---- the last field
+
+  module _ (fits : ℕ → Bool) (at : ℕ) (r : LastBytes) (e : (fits : ℕ → Bool) → last_bytes_of l fits r ≡ read_fields (bytes fits ∷ []) (fields_from l at)) where
+    -- a last byte string is given if its length fits
+    pub last-given : (n : ℕ) (p : Part) → r ≡ Last n p → is_some (read_fields (bytes fits ∷ []) (fields_from l at)) ≡ fits n
+    last-given n p i = ap is_some (sym (e fits)) ∙ ap (λ (x : LastBytes). is_some (last_bytes_of l fits x)) i ∙ given_provided (fits n) (decoded (part_of l p), tt)
+
+    -- none is given where there is none
+    pub last-missing : r ≡ NoLast → is_some (read_fields (bytes fits ∷ []) (fields_from l at)) ≡ false
+    last-missing i = none_given (read_fields (bytes fits ∷ []) (fields_from l at)) (sym (e fits) ∙ ap (last_bytes_of l fits) i)
 
   -- ---- a first line
 

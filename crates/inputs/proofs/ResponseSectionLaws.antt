@@ -12,7 +12,7 @@ use borrow.Author.Tests.{lt-ltb}
 use Rattle.lists.specs.Choice.{is_some, or_else}
 use Rattle.lists.specs.Lists.{Bytes}
 use Rattle.lists.proofs.ChoiceLaws.{map_some, given_some, given_none}
-use Rattle.lines.specs.Line.{Read as ReadForm, ended_lines, open_rest, read_line, leading}
+use Rattle.lines.specs.Line.{Read as ReadForm, ended_lines, read_line, leading}
 use Rattle.lines.specs.Cursor.{line_at}
 use Rattle.lines.specs.Readings.{part_of}
 use Rattle.lines.proofs.LineLaws.{leading_end, leading-none, leading-some}
@@ -22,15 +22,14 @@ use Rattle.lines.proofs.SectionLaws.{leading-append, leading-snoc}
 use Rattle.rules.specs.Response.{Entry, Lookup}
 use Rattle.rules.specs.ResponseText.{entry_form, Item, entry_item, lookup_item, read_in, read_no, read_nl}
 use Rattle.rules.specs.ResponseText.{read_entry_line, read_item, grouped}
-use Rattle.inputs.specs.declared.response.Section.{Section as SectionBlock}
 use Rattle.inputs.specs.declared.response.Sort.{Sort}
 use Rattle.inputs.specs.declared.response.Sort.TheVariants.{Steps, Entries, Nodes, Ends}
 use Rattle.inputs.specs.declared.response.Role.{Role}
 use Rattle.inputs.specs.declared.response.RoleFrom.{RoleFrom}
 use Rattle.inputs.specs.ResponseHeader.{read_from}
-use Rattle.inputs.specs.Response.{loose_in, AllRead}
+use Rattle.inputs.specs.Response.{loose_in}
 use Rattle.inputs.specs.ResponseSections.{Element, read_element, begins_element, read_role, role_of}
-use Rattle.inputs.specs.ResponseSections.{role_from_of, count_of}
+use Rattle.inputs.specs.ResponseSections.{role_from_of, count_of, SectionOf}
 use Rattle.inputs.proofs.ResponseLaws.{followed_by, from-line, from_some, ReadHere, from-was}
 
 -- ---- one line
@@ -154,17 +153,6 @@ count_none Nodes = refl
 count_none Ends = refl
 
 -- ---- a section, line by line
-
--- the section at an offset has all lines of its sort that lead there
-pub record SectionOf (sort : Sort) (s : Bytes) (from : ℕ) (r : SectionBlock) : Type 0 where
-  pub starts : r.part.start ≡ from
-  pub forward : from ≤ r.part.stop
-  pub within : r.part.stop ≤ length s
-  pub lines : leading (read_element sort) (ended_lines (drop from s))
-      ≡ ((leading (read_element sort) (ended_lines (part_of s r.part))).0, ended_lines (drop r.part.stop s))
-  pub rest : open_rest (drop from s) ≡ open_rest (drop r.part.stop s)
-  pub whole : AllRead (read_element sort) (part_of s r.part)
-  pub counted : r.count ≡ count_of sort (leading (read_element sort) (ended_lines (part_of s r.part))).0
 
 -- the lines from an offset to another all belong to a section, which has so many elements up to
 -- there

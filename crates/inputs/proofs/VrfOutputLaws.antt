@@ -1,20 +1,20 @@
 -- Laws of the VRF outputs: records by their numbers (specs/VrfOutputs.antt), whether versions rise,
 -- and the search for a version by halving.
 use mathlib.Core.Path.{◌≡◌, refl, sym, ◌∙◌, ap, ap₂, subst}
-use mathlib.Core.Logic.{◌⊎◌, inl, inr}
+use mathlib.Core.Logic.{◌⊎◌, inl, inr, ⊎_elim}
 use mathlib.Core.Bool.{Bool, true, false, ◌&&◌, false≢true}
 use mathlib.Core.List.Memᴰ
 use mathlib.Core.List.{List, [], ◌∷◌, map, Memᴰ}
 use mathlib.Core.Option.{Option, Option-elim, none, some}
 use Prim.Native.Nat.{ℕ, zero, suc, ◌+◌, ◌*◌, ◌/◌, ◌%◌, ◌≤◌, ◌<◌}
 use native.Mathlib.Omega.{arith}
-use lib.Dec.{eqb, leb, ltb}
+use lib.Dec.{eqb, ltb}
 use lib.ListN.{length, take, drop, get_or, length-map, length-drop, get_or-map}
 use lib.Seq.{drop-drop, take-take}
-use borrow.Author.Tests.{eq-eqb, ne_eqb, eqb-true, lt-ltb, le-ltb, ltb-true, le-leb, lt-leb}
+use borrow.Author.Tests.{eq-eqb, ne_eqb, eqb-true, lt-ltb, le-ltb, ltb-true}
 use Rattle.lists.specs.Choice.{is_some}
 use Rattle.lists.specs.Lists.{Bytes, select, first, rising, runs}
-use Rattle.lists.proofs.ChoiceLaws.{choose_true, choose_false, given_first, given_provided, provided_some, and_holds}
+use Rattle.lists.proofs.ChoiceLaws.{given_first, given_provided, provided_some, and_holds}
 use Rattle.lists.proofs.ListLaws.{at_member, member_at, first_here, first_later, mapped_at, any_at}
 use Rattle.lists.proofs.ListLaws.{select_here, select_later, select_fewer}
 use Rattle.lists.proofs.RisingLaws.{rising_at, rising_two, short_rises, rising_first, rising_tail}
@@ -25,7 +25,8 @@ use Rattle.rules.specs.VrfOutputs.{VrfOutput, record_length, read_record, read_r
 use Rattle.rules.specs.VrfOutputs.{output_of}
 use Rattle.tree.proofs.DigitLaws.{by_order}
 use Rattle.tree.proofs.RunLaws.{length_runs, mapped-run, drop-take}
-use Rattle.inputs.specs.VrfOutputs.{record_at, found_output, middle, halved, find_output, records_below}
+use Rattle.inputs.specs.VrfOutputs.{record_at, found_output, record_of, records_below, IsRecordOf}
+use Rattle.inputs.specs.VrfOutputs.{IsOfSomeRecord}
 use Rattle.inputs.specs.declared.vrf_outputs.FoundOutput.{FoundOutput}
 
 -- ---- the records
@@ -149,10 +150,6 @@ outputs_read s xs e =
     let (p, q) = provided_some (t && u) (read_records s) xs e in
     ((and_holds t u p).1, q)
 
--- the first record of a version
-unfoldable pub record_of : List VrfOutput → ℕ → Option VrfOutput
-record_of outputs v = first (λ (x : VrfOutput). eqb x.version v) outputs
-
 -- a first record of the version is found
 record_here : (x : VrfOutput) (xs : List VrfOutput) (v : ℕ) → x.version ≡ v → record_of (x ∷ xs) v ≡ some x
 unfolding record_of
@@ -219,7 +216,7 @@ fewer_below xs u v h e =
     select_fewer (smaller u) (smaller v) xs a (λ x t. lt-ltb x.version v (omega (arith, ltb-true x.version u t))) m
     (le-ltb a.version u (omega arith)) (lt-ltb a.version v (omega arith))
 
--- ---- where a record of a version can stand
+-- ---- the search by halving
 
 -- where versions rise, a record before another has a smaller one
 version_rises : (s : Bytes) (i j : ℕ) → rising (versions s) ≡ true → i < j → j < length s / record_length → (record_at s i).version < (record_at s j).version
@@ -236,162 +233,49 @@ version_before s i j r h l = by_order i j (λ p. p) (λ p. absurd (not_after p))
         (λ q. let e : i ≡ j = omega arith in omega (arith, ap (λ (n : ℕ). (record_at s n).version) e))
 
 -- where versions rise, a record of version v has a number from low on and below high
-abbrev Between : Bytes → ℕ → ℕ → ℕ → Type 0
-Between s v low high =
-    rising (versions s) ≡ true → (i : ℕ) → i < length s / record_length → (record_at s i).version ≡ v
-    → (low ≤ i) × (i < high)
+abbrev pub Between : Bytes → ℕ → ℕ → ℕ → Type 0
+Between s v low high = rising (versions s) ≡ true → (i : ℕ) → i < length s / record_length → (record_at s i).version ≡ v → (low ≤ i) × (i < high)
+
+-- at first it may have any number
+pub between_all : (s : Bytes) (v : ℕ) → Between s v 0 (length s / record_length)
+between_all s v r i h e = (omega arith, h)
 
 -- it stands after a record of a smaller version
-between_above : (s : Bytes) (v low high m : ℕ) → m < length s / record_length → (record_at s m).version < v
-    → Between s v low high → Between s v (m + 1) high
+pub between_above : (s : Bytes) (v low high m : ℕ) → m < length s / record_length → (record_at s m).version < v → Between s v low high → Between s v (m + 1) high
 between_above s v low high m h l b r i k e = (omega (arith, version_before s m i r h (omega arith)), (b r i k e).1)
 
 -- and before one of a greater version
-between_below : (s : Bytes) (v low high m : ℕ) → v < (record_at s m).version → Between s v low high → Between s v low m
+pub between_below : (s : Bytes) (v low high m : ℕ) → v < (record_at s m).version → Between s v low high → Between s v low m
 between_below s v low high m l b r i k e = ((b r i k e).0, version_before s i m r k (omega arith))
 
--- ---- the search by halving, step by step
-
-module _ (k : ℕ) (s : Bytes) (v low high : ℕ) where
-  -- among no records there is none
-  halved_none : high ≤ low → halved k s v low high ≡ found_output 0 none
-  unfolding halved
-  halved_none h = go k
-    where
-      go : (k : ℕ) → halved k s v low high ≡ found_output 0 none
-      go zero = refl
-      go (suc k) = choose_true (leb high low) _ _ (le-leb high low h)
-
-  module _ (l : low < high) where
-    -- the record in the middle is the one, where it is of the version
-    halved-found : (record_at s (middle low high)).version ≡ v
-        → halved (suc k) s v low high ≡ found_output (middle low high) (some (record_at s (middle low high)))
-    unfolding halved
-    halved-found e =
-        let u = (record_at s (middle low high)).version in
-        choose_false (leb high low) _ _ (lt-leb high low l) ∙ choose_true (eqb u v) _ _ (eq-eqb u v e)
-
-    -- after a smaller version the search goes on above it
-    halved-above : (record_at s (middle low high)).version < v
-        → halved (suc k) s v low high ≡ halved k s v (middle low high + 1) high
-    unfolding halved
-    halved-above h =
-        let u = (record_at s (middle low high)).version in
-        choose_false (leb high low) _ _ (lt-leb high low l)
-        ∙ choose_false (eqb u v) _ _ (ne_eqb u v (λ e. omega arith))
-        ∙ choose_true (ltb u v) _ _ (lt-ltb u v h)
-
-    -- and before a greater one, below it
-    halved-below : v < (record_at s (middle low high)).version
-        → halved (suc k) s v low high ≡ halved k s v low (middle low high)
-    unfolding halved
-    halved-below h =
-        let u = (record_at s (middle low high)).version in
-        choose_false (leb high low) _ _ (lt-leb high low l)
-        ∙ choose_false (eqb u v) _ _ (ne_eqb u v (λ e. omega arith))
-        ∙ choose_false (ltb u v) _ _ (le-ltb u v (omega arith))
-
--- what is found of a version is found between two numbers, in as many steps as records stand there,
--- or more
-abbrev pub FoundWithin : Bytes → ℕ → ℕ → ℕ → Type 0
-FoundWithin s v low high = (k : ℕ) × (high ≤ low + k) × (find_output s v ≡ halved k s v low high)
-
--- at first among all records
-pub within_all : (s : Bytes) (v : ℕ) → FoundWithin s v 0 (length s / record_length)
-unfolding find_output
-within_all s v = (length s / record_length, omega arith, refl)
-
-module _ (s : Bytes) (v low high : ℕ) where
-  -- among no records none is found
-  pub within_none : FoundWithin s v low high → high ≤ low → found_output 0 none ≡ find_output s v
-  within_none (k, _, q) h = sym (q ∙ halved_none k s v low high h)
-
-  -- the record in the middle is found where it is of the version
-  pub within-found : FoundWithin s v low high → low < high → (record_at s (middle low high)).version ≡ v
-      → found_output (middle low high) (some (record_at s (middle low high))) ≡ find_output s v
-  within-found (zero, h, _) l e = absurd (omega arith)
-  within-found (suc k, _, q) l e = sym (q ∙ halved-found k s v low high l e)
-
-  -- after a smaller version the search goes on above it
-  pub within-above : FoundWithin s v low high → low < high → (record_at s (middle low high)).version < v
-      → FoundWithin s v (middle low high + 1) high
-  within-above (zero, h, _) l e = absurd (omega arith)
-  within-above (suc k, h, q) l e = (k, omega arith, q ∙ halved-above k s v low high l e)
-
-  -- and before a greater one, below it
-  pub within-below : FoundWithin s v low high → low < high → v < (record_at s (middle low high)).version
-      → FoundWithin s v low (middle low high)
-  within-below (zero, h, _) l e = absurd (omega arith)
-  within-below (suc k, h, q) l e = (k, omega arith, q ∙ halved-below k s v low high l e)
-
--- ---- what holds of what is found
-
--- Something that holds of each record of version v, and of none where no number is left for one.
-module _ (s : Bytes) (v : ℕ) (P : FoundOutput → Type 0)
-    (one : (m : ℕ) → m < length s / record_length → (record_at s m).version ≡ v → P (found_output m (some (record_at s m))))
-    (nothing : (low high : ℕ) → high ≤ low → Between s v low high → P (found_output 0 none)) where
-  -- It holds of what is found between two numbers, by induction on the steps: the record in the
-  -- middle is of the version, or a record of the version can only stand above it, or only below it.
-  found_between : (k low high : ℕ) → high ≤ low + k → high ≤ length s / record_length → Between s v low high
-      → P (halved k s v low high)
-  found_between zero low high f h b =
-      rw (halved_none zero s v low high (omega arith)) (nothing low high (omega arith) b)
-  found_between (suc k) low high f h b =
-      by_order low high (λ l. go l (found_between k))
-      (λ l. rw (halved_none (suc k) s v low high l) (nothing low high l b))
-    where
-      go : low < high
-          → ((low high : ℕ) → high ≤ low + k → high ≤ length s / record_length → Between s v low high
-          → P (halved k s v low high))
-          → P (halved (suc k) s v low high)
-      go l on =
-          let m = middle low high in
-          by_order (record_at s m).version v
-          (λ u. rw (halved-above k s v low high l u)
-          (on (m + 1) high (omega arith) h (between_above s v low high m (omega arith) u b)))
-          (λ u. by_order v (record_at s m).version
-          (λ w. rw (halved-below k s v low high l w)
-          (on low m (omega arith) (omega arith) (between_below s v low high m w b)))
-          (λ w. rw (halved-found k s v low high l (omega arith)) (one m (omega arith) (omega arith))))
-
-  -- so it holds of what is found among all records
-  found-by : P (find_output s v)
-  unfolding find_output
-  found-by =
-      let n = length s / record_length in
-      found_between n 0 n (omega arith) (omega arith) (λ r i h e. (omega arith, h))
-
--- of outputs that read, the record of the version is found, with as many before it as are below it
-pub found_record : (s : Bytes) (v : ℕ) (xs : List VrfOutput) → read_outputs s ≡ some xs
-    → find_output s v ≡ found_output (records_below xs v) (record_of xs v)
-unfolding versions found_output
-found_record s v xs e = found-by s v (λ r. r ≡ found_output (records_below xs v) (record_of xs v)) one nothing
+-- a record of the version is what was to be found
+pub found_record : (s : Bytes) (v m : ℕ) (r : FoundOutput) → m < length s / record_length → (record_at s m).version ≡ v → r ≡ found_output m (some (record_at s m))
+    → IsRecordOf s v r × IsOfSomeRecord s v r
+unfolding versions
+found_record s v m r h e q = (λ xs p. q ∙ sym (found xs (outputs_read s xs p)), inr (m, h, e, q))
   where
-    risen : rising (versions s) ≡ true
-    risen = (outputs_read s xs e).0
+    at : get_or (read_records s) m (record_at s m) ≡ record_at s m
+    at = record_at_lem s m (record_at s m) h
 
-    is : read_records s ≡ xs
-    is = (outputs_read s xs e).1
+    found : (xs : List VrfOutput) → (rising (versions s) ≡ true) × (read_records s ≡ xs)
+        → found_output (records_below xs v) (record_of xs v) ≡ found_output m (some (record_at s m))
+    found xs (u, w) = subst (λ (ys : List VrfOutput). found_output (records_below ys v) (record_of ys v) ≡ found_output m (some (record_at s m))) w
+        (ap₂ found_output (records_before (read_records s) m v (record_at s m) u (omega (arith, length_records s)) (ap version_in at ∙ e))
+        (record_found (read_records s) (record_at s m) v u (record_listed s m h) e))
 
-    one : (m : ℕ) → m < length s / record_length → (record_at s m).version ≡ v
-        → found_output m (some (record_at s m)) ≡ found_output (records_below xs v) (record_of xs v)
-    one m h q =
-        let x = record_at s m in
-        let at = record_at_lem s m x h in
-        sym (rw (← is) (ap₂ found_output
-        (records_before (read_records s) m v x risen (omega (arith, length_records s)) (ap version_in at ∙ q))
-        (record_found (read_records s) x v risen (record_listed s m h) q)))
+-- where no number is left, there is no record of the version
+pub found_nothing : (s : Bytes) (v low high : ℕ) (r : FoundOutput) → Between s v low high → high ≤ low → r ≡ found_output 0 none
+    → IsRecordOf s v r × IsOfSomeRecord s v r
+unfolding found_output
+found_nothing s v low high r b l q = (λ xs p. q ∙ sym (ap (found_output (records_below xs v)) (nothing xs (outputs_read s xs p))), inl q)
+  where
+    other : rising (versions s) ≡ true → (x : VrfOutput) → Memᴰ x (read_records s) → x.version ≡ v → ⊥
+    other u x m e = let (i, h, z) = listed_record s x m in omega (arith, b u i h (ap version_in z ∙ e))
 
-    nothing : (low high : ℕ) → high ≤ low → Between s v low high
-        → found_output 0 none ≡ found_output (records_below xs v) (record_of xs v)
-    nothing low high l b =
-        let q : record_of xs v ≡ none = rw (← is) (record_none (read_records s) v other) in
-        sym (ap (found_output (records_below xs v)) q)
-      where
-        other : (x : VrfOutput) → Memᴰ x (read_records s) → x.version ≡ v → ⊥
-        other x m q = let (i, h, z) = listed_record s x m in omega (arith, b risen i h (ap version_in z ∙ q))
+    nothing : (xs : List VrfOutput) → (rising (versions s) ≡ true) × (read_records s ≡ xs) → record_of xs v ≡ none
+    nothing xs (u, w) = ap (λ (ys : List VrfOutput). record_of ys v) (sym w) ∙ record_none (read_records s) v (other u)
 
--- ---- the record that is found
+-- ---- what is found
 
 -- a record is found where the version has an output
 pub found_has : (xs : List VrfOutput) (i v : ℕ) → (found_output i (record_of xs v)).found ≡ has_output xs v
@@ -421,14 +305,11 @@ found_index xs i v h = held (record_of xs v) (found_has xs i v ∙ h)
     held (some x) e = refl
 
 -- of outputs that read, whether one is found tells whether the version has one
-pub found_is : (s : Bytes) (v : ℕ) (r : FoundOutput) → r ≡ find_output s v
-    → (xs : List VrfOutput) → read_outputs s ≡ some xs → has_output xs v ≡ r.found
-found_is s v r f xs e =
-    sym (found_has xs (records_below xs v) v) ∙ ap (λ (x : FoundOutput). x.found) (sym (f ∙ found_record s v xs e))
+pub found_is : (s : Bytes) (v : ℕ) (r : FoundOutput) → IsRecordOf s v r → (xs : List VrfOutput) → read_outputs s ≡ some xs → has_output xs v ≡ r.found
+found_is s v r f xs e = sym (found_has xs (records_below xs v) v) ∙ ap (λ (x : FoundOutput). x.found) (sym (f xs e))
 
 -- of any bytes, the number told is below each number but 0 that the number of records is not above
-pub found_below : (s : Bytes) (v k : ℕ) (r : FoundOutput) → 0 < k → length s / record_length ≤ k → r ≡ find_output s v
-    → r.index < k
+pub found_below : (s : Bytes) (v k : ℕ) (r : FoundOutput) → 0 < k → length s / record_length ≤ k → IsOfSomeRecord s v r → r.index < k
 unfolding found_output
-found_below s v k r p l f =
-    rw f (found-by s v (λ x. x.index < k) (λ m h _. omega arith) (λ _ _ _ _. omega arith))
+found_below s v k r p l h =
+    ⊎_elim (λ e. omega (arith, ap (λ (x : FoundOutput). x.index) e)) (λ (i, b, _, e). omega (arith, ap (λ (x : FoundOutput). x.index) e)) h

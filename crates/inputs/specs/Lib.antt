@@ -1,5 +1,3 @@
-pub mod Numbers
-pub mod Places
 pub mod Configuration
 pub mod VrfOutputs
 pub mod State

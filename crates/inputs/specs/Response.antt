@@ -1,78 +1,19 @@
--- Where the parts of a response stand in its text (paper 01, Response lines), and what the text
--- says there.
-use Rattle.std.specs.Prelude.{◌≡◌, List, [], ◌∷◌, ℕ, ◌+◌, ◌≤◌, length}
+-- How the offsets of a response that was read stand for its parts of the rules.
+use Rattle.std.specs.Prelude.{◌≡◌, List, [], ◌≤◌, length}
 use Rattle.std.proofs.Math.Option.{Option, none, some}
 use Rattle.lists.specs.Lists.{Bytes}
 use Rattle.lines.specs.Line.{ended_lines, open_rest, leading}
 use Rattle.lines.specs.Readings.{part_of}
-use Rattle.rules.specs.Response.{Finding, searched, monitored, Step, Lookup, Entry, Parts, kind_of}
+use Rattle.rules.specs.Response.{Finding, searched, monitored, Step, Lookup, Entry, Parts}
 use Rattle.rules.specs.ResponseText.{read_step, read_node}
 use Rattle.rules.specs.ResponseText.{read_item, grouped}
 use Rattle.inputs.specs.declared.response_lines.Kind.{Kind}
 use Rattle.inputs.specs.declared.response_lines.Kind.TheVariants.{Search, Monitor}
 use Rattle.inputs.specs.declared.response_lines.Target.{Target}
-use Rattle.inputs.specs.Places.{field_part, lines_part}
-use Rattle.inputs.specs.ResponseLines.{decoded, Decodes, kind_line}
+use Rattle.inputs.specs.ResponseLines.{decoded, Decodes}
 use Rattle.inputs.specs.declared.response.Response.{Response}
 use Rattle.inputs.specs.declared.response.ReadResponse.{ReadResponse}
 use Rattle.inputs.specs.declared.response.ReadResponse.TheVariants.{Read, Unread}
-
--- ---- where everything stands, from what was read
-
--- how many lines stand before the steps
-unfoldable pub header_lines : Finding → ℕ
-header_lines (searched t) = 3
-header_lines monitored = 2
-
--- an entry fills its own line, and one for each of its lookups
-unfoldable pub entry_lines : List Entry → ℕ
-entry_lines [] = 0
-entry_lines (e ∷ es) = 1 + length e.lookups + entry_lines es
-
--- monitoring has no target
-abbrev pub no_target : Target
-no_target =
-    record {
-      version = 0;
-      opening = record { start = 0; stop = 0 };
-      value = record { start = 0; stop = 0 };
-    }
-
--- the target of a search is in its third line
-unfoldable pub target_part : Bytes → Finding → Target
-target_part s (searched t) =
-    record { version = t.version; opening = field_part s 2 2; value = field_part s 2 3 }
-target_part s monitored = no_target
-
--- identifier and label are in the first line; the sections follow each other
-unfoldable pub response_of : Bytes → Parts → Response
-response_of s p =
-    let steps = header_lines p.finding in
-    let entries = steps + length p.steps in
-    let nodes = entries + entry_lines p.entries in
-    record {
-      kind = kind_line (kind_of p.finding);
-      identifier = field_part s 0 2;
-      label = field_part s 0 3;
-      tree_size = p.tree_size;
-      target = target_part s p.finding;
-      steps = record { part = lines_part s steps (length p.steps); count = length p.steps };
-      entries =
-          record { part = lines_part s entries (entry_lines p.entries); count = length p.entries };
-      nodes = record { part = lines_part s nodes (length p.nodes); count = length p.nodes };
-    }
-
--- what reading answers, from what was read
-unfoldable pub read_as : Bytes → Option Parts → ReadResponse
-read_as s none = Unread
-read_as s (some p) = Read (response_of s p)
-
--- the number that an answer stands for (paper 01, Sixteen numbers)
-unfoldable pub response_number : ReadResponse → ℕ
-response_number (Read r) = 0
-response_number Unread = 5
-
--- ==== for laws, and for contracts of private functions alone
 
 -- ---- the sections of a response, from the text that they fill
 
@@ -113,6 +54,11 @@ parts_in s r =
       entries = entries_in (part_of s r.entries.part);
       nodes = nodes_in (part_of s r.nodes.part);
     }
+
+-- what was read; bytes that do not read are refused with 5
+abbrev pub parts_of : Bytes → ReadResponse → Option Parts
+parts_of s (Read r) = some (parts_in s r)
+parts_of s Unread = none
 
 -- the counts of the sections are right
 pub record Counted (s : Bytes) (r : Response) : Type 0 where

@@ -1,15 +1,16 @@
 -- What the readers of the lines before a response's sections give back, from what is read: for
 -- contracts of private functions alone.
+use Rattle.std.specs.Prelude.{[], ℕ, ◌-◌, ◌≤◌, length, take, drop}
 use Rattle.std.proofs.Math.Option.{Option, none, some, bind as ◌>>=◌}
-use Rattle.std.specs.Prelude.{ℕ, ◌-◌, take, drop}
-use Rattle.lists.specs.Lists.{Bytes}
-use Rattle.lines.specs.Line.{Read as ReadForm, read_line}
+use Rattle.lists.specs.Choice.{or_else, ◌>>◌}
+use Rattle.lists.specs.Lists.{Bytes, same}
+use Rattle.lines.specs.Line.{Read as ReadForm, ended_lines, open_rest, read_line}
 use Rattle.lines.specs.Cursor.{line_at}
-use Rattle.rules.specs.Response.{Kind as KindOfResponse, search, monitor, Finding, searched, monitored}
-use Rattle.rules.specs.Response.{kind_of}
-use Rattle.rules.specs.ResponseText.{kt_form, head_form, target_form, read_kt}
-use Rattle.inputs.specs.Places.{line_start, field_part}
-use Rattle.inputs.specs.ResponseLines.{kind_line}
+use Rattle.lines.specs.Readings.{part_of}
+use Rattle.rules.specs.Response.{Kind as KindOfResponse, search, monitor, Finding, searched, monitored, Parts}
+use Rattle.rules.specs.ResponseText.{kt_form, head_form, target_form, read_kind_line, read_body}
+use Rattle.inputs.specs.declared.response_lines.Kind.{Kind}
+use Rattle.inputs.specs.ResponseLines.{decoded, Decodes, kind_of}
 use Rattle.inputs.specs.declared.response_header.Header.{Header}
 use Rattle.inputs.specs.declared.response_header.ReadHeader.{ReadHeader}
 use Rattle.inputs.specs.declared.response_header.ReadHeader.TheVariants.{Read as Headed}
@@ -21,9 +22,11 @@ use Rattle.inputs.specs.declared.response_header.HeadFrom.TheVariants.{Read as S
 use Rattle.inputs.specs.declared.response_header.FindingFrom.{FindingFrom}
 use Rattle.inputs.specs.declared.response_header.FindingFrom.TheVariants.{Read as Found}
 use Rattle.inputs.specs.declared.response_header.FindingFrom.TheVariants.{Unread as NoFinding}
-use Rattle.inputs.specs.Response.{header_lines, target_part}
+use Rattle.inputs.specs.Response.{finding_in, TargetDecodes}
 
--- ---- what is read
+-- the kind, the identifier and the label of a first line
+abbrev pub read_kt : Bytes → Option (KindOfResponse × ReadForm (kt_form search))
+read_kt l = or_else (read_kind_line search l) (read_kind_line monitor l)
 
 -- what a reader makes of the line at an offset, and the offset after it
 unfoldable pub read_from : {A : Type 0} → (Bytes → Option A) → Bytes → ℕ → Option (A × ℕ)
@@ -39,43 +42,49 @@ read_finding search s at = do
   some (searched (record { version = t; opening = opening; value = value }), next)
 read_finding monitor s at = some (monitored, at)
 
--- n and what was found, if the lines before the sections read, each where the one before it ends
-unfoldable pub read_header : Bytes → Option (ℕ × Finding)
-read_header s = do
-  ((kind, _), second) ← read_from read_kt s 0
-  ((n, _), third) ← read_from (read_line head_form) s second
-  (finding, _) ← read_finding kind s third
-  some (n, finding)
+-- the first line that was read, if it could be
+abbrev pub opened_of : Bytes → KtFrom → Option ((KindOfResponse × ReadForm (kt_form search)) × ℕ)
+opened_of s (Opened kind identifier label next) =
+    some ((kind_of kind, (decoded (part_of s identifier), (decoded (part_of s label), tt))), next)
+opened_of s NoKt = none
 
--- ---- what a reader answers, from what is read: fields by the parts that they fill
-
--- a first line, and the offset after it
-unfoldable pub opened_as : Bytes → Option ((KindOfResponse × ReadForm (kt_form search)) × ℕ) → KtFrom
-opened_as s none = NoKt
-opened_as s (some ((kind, _), next)) = Opened (kind_line kind) (field_part s 0 2) (field_part s 0 3) next
-
--- n, from the answer
+-- the same of the `head` line
 abbrev pub size_of : HeadFrom → Option (ReadForm head_form × ℕ)
 size_of (Sized size next) = some ((size, tt), next)
 size_of NoHead = none
 
--- what was found, after the `head` line
-unfoldable pub found_as : Bytes → Option (Finding × ℕ) → FindingFrom
-found_as s none = NoFinding
-found_as s (some (finding, next)) = Found (target_part s finding) next
+-- and of what was found
+abbrev pub finding_of : Bytes → Kind → FindingFrom → Option (Finding × ℕ)
+finding_of s kind (Found target next) = some (finding_in s kind target, next)
+finding_of s kind NoFinding = none
 
--- all these lines; the sections begin after them
-abbrev pub header_of : Bytes → ℕ → Finding → Header
-header_of s n finding =
-    record {
-      kind = kind_line (kind_of finding);
-      identifier = field_part s 0 2;
-      label = field_part s 0 3;
-      tree_size = n;
-      target = target_part s finding;
-      next = line_start s (header_lines finding);
-    }
+-- the parts that the lines after a header make with it, if nothing stands after the last newline
+unfoldable pub parts_after : Bytes → Header → Option Parts
+parts_after s h = do
+  same (open_rest (drop h.next s)) []
+  read_body (decoded (part_of s h.identifier)) (decoded (part_of s h.label)) h.tree_size
+      (finding_in s h.kind h.target) (ended_lines (drop h.next s))
 
-unfoldable pub header_as : Bytes → Option (ℕ × Finding) → ReadHeader
-header_as s none = NoHeader
-header_as s (some (n, finding)) = Headed (header_of s n finding)
+-- the response that begins with what was read, if it could be
+abbrev pub headed_of : Bytes → ReadHeader → Option Parts
+headed_of s (Headed h) = parts_after s h
+headed_of s NoHeader = none
+
+-- the fields of a first line encode byte strings
+abbrev pub OpenedDecodes : Bytes → KtFrom → Type 0
+OpenedDecodes s (Opened kind identifier label next) = Decodes s identifier × Decodes s label
+OpenedDecodes s NoKt = Unit {0}
+
+-- so do those of a target line
+abbrev pub FoundDecodes : Bytes → Kind → FindingFrom → Type 0
+FoundDecodes s kind (Found target next) = TargetDecodes s kind target
+FoundDecodes s kind NoFinding = Unit {0}
+
+-- and those of a header
+abbrev pub HeaderDecodes : Bytes → Header → Type 0
+HeaderDecodes s h = Decodes s h.identifier × Decodes s h.label × TargetDecodes s h.kind h.target
+
+-- the sections begin within the text
+abbrev pub HeaderStands : Bytes → ReadHeader → Type 0
+HeaderStands s (Headed h) = (h.next ≤ length s) × HeaderDecodes s h
+HeaderStands s NoHeader = Unit {0}

@@ -1,18 +1,17 @@
--- What the readers of single lines of a response give back, from what is read.
-use Rattle.std.specs.Prelude.{◌≡◌, true, [], ◌∷◌, ℕ, length}
+-- What the readers of single lines of a response give back, from what is read. All but `encoded`
+-- and `Spells` is for contracts of private functions alone.
+use Rattle.std.specs.Prelude.{◌≡◌, Bool, true, [], ◌∷◌, ℕ, ◌≤◌, length}
 use Rattle.std.proofs.Math.Option.{Option, none, some, get_or, bind}
-use Rattle.lists.specs.Choice.{is_some}
+use Rattle.lists.specs.Choice.{provided, is_some}
 use Rattle.lists.specs.Lists.{Bytes}
 use Rattle.lines.specs.Number.{read_number}
 use Rattle.lines.specs.Hex.{read_hex}
-use Rattle.lines.specs.Field.{Field, bytes}
-use Rattle.lines.specs.Line.{tab, Form, Read}
+use Rattle.lines.specs.Line.{Form, Read}
 use Rattle.lines.specs.Cursor.{read_at, word_at}
 use Rattle.lines.specs.Readings.{part_of}
 use Rattle.lines.specs.declared.part.Part.{Part}
 use Rattle.rules.specs.Response.{Kind, search, monitor}
 use Rattle.rules.specs.ResponseText.{version_field, siblings_field, kt_form, head_form, target_form}
-use Rattle.inputs.specs.Places.{piece_from, after_pieces, field_of}
 use Rattle.inputs.specs.declared.response_lines.Kind.{Kind as KindOfLine}
 use Rattle.inputs.specs.declared.response_lines.Kind.TheVariants.{Search, Monitor}
 use Rattle.inputs.specs.declared.response_lines.KtLine.{KtLine}
@@ -30,30 +29,6 @@ use Rattle.inputs.specs.declared.response_lines.LastBytes.TheVariants.{Read as L
 use Rattle.inputs.specs.declared.response_lines.LastParts.{LastParts}
 use Rattle.inputs.specs.declared.response_lines.LastParts.TheVariants.{Read as Both, Unread as NoBoth}
 
--- the kind of a response, as its first line says it
-unfoldable pub kind_line : Kind → KindOfLine
-kind_line search = Search
-kind_line monitor = Monitor
-
--- ---- what a reader answers, from what is read: fields by the parts that they fill
-
--- the kind, the identifier and the label
-unfoldable pub kt_as : Bytes → Option (Kind × Read (kt_form search)) → KtLine
-kt_as l none = NoKt
-kt_as l (some (kind, _)) = Kt (kind_line kind) (field_of l 2) (field_of l 3)
-
--- n, from the answer
-abbrev pub head_of : HeadLine → Option (Read head_form)
-head_of (Head n) = some (n, tt)
-head_of NoHead = none
-
--- the version, the opening and the value
-unfoldable pub target_as : Bytes → Option (Read target_form) → TargetLine
-target_as l none = NoTarget
-target_as l (some (t, _)) = Sought (record { version = t; opening = field_of l 2; value = field_of l 3 })
-
--- ==== for laws, and for contracts of private functions alone
-
 -- the byte string that a field encodes
 unfoldable pub decoded : Bytes → Bytes
 decoded f = get_or (read_hex f) []
@@ -62,34 +37,72 @@ decoded f = get_or (read_hex f) []
 abbrev pub Decodes : Bytes → Part → Type 0
 Decodes s p = is_some (read_hex (part_of s p)) ≡ true
 
--- the kind that a first line says
-abbrev pub kind_of : KindOfLine → Kind
-kind_of Search = search
-kind_of Monitor = monitor
-
 -- the form of a lookup that shows no other leaf, by its word
 abbrev pub lookup_form : Bytes → Form
 lookup_form word = record { words = word ∷ []; fields = version_field ∷ siblings_field ∷ [] }
-
--- a byte string of any length
-abbrev pub any_bytes : Field
-any_bytes = bytes (λ (n : ℕ). true)
 
 -- the number that follows the word with which a line begins, and the offset after it
 abbrev pub number_after : Bytes → ℕ → Bytes → Option (ℕ × ℕ)
 number_after word bound l = bind (word_at word l 0) (read_at (read_number bound) l)
 
--- a byte string at an offset, and the offset after it
-unfoldable pub next_part_as : Bytes → ℕ → Option (Bytes × ℕ) → NextPart
-next_part_as l at none = NoPart
-next_part_as l at (some (b, next)) = Fitting (piece_from tab l at) (record { at = next })
+-- the kind that is read
+abbrev pub kind_of : KindOfLine → Kind
+kind_of Search = search
+kind_of Monitor = monitor
 
--- a last byte string
-unfoldable pub last_bytes_as : Bytes → ℕ → Option (Bytes × Unit {0}) → LastBytes
-last_bytes_as l at none = NoLast
-last_bytes_as l at (some (b, _)) = Last (length b) (piece_from tab l at)
+-- the kind, the identifier and the label
+abbrev pub kt_of : Bytes → KtLine → Option (Kind × Read (kt_form search))
+kt_of l (Kt kind identifier label) =
+    some (kind_of kind, (decoded (part_of l identifier), (decoded (part_of l label), tt)))
+kt_of l NoKt = none
+
+-- n
+abbrev pub head_of : HeadLine → Option (Read head_form)
+head_of (Head n) = some (n, tt)
+head_of NoHead = none
+
+-- the version, the opening and the value
+abbrev pub target_of : Bytes → TargetLine → Option (Read target_form)
+target_of l (Sought t) =
+    some (t.version, (decoded (part_of l t.opening), (decoded (part_of l t.value), tt)))
+target_of l NoTarget = none
+
+-- a byte string, and the offset after it
+abbrev pub next_part_of : Bytes → NextPart → Option (Bytes × ℕ)
+next_part_of l (Fitting part next) = some (decoded (part_of l part), next.at)
+next_part_of l NoPart = none
+
+-- a last byte string, if its length fits
+abbrev pub last_bytes_of : Bytes → (ℕ → Bool) → LastBytes → Option (Bytes × Unit {0})
+last_bytes_of l fits (Last length part) = provided (fits length) (decoded (part_of l part), tt)
+last_bytes_of l fits NoLast = none
 
 -- two last byte strings
-unfoldable pub last_parts_as : Bytes → ℕ → Option (Bytes × (Bytes × Unit {0})) → LastParts
-last_parts_as l at none = NoBoth
-last_parts_as l at (some _) = Both (piece_from tab l at) (piece_from tab l (after_pieces tab l at 1))
+abbrev pub last_parts_of : Bytes → LastParts → Option (Bytes × (Bytes × Unit {0}))
+last_parts_of l (Both first second) = some (decoded (part_of l first), (decoded (part_of l second), tt))
+last_parts_of l NoBoth = none
+
+-- a part stands in a text, and encodes a byte string
+abbrev pub StandsIn : Bytes → Part → Type 0
+StandsIn l p = (p.start ≤ p.stop) × (p.stop ≤ length l) × Decodes l p
+
+-- so do the parts that a reader gives back
+abbrev pub KtStands : Bytes → KtLine → Type 0
+KtStands l (Kt kind identifier label) = StandsIn l identifier × StandsIn l label
+KtStands l NoKt = Unit {0}
+
+abbrev pub TargetStands : Bytes → TargetLine → Type 0
+TargetStands l (Sought t) = StandsIn l t.opening × StandsIn l t.value
+TargetStands l NoTarget = Unit {0}
+
+abbrev pub NextPartStands : Bytes → NextPart → Type 0
+NextPartStands l (Fitting part next) = StandsIn l part
+NextPartStands l NoPart = Unit {0}
+
+abbrev pub LastBytesStand : Bytes → LastBytes → Type 0
+LastBytesStand l (Last length part) = StandsIn l part
+LastBytesStand l NoLast = Unit {0}
+
+abbrev pub LastPartsStand : Bytes → LastParts → Type 0
+LastPartsStand l (Both first second) = StandsIn l first × StandsIn l second
+LastPartsStand l NoBoth = Unit {0}

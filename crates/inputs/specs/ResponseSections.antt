@@ -1,9 +1,10 @@
 -- What the readers of a response's sections give back, from what is read: for contracts of private
 -- functions alone.
-use Rattle.std.specs.Prelude.{Bool, true, false, List, ℕ, length, drop}
+use Rattle.std.specs.Prelude.{◌≡◌, Bool, true, false, List, ℕ, ◌≤◌, length, drop}
 use Rattle.std.proofs.Math.Option.{Option, none, some, map}
 use Rattle.lists.specs.Lists.{Bytes}
-use Rattle.lines.specs.Line.{newline, Read as ReadForm, ended_lines, read_line, leading}
+use Rattle.lines.specs.Line.{Read as ReadForm, ended_lines, open_rest, read_line, leading}
+use Rattle.lines.specs.Readings.{part_of}
 use Rattle.rules.specs.Response.{Step}
 use Rattle.rules.specs.ResponseText.{end_form, read_step, read_node}
 use Rattle.rules.specs.ResponseText.{Item, entry_item, lookup_item, read_item, grouped}
@@ -13,7 +14,7 @@ use Rattle.inputs.specs.declared.response.Sort.TheVariants.{Steps, Entries, Node
 use Rattle.inputs.specs.declared.response.Role.{Role}
 use Rattle.inputs.specs.declared.response.Role.TheVariants.{Begins, Continues, Outside}
 use Rattle.inputs.specs.declared.response.RoleFrom.{RoleFrom}
-use Rattle.inputs.specs.Places.{after_pieces}
+use Rattle.inputs.specs.Response.{AllRead}
 
 -- what its lines read as
 abbrev pub Element : Sort → Type 0
@@ -58,11 +59,13 @@ count_of Entries xs = length (grouped xs).1
 count_of Nodes xs = length xs
 count_of Ends xs = length xs
 
--- the section at an offset: all lines of its sort that lead there
-unfoldable pub section_from : Sort → Bytes → ℕ → Section
-section_from sort s from =
-    let found = (leading (read_element sort) (ended_lines (drop from s))).0 in
-    record {
-      part = record { start = from; stop = after_pieces newline s from (length found) };
-      count = count_of sort found;
-    }
+-- the section at an offset has all lines of its sort that lead there
+pub record SectionOf (sort : Sort) (s : Bytes) (from : ℕ) (r : Section) : Type 0 where
+  pub starts : r.part.start ≡ from
+  pub forward : from ≤ r.part.stop
+  pub within : r.part.stop ≤ length s
+  pub lines : leading (read_element sort) (ended_lines (drop from s))
+      ≡ ((leading (read_element sort) (ended_lines (part_of s r.part))).0, ended_lines (drop r.part.stop s))
+  pub rest : open_rest (drop from s) ≡ open_rest (drop r.part.stop s)
+  pub whole : AllRead (read_element sort) (part_of s r.part)
+  pub counted : r.count ≡ count_of sort (leading (read_element sort) (ended_lines (part_of s r.part))).0

@@ -1,8 +1,8 @@
 -- How the struct of a state stands for a state of the rules (paper 01, What a call is given): what
 -- fills it, and zeros in its unused room.
-use Rattle.std.specs.Prelude.{Bool, ◌&&◌, ◌||◌, ℕ, ◌+◌, ◌*◌, eqb, leb, ltb, length, take, drop}
+use Rattle.std.specs.Prelude.{Bool, ◌&&◌, ◌||◌, ℕ, ◌*◌, eqb, leb, ltb, length, take, drop}
 use mathlib.Core.List.{List, [], ◌∷◌, flatten}
-use Rattle.std.proofs.Math.Option.{Option, none, some}
+use Rattle.std.proofs.Math.Option.{Option}
 use Rattle.std.specs.Int.Count.{ones}
 use Rattle.lists.specs.Choice.{provided}
 use Rattle.lists.specs.Lists.{Bytes, all, every, runs}
@@ -10,7 +10,7 @@ use Rattle.hash.specs.Bytes.{padded}
 use Rattle.tree.specs.LogWalk.{rising_below}
 use Rattle.rules.specs.Limits.{label_limit, tree_size_limit, greatest_version, map_limit, hash_length}
 use Rattle.rules.specs.Limits.{values_block_length}
-use Rattle.rules.specs.State.{MapEntry, KeptLog, State, positions, versions, empty_state, NumberedState}
+use Rattle.rules.specs.State.{MapEntry, KeptLog, State, positions, versions, NumberedState}
 use Rattle.inputs.specs.declared.state.Label.{Label as LabelBlock}
 use Rattle.inputs.specs.declared.state.KeptLog.{KeptLog as KeptLogBlock}
 use Rattle.inputs.specs.declared.state.MonitoringMap.{MonitoringMap as MonitoringMapBlock}
@@ -44,21 +44,6 @@ block_of s =
 
 unfoldable pub numbered_block : NumberedState → NumberedBlock
 numbered_block n = record { number = n.number; state = block_of n.state }
-
--- a struct that stands for no state: that of the empty label, but for the label's length, which is
--- one above its limit
-unfoldable pub no_state : StateBlock
-no_state =
-    record {
-      label = record { bytes = padded label_limit []; length = label_limit + 1 };
-      log = log_block (empty_state []).log;
-      map = map_block [];
-    }
-
--- the struct of a state, if there is one
-unfoldable pub block_for : Option State → StateBlock
-block_for none = no_state
-block_for (some s) = block_of s
 
 -- ---- the state of a struct
 

@@ -1,11 +1,9 @@
 // The Configuration of a log (001, 10.2), which paper 01 calls the settings.
-ghost use Rattle.std.specs.Prelude.{◌≡◌, ◌+◌, ◌≤◌, ◌<◌, length, drop};
+ghost use Rattle.std.specs.Prelude.{◌≡◌, ◌≤◌, ◌<◌, length, drop};
 ghost use Rattle.rules.specs.Encoding.{uint, read_uint, read_opaque};
 ghost use Rattle.rules.specs.Configuration.{read_optional, read_configuration};
-ghost use Rattle.inputs.specs.Numbers.{number_unless};
-ghost use Rattle.inputs.specs.Configuration.{uint16, uint64, configuration_read, configuration_number};
-ghost use Rattle.inputs.specs.Configuration.{uint_in, UintEnds, opaque_in, FillsKeyPart, optional_in};
-ghost use Rattle.inputs.specs.Configuration.{read_front, front_in, FillKeyParts, read_times, times_in};
+ghost use Rattle.inputs.specs.Configuration.{uint16, uint64, uint_in, after_uint, opaque_in, optional_in};
+ghost use Rattle.inputs.specs.Configuration.{read_front, front_in, read_times, times_in, configuration_of};
 
 use lines::part::Part;
 
@@ -103,8 +101,7 @@ enum Times {
 
 // The configuration that bytes encode exactly, of the one suite and mode that are taken.
 pub fn read_configuration(s: &[u8]) -> ReadConfiguration
-    ensures value { result ≡ configuration_read (read_configuration s.now) }
-    ensures number { configuration_number result ≡ number_unless 2 (read_configuration s.now) }
+    ensures { configuration_of s.now result ≡ read_configuration s.now }
 {
     let Front::Fields {
         suite,
@@ -149,8 +146,7 @@ pub fn read_configuration(s: &[u8]) -> ReadConfiguration
 
 // Suite, mode, signature key and VRF key, which stand first.
 fn front_of(s: &[u8]) -> Front
-    ensures result_value { front_in s.now result ≡ read_front s.now }
-    ensures keys { FillKeyParts s.now result }
+    ensures { front_in s.now result ≡ read_front s.now }
 {
     let Uint::Value {
         value: suite,
@@ -254,8 +250,7 @@ fn optional_at(s: &[u8], at: usize) -> Optional
 
 // The byte string at an offset, after its length of two bytes.
 fn opaque_at(s: &[u8], at: usize) -> Opaque
-    ensures result_value { opaque_in s.now result ≡ read_opaque uint16 (drop at s.now) }
-    ensures part { FillsKeyPart s.now at result }
+    ensures { opaque_in s.now result ≡ read_opaque uint16 (drop at s.now) }
 {
     let Uint::Value {
         value: length,
@@ -278,7 +273,7 @@ fn opaque_at(s: &[u8], at: usize) -> Opaque
 fn uint_at(s: &[u8], at: usize, width: usize) -> Uint
     requires { (0 < width) × (width ≤ uint64) }
     ensures result_value { uint_in s.now result ≡ read_uint width (drop at s.now) }
-    ensures end { UintEnds s.now (at + width) result }
+    ensures within { after_uint result ≤ length s.now }
 {
     if s.len() < at {
         return Uint::Unread;

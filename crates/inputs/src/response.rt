@@ -2,10 +2,9 @@
 // many lines the sections have.
 ghost use Rattle.std.specs.Prelude.{◌≡◌, ◌≤◌, ltb, length, drop};
 ghost use Rattle.rules.specs.ResponseText.{read_response};
-ghost use Rattle.inputs.specs.Numbers.{number_unless};
-ghost use Rattle.inputs.specs.ResponseHeader.{read_from, read_header, header_as};
-ghost use Rattle.inputs.specs.Response.{read_as, response_number, loose_in};
-ghost use Rattle.inputs.specs.ResponseSections.{read_role, role_of, role_from_of, section_from};
+ghost use Rattle.inputs.specs.ResponseHeader.{read_from, parts_after, HeaderDecodes};
+ghost use Rattle.inputs.specs.Response.{parts_of, Offsets, loose_in};
+ghost use Rattle.inputs.specs.ResponseSections.{read_role, role_of, role_from_of, SectionOf};
 
 use crate::response_header::{Header, ReadHeader, read_header};
 use crate::response_lines::{Kind, Target, is_end, is_entry, is_lookup, is_node, is_step};
@@ -42,8 +41,8 @@ pub enum ReadResponse {
 
 // The response that a text is.
 pub fn read_response(text: &[u8]) -> ReadResponse
-    ensures value { result ≡ read_as text.now (read_response text.now) }
-    ensures number { response_number result ≡ number_unless 5 (read_response text.now) }
+    ensures parts { parts_of text.now result ≡ read_response text.now }
+    ensures offsets { Offsets text.now result }
 {
     match read_header(text) {
         ReadHeader::Read(h) => read_body(text, h),
@@ -76,11 +75,12 @@ struct RoleFrom {
     next: usize,
 }
 
-// The response that the header of a text and the sections after it make, if nothing more stands
-// there.
+// The response that a header and the sections after it make, if nothing more stands in the text.
 fn read_body(text: &[u8], h: Header) -> ReadResponse
-    requires { ReadHeader.Read h ≡ header_as text.now (read_header text.now) }
-    ensures { result ≡ read_as text.now (read_response text.now) }
+    requires within { h.next ≤ length text.now }
+    requires decodes { HeaderDecodes text.now h }
+    ensures parts { parts_of text.now result ≡ parts_after text.now h }
+    ensures offsets { Offsets text.now result }
 {
     let steps = section_from(text, Sort::Steps, h.next);
     let entries = section_from(text, Sort::Entries, steps.part.stop);
@@ -126,7 +126,7 @@ fn is_loose(text: &[u8], at: usize) -> bool
 // The section that begins at an offset, with all lines that belong to it.
 fn section_from(text: &[u8], sort: Sort, from: usize) -> Section
     requires { from ≤ length text.now }
-    ensures { result ≡ section_from sort text.now from }
+    ensures { SectionOf sort text.now from result }
 {
     let mut at = from;
     let mut count: usize = 0;

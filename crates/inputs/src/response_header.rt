@@ -3,12 +3,11 @@
 ghost use Rattle.std.specs.Prelude.{◌≡◌};
 ghost use Rattle.lines.specs.Line.{read_line};
 ghost use Rattle.rules.specs.Response.{search};
-ghost use Rattle.rules.specs.ResponseText.{head_form, read_kt};
-ghost use Rattle.inputs.specs.Places.{line_start};
+ghost use Rattle.rules.specs.ResponseText.{head_form, read_response};
 ghost use Rattle.inputs.specs.ResponseLines.{kind_of};
-ghost use Rattle.inputs.specs.Response.{no_target};
-ghost use Rattle.inputs.specs.ResponseHeader.{read_from, read_finding, read_header, opened_as};
-ghost use Rattle.inputs.specs.ResponseHeader.{size_of, found_as, header_as};
+ghost use Rattle.inputs.specs.ResponseHeader.{read_kt, read_from, read_finding, opened_of, size_of};
+ghost use Rattle.inputs.specs.ResponseHeader.{finding_of, headed_of, OpenedDecodes, FoundDecodes};
+ghost use Rattle.inputs.specs.ResponseHeader.{HeaderStands};
 
 use crate::response_lines::{
     HeadLine, Kind, KtLine, Target, TargetLine, head_line, kt_line, target_line,
@@ -62,7 +61,8 @@ enum FindingFrom {
 
 // The lines before the sections, each where the one before it ends.
 pub(crate) fn read_header(text: &[u8]) -> ReadHeader
-    ensures { result ≡ header_as text.now (read_header text.now) }
+    ensures header { headed_of text.now result ≡ read_response text.now }
+    ensures stands { HeaderStands text.now result }
 {
     match kt_from(text) {
         KtFrom::Unread => ReadHeader::Unread,
@@ -90,7 +90,8 @@ pub(crate) fn read_header(text: &[u8]) -> ReadHeader
 
 // The first line, with kind, identifier and label.
 fn kt_from(text: &[u8]) -> KtFrom
-    ensures { result ≡ opened_as text.now (read_from read_kt text.now 0) }
+    ensures read { opened_of text.now result ≡ read_from read_kt text.now 0 }
+    ensures decodes { OpenedDecodes text.now result }
 {
     let start = Cursor { at: 0 };
     match start.line(text) {
@@ -131,8 +132,9 @@ fn head_from(text: &[u8], at: usize) -> HeadFrom
 // What stands at an offset after the `head` line: for a search its `target` line, for monitoring no
 // line.
 fn finding_from(text: &[u8], kind: Kind, at: usize) -> FindingFrom
-    requires { at ≡ line_start text.now 2 }
-    ensures { result ≡ found_as text.now (read_finding (kind_of kind) text.now at) }
+    ensures read { finding_of text.now kind result
+        ≡ read_finding (kind_of kind) text.now at }
+    ensures decodes { FoundDecodes text.now kind result }
 {
     match kind {
         Kind::Search => target_from(text, at),
@@ -145,8 +147,9 @@ fn finding_from(text: &[u8], kind: Kind, at: usize) -> FindingFrom
 
 // The `target` line at an offset, its fields as parts of the text.
 fn target_from(text: &[u8], at: usize) -> FindingFrom
-    requires { at ≡ line_start text.now 2 }
-    ensures { result ≡ found_as text.now (read_finding search text.now at) }
+    ensures read { finding_of text.now Kind.Search result
+        ≡ read_finding search text.now at }
+    ensures decodes { FoundDecodes text.now Kind.Search result }
 {
     let start = Cursor { at };
     match start.line(text) {
@@ -176,9 +179,7 @@ fn target_from(text: &[u8], at: usize) -> FindingFrom
 }
 
 // The target of a response that has none.
-fn no_target() -> Target
-    ensures { result ≡ no_target }
-{
+fn no_target() -> Target {
     Target {
         version: 0,
         opening: Part { start: 0, stop: 0 },

@@ -1,16 +1,19 @@
 // The lines of a response, one at a time (paper 01, Response lines). Offsets are counted from the
 // line's start.
-ghost use Rattle.std.specs.Prelude.{[], ◌∷◌, ◌≡◌};
+ghost use Rattle.std.specs.Prelude.{Bool, [], ◌∷◌, ◌≡◌, ℕ};
 ghost use Rattle.lists.specs.Choice.{is_some, or_else};
-ghost use Rattle.lines.specs.Field.{exactly, up_to, read_field, read_fields};
+ghost use Rattle.lines.specs.Field.{bytes, exactly, up_to, read_field, read_fields};
 ghost use Rattle.lines.specs.Line.{read_line};
 ghost use Rattle.lines.specs.Cursor.{fields_from, read_at};
 ghost use Rattle.lines.specs.Readings.{next_number_of};
+ghost use Rattle.rules.specs.Response.{search, monitor};
 ghost use Rattle.rules.specs.ResponseText.{siblings_field, kind_word, head_form, target_form, nl_form, end_form};
 ghost use Rattle.rules.specs.ResponseText.{read_kind_line, read_step, read_entry_line, read_in, read_no, read_nl};
-ghost use Rattle.rules.specs.ResponseText.{read_node, read_kt};
-ghost use Rattle.inputs.specs.ResponseLines.{any_bytes, number_after, lookup_form, kind_of, head_of, kt_as};
-ghost use Rattle.inputs.specs.ResponseLines.{target_as, next_part_as, last_bytes_as, last_parts_as};
+ghost use Rattle.rules.specs.ResponseText.{read_node};
+ghost use Rattle.inputs.specs.ResponseLines.{number_after, lookup_form, kind_of, kt_of, head_of, target_of};
+ghost use Rattle.inputs.specs.ResponseLines.{next_part_of, last_bytes_of, last_parts_of};
+ghost use Rattle.inputs.specs.ResponseLines.{KtStands, TargetStands, NextPartStands, LastBytesStand};
+ghost use Rattle.inputs.specs.ResponseLines.{LastPartsStand};
 
 use crate::state::State;
 use lines::cursor::{Cursor, NextBytes, NextNumber, NextWord};
@@ -101,8 +104,10 @@ enum LastParts {
 }
 
 // A first line, of a search or of monitoring.
-pub fn kt_line(l: &[u8]) -> KtLine
-    ensures { result ≡ kt_as l.now (read_kt l.now) }
+pub(crate) fn kt_line(l: &[u8]) -> KtLine
+    ensures read { kt_of l.now result
+        ≡ or_else (read_kind_line search l.now) (read_kind_line monitor l.now) }
+    ensures stands { KtStands l.now result }
 {
     match kind_line(l, Kind::Search, &Word::SEARCH) {
         KtLine::Read {
@@ -119,7 +124,7 @@ pub fn kt_line(l: &[u8]) -> KtLine
 }
 
 // A `head` line.
-pub fn head_line(l: &[u8]) -> HeadLine
+pub(crate) fn head_line(l: &[u8]) -> HeadLine
     ensures { head_of result ≡ read_line head_form l.now }
 {
     let NextNumber::Read { value, next } = number_after(l, &Word::HEAD, u64::MAX) else {
@@ -132,8 +137,9 @@ pub fn head_line(l: &[u8]) -> HeadLine
 }
 
 // A `target` line.
-pub fn target_line(l: &[u8]) -> TargetLine
-    ensures { result ≡ target_as l.now (read_line target_form l.now) }
+pub(crate) fn target_line(l: &[u8]) -> TargetLine
+    ensures read { target_of l.now result ≡ read_line target_form l.now }
+    ensures stands { TargetStands l.now result }
 {
     let NextNumber::Read { value, next } = number_after(l, &Word::TARGET, u32::MAX as u64) else {
         return TargetLine::Unread;
@@ -220,7 +226,8 @@ pub(crate) fn is_end(l: &[u8]) -> bool
 // A first line of one kind, whose word is given.
 fn kind_line(l: &[u8], kind: Kind, word: &[u8]) -> KtLine
     requires { word.now ≡ kind_word (kind_of kind) }
-    ensures { result ≡ kt_as l.now (read_kind_line (kind_of kind) l.now) }
+    ensures read { kt_of l.now result ≡ read_kind_line (kind_of kind) l.now }
+    ensures stands { KtStands l.now result }
 {
     let NextWord::Same(at_kind) = Cursor { at: 0 }.word(l, &Word::KT) else {
         return KtLine::Unread;
@@ -289,8 +296,9 @@ fn number_after(l: &[u8], word: &[u8], bound: u64) -> NextNumber
 
 // The field at a cursor as a byte string of a certain length.
 fn next_part(l: &[u8], c: Cursor, wanted: usize) -> NextPart
-    ensures { result ≡ next_part_as l.now c.at
-        (read_at (read_field (exactly wanted)) l.now c.at) }
+    ensures read { next_part_of l.now result
+        ≡ read_at (read_field (exactly wanted)) l.now c.at }
+    ensures stands { NextPartStands l.now result }
 {
     let at = c.at;
     let NextBytes::Read { length, next } = c.bytes(l) else {
@@ -311,8 +319,10 @@ fn next_part(l: &[u8], c: Cursor, wanted: usize) -> NextPart
 // The field at a cursor as a byte string with which the line ends; whoever asks says which lengths
 // fit.
 fn last_bytes(l: &[u8], c: Cursor) -> LastBytes
-    ensures { result ≡ last_bytes_as l.now c.at
-        (read_fields (any_bytes ∷ []) (fields_from l.now c.at)) }
+    ensures read { (fits : ℕ → Bool)
+        → last_bytes_of l.now fits result
+        ≡ read_fields (bytes fits ∷ []) (fields_from l.now c.at) }
+    ensures stands { LastBytesStand l.now result }
 {
     let at = c.at;
     let NextBytes::Read { length, next } = c.bytes(l) else {
@@ -333,8 +343,9 @@ fn last_bytes(l: &[u8], c: Cursor) -> LastBytes
 // The fields from a cursor on as two byte strings with which the line ends: the first of a certain
 // length, the second not too long.
 fn last_parts(l: &[u8], c: Cursor, wanted: usize, longest: usize) -> LastParts
-    ensures { result ≡ last_parts_as l.now c.at
-        (read_fields (exactly wanted ∷ up_to longest ∷ []) (fields_from l.now c.at)) }
+    ensures read { last_parts_of l.now result
+        ≡ read_fields (exactly wanted ∷ up_to longest ∷ []) (fields_from l.now c.at) }
+    ensures stands { LastPartsStand l.now result }
 {
     let NextPart::Read { part: first, next } = next_part(l, c, wanted) else {
         return LastParts::Unread;

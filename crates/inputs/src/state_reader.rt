@@ -9,7 +9,7 @@ ghost use Rattle.lines.specs.Readings.{as_digest};
 ghost use Rattle.rules.specs.Limits.{label_limit, state_text_limit};
 ghost use Rattle.rules.specs.State.{State as StateRead};
 ghost use Rattle.rules.specs.StateText.{size_form, read_keep, read_pair, read_state, read_state_text};
-ghost use Rattle.inputs.specs.State.{numbered_block, block_for};
+ghost use Rattle.inputs.specs.State.{numbered_block, state_of};
 ghost use Rattle.inputs.specs.StateReader.{labelled, as_size, pair_of, KeepsFrom, PairsFrom, ReadAs};
 ghost use Rattle.inputs.specs.StateReader.{if_valid, read_after_size, refused_by, or_refused};
 
@@ -79,7 +79,7 @@ pub fn read_state(text: &[u8]) -> NumberedState
 // The struct of the state that a text says; where it says none, as a text that is too long does,
 // one that stands for none.
 pub fn state_in(text: &[u8]) -> State
-    ensures { result ≡ block_for (read_state text.now) }
+    ensures { state_of result ≡ read_state text.now }
 {
     let read = read_state(text);
     let mut state = read.state;

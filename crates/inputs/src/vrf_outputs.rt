@@ -2,7 +2,7 @@
 ghost use Rattle.std.specs.Prelude.{◌≡◌, ◌+◌, ◌*◌, ◌/◌, ◌<◌, length};
 ghost use Rattle.lists.specs.Choice.{is_some};
 ghost use Rattle.rules.specs.VrfOutputs.{record_length, read_outputs};
-ghost use Rattle.inputs.specs.VrfOutputs.{record_at, find_output};
+ghost use Rattle.inputs.specs.VrfOutputs.{record_at, IsRecordOf, IsOfSomeRecord};
 
 use hash::bytes::number4;
 
@@ -39,10 +39,11 @@ pub fn outputs_rise(outputs: &[u8]) -> bool
     true
 }
 
-// The output of a version, found by halving: of outputs that of its record; of bytes that are none,
-// what the halving comes upon.
+// The output of a version, found by halving. Of bytes that are no outputs it is that of some record
+// of the version, or none.
 pub fn find_output(outputs: &[u8], version: u32) -> FoundOutput
-    ensures { result ≡ find_output outputs.now version }
+    ensures rising { IsRecordOf outputs.now version result }
+    ensures any { IsOfSomeRecord outputs.now version result }
 {
     let mut low: usize = 0;
     let mut high: usize = outputs.len() / RECORD;

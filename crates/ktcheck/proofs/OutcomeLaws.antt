@@ -10,7 +10,7 @@ use Rattle.io.specs.Counts.{IsPrefixLen}
 use Rattle.io.proofs.Counting.{prefix_len_of_le}
 use Rattle.lists.specs.Lists.{Bytes, written}
 use Rattle.rules.specs.Refusals.{Judgement}
-use Rattle.rules.specs.Calls.{written_first, text_of, text_after}
+use Rattle.rules.specs.Calls.{value_of, written_first, output_after, text_of, text_after}
 use Rattle.rules.specs.Program.{printed}
 use Rattle.verifier.specs.declared.files.Outcome.{Outcome}
 use Rattle.verifier.specs.Files.{outcome_of}
@@ -33,6 +33,11 @@ module _ (j : Judgement) (r : Outcome) (e : r ≡ outcome_of j) (s s' : Bytes) w
   pub line-counted : s' ≡ written s 0 (printed j) → IsPrefixLen r.line s'
   unfolding outcome_of
   line-counted f = rw (e, f) (first_counted s (printed j))
+
+  -- the value
+  pub value-counted : s' ≡ output_after s j → IsPrefixLen r.value s'
+  unfolding outcome_of output_after
+  value-counted f = rw (e, f) (any_counted s (value_of j))
 
   -- the new state's text
   pub text-counted : s' ≡ text_after s j → IsPrefixLen r.text s'

@@ -2,7 +2,8 @@
 ghost use Rattle.std.specs.Prelude.{◌≡◌, ◌+◌, length};
 ghost use Rattle.lines.specs.Line.{ended_lines, open_rest};
 
-use lines::cursor::{Cursor, NextLine};
+use lines::cursor::NextLine;
+use verifier::reading::read_on;
 
 // How many lines a newline ends, the offset after the last of them, and how many bytes are left
 // from there on.
@@ -22,17 +23,18 @@ pub(crate) fn ended_lines(text: &[u8]) -> EndedLines
     let mut count: usize = 0;
     let mut at: usize = 0;
     loop {
-        let cursor = Cursor { at };
-        match cursor.line(text) {
-            NextLine::Ended { stop: _, next } => {
+        let read = read_on(text, at);
+        let line = read.line;
+        match line {
+            NextLine::Ended { stop: _, next: _ } => {
                 count += 1;
-                at = next.at;
+                at = read.offset;
             }
             NextLine::Unread => {
                 return EndedLines {
                     count,
-                    offset: at,
-                    left: cursor.left(text),
+                    offset: read.offset,
+                    left: read.left,
                 };
             }
         }

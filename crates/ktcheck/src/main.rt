@@ -1,11 +1,9 @@
 // The program (paper 01, Sixteen numbers): checks the response among the files of the current
 // folder, prints one line and, where it accepts, writes `state.new` and, after a search, `value`.
-mod claims;
 mod ended_lines;
 mod outcome;
 mod reading;
 mod refusals;
-mod saying;
 mod writing;
 
 use checks::limits::InputLimit;

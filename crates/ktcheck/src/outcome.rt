@@ -2,7 +2,6 @@
 // explained.
 use crate::refusals::explain;
 use crate::writing::{print, write_file};
-use checks::call::value;
 use inputs::state::State;
 use verifier::files::{Outcome, check_files};
 
@@ -17,7 +16,7 @@ pub(crate) fn judge(
     signed: &[u8],
 ) {
     let mut line = [0u8; Outcome::LINE];
-    let mut output = [0u8; Outcome::VALUE];
+    let mut value = [0u8; Outcome::VALUE];
     let mut text = [0u8; State::TEXT];
     let outcome = check_files(
         unread,
@@ -28,33 +27,29 @@ pub(crate) fn judge(
         outputs,
         signed,
         &mut line,
-        &mut output,
+        &mut value,
         &mut text,
     );
     let line_length = outcome.line;
+    let value_length = outcome.value;
     let text_length = outcome.text;
     report(
-        outcome,
+        outcome.number,
+        outcome.found,
         &line[..line_length],
-        &output,
+        &value[..value_length],
         &text[..text_length],
         response,
     );
 }
 
-// Reports what came of the files: the line, the value in the first output bytes, the new text.
-fn report(
-    outcome: Outcome,
-    line: &[u8],
-    output: &[u8; Outcome::VALUE],
-    text: &[u8],
-    response: &[u8],
-) {
-    if outcome.number == 0 {
-        accept(outcome.found, line, value(output, outcome.value), text);
+// Reports what came of the files, by its number.
+fn report(number: u64, found: bool, line: &[u8], value: &[u8], text: &[u8], response: &[u8]) {
+    if number == 0 {
+        accept(found, line, value, text);
     } else {
         print(line);
-        explain(outcome.number, response);
+        explain(number, response);
     }
 }
 

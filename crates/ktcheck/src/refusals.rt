@@ -1,24 +1,9 @@
-// What a refusal means for the technician: a sentence on standard error, after 5 to 8 what the
-// response says of itself, and after 5 how far its lines reach.
-use crate::claims::say_claims;
+// What a refusal means for the technician: a sentence on standard error, and after 5 one more.
 use crate::ended_lines::ended_lines;
-use crate::saying::{say, say_number};
+use libc::STDERR_FILENO;
 
 // Explains a refusal by its number; `response` is what was read of that file.
 pub(crate) fn explain(number: u64, response: &[u8]) {
-    say_meaning(number);
-    match number {
-        5 => {
-            say_claims(response);
-            say_lines(response);
-        }
-        6..=8 => say_claims(response),
-        _ => {}
-    }
-}
-
-// Says what a refusal means.
-fn say_meaning(number: u64) {
     match number {
         1 => say(
             b"A file is missing, cannot be read or is too long, or the request's identifier does not have 16 bytes.\n",
@@ -30,9 +15,12 @@ fn say_meaning(number: u64) {
         4 => say(
             b"The sheet file is damaged: its records are not whole, or their versions do not rise.\n",
         ),
-        5 => say(
-            b"The response is damaged or cut short: a line or a field of it is not as it must be.\n",
-        ),
+        5 => {
+            say(
+                b"The response is damaged or cut short: a line or a field of it is not as it must be.\n",
+            );
+            say_lines(response);
+        }
         6 => say(
             b"The response belongs to another request or another label, or the request line is broken.\n",
         ),
@@ -70,10 +58,18 @@ fn say_meaning(number: u64) {
 fn say_lines(response: &[u8]) {
     let lines = ended_lines(response);
     say(b"Whole lines in it: ");
-    say_number(lines.count as u64);
+    say_number(lines.count);
     say(b", up to byte ");
-    say_number(lines.offset as u64);
+    say_number(lines.offset);
     say(b". Bytes after them: ");
-    say_number(lines.left as u64);
+    say_number(lines.left);
     say(b".\n");
+}
+
+fn say_number(n: usize) {
+    io::print_decimal(STDERR_FILENO, n as u64);
+}
+
+fn say(text: &[u8]) {
+    io::write_all(STDERR_FILENO, text);
 }

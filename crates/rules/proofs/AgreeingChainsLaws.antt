@@ -22,7 +22,6 @@ use borrow.Author.Tests.{eqb-true, eqb-false, not-false}
 use Rattle.lists.specs.Lists.{Bytes}
 use Rattle.lists.proofs.ListLaws.{mapped_at}
 use Rattle.lists.proofs.MemberLaws.{at-mapped, flat-listed, listed-flat}
-use Rattle.hash.specs.Bytes.{AreBytes}
 use Rattle.tree.specs.LogTree.{LogEntry, log_leaf_string}
 use Rattle.tree.specs.Collisions.{Broken}
 use Rattle.tree.proofs.CollisionLaws.{◌>>=◌, all_or, ByteStrings, Within}
@@ -33,11 +32,12 @@ use Rattle.rules.specs.Refusals.{Inputs, Call, Judgement, refused, passed, known
 use Rattle.rules.specs.Refusals.{history_differs, judge}
 use Rattle.rules.specs.Calls.{next_log, next_state, state_after}
 use Rattle.rules.specs.Hashed.{hashed}
-use Rattle.rules.specs.Consistency.{KeepsBytes, accepted, accepted_calls, shown_by, ChainsAgree}
-use Rattle.rules.proofs.RefusalLaws.{state_was}
+use Rattle.rules.specs.Consistency.{AreByteInputs, IsByteState, accepted, accepted_calls, shown_by}
+use Rattle.rules.specs.Consistency.{ChainsAgree}
+use Rattle.rules.proofs.RefusalLaws.{valid_some, accepted_meaning, readings_were}
 use Rattle.rules.proofs.AcceptedLaws.{Accepted, accepted_call, rules-passed, shown-entries}
 use Rattle.rules.proofs.AcceptedLaws.{call-follows, shown-string, shown-timestamp}
-use Rattle.rules.proofs.HashedLaws.{ByteCall, walk_listed, call_bytes, next_values_bytes, bytes-hashed}
+use Rattle.rules.proofs.HashedLaws.{ByteCall, walk_listed, call_bytes, bytes-hashed, bytes_next}
 
 -- ---- what a state holds fast
 
@@ -45,6 +45,10 @@ use Rattle.rules.proofs.HashedLaws.{ByteCall, walk_listed, call_bytes, next_valu
 abbrev pub HoldsFast : List Bytes → Option State → LogEntry → Type 0
 HoldsFast S none e = ⊥
 HoldsFast S (some s) e = Binds s.log.size s.log.values e.position (log_leaf_string e) S × (e.timestamp < 2 ^ 64)
+
+-- an accepted call got the state that it was judged with
+state_was : (s : Option State) (i : Inputs) (c : Call) → judge s i ≡ passed c → s ≡ some c.state
+state_was s i c e = (valid_some s c.state (readings_were s i c (accepted_meaning s i c e).0).state).0
 
 -- ---- one call
 
@@ -142,20 +146,20 @@ module _ (S : List Bytes) where
       (λ n. chain-learns (state_after s (judge s i)) is rest c n e k)
       (chain_call s i is c m)
 
--- a call returns a state whose values are bytes
-keeps_bytes : (s : Option State) (i : Inputs) → KeepsBytes s → (j : Judgement) → judge s i ≡ j → KeepsBytes (state_after s j)
+-- a call returns a state that has bytes
+next_bytes : (s : Option State) (i : Inputs) → IsByteState s → AreByteInputs i → (j : Judgement) → judge s i ≡ j → IsByteState (state_after s j)
 unfolding state_after
-keeps_bytes s i b (refused k) q = b
-keeps_bytes s i b (passed c) q = next_values_bytes s i c b q
+next_bytes s i b h (refused k) q = b
+next_bytes s i b h (passed c) q = bytes_next c (call_bytes s i c b h q)
 
 -- the strings of every accepted call have bytes
-chain_bytes : (s : Option State) (is : List Inputs) → KeepsBytes s → ((i : Inputs) → Memᴰ i is → AreBytes i.vrf_outputs)
+chain_bytes : (s : Option State) (is : List Inputs) → IsByteState s → ((i : Inputs) → Memᴰ i is → AreByteInputs i)
     → (c : Call) → Memᴰ c (accepted_calls s is) → ByteCall c
 unfolding accepted_calls
 chain_bytes s [] b h c m = absurd (mathlib.Core.List.Memᴰ.not-nil m)
 chain_bytes s (i ∷ is) b h c m =
     let k = h i (mathlib.Core.List.Memᴰ.head refl) in
-    ⊎_elim (call_bytes s i c b k) (chain_bytes (state_after s (judge s i)) is (keeps_bytes s i b (judge s i) refl) (λ x n. h x (mathlib.Core.List.Memᴰ.tail n)) c)
+    ⊎_elim (call_bytes s i c b k) (chain_bytes (state_after s (judge s i)) is (next_bytes s i b k (judge s i) refl) (λ x n. h x (mathlib.Core.List.Memᴰ.tail n)) c)
     (chain_call s i is c m)
 
 -- ---- the claim

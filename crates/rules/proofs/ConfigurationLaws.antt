@@ -126,9 +126,9 @@ read_configuration_lem c f =
 
 -- A configuration that is read is written so: each step that reads a field splits what is written
 -- of it off the string, and nothing is left.
-pub configuration_read_lem : (s : Bytes) (c : Configuration) → AreBytes s → read_configuration s ≡ some c → (s ≡ write_configuration c) × FitsWidths c
+pub configuration_read : (s : Bytes) (c : Configuration) → AreBytes s → read_configuration s ≡ some c → (s ≡ write_configuration c) × FitsWidths c
 unfolding read_configuration
-configuration_read_lem s c b e =
+configuration_read s c b e =
     bind_by (read_uint 2 s) _ c e λ x1 e1 r1.
     let (w1, h1, b1) = uint_read 2 x1.0 s x1.1 b e1 in
     bind_by (read_uint 1 x1.1) _ c r1 λ x2 e2 r2.

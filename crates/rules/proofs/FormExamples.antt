@@ -177,7 +177,7 @@ pairs_below (suc k) = pairs_below k ++ pair k 0 ∷ []
 pub record States : Type 0 where
   pub new : valid 0 0 0 [] [] ≡ true
   pub longest-label : valid 255 0 0 [] [] ≡ true
-  pub label-over : valid 256 0 0 [] [] ≡ false
+  pub label_over : valid 256 0 0 [] [] ≡ false
   pub timestamp-at-0 : valid 0 0 1 [] [] ≡ false
   pub latest : valid 0 1 (2 ^ 64 - 1) (32 ∷ []) [] ≡ true
   pub timestamp-over : valid 0 1 (2 ^ 64) (32 ∷ []) [] ≡ false
@@ -203,7 +203,7 @@ states_borders =
     record {
       new = refl;
       longest-label = refl;
-      label-over = refl;
+      label_over = refl;
       timestamp-at-0 = refl;
       latest = refl;
       timestamp-over = refl;

@@ -22,7 +22,7 @@ use Rattle.tree.proofs.WalkValueLaws.{ByteEntries, bytes_walk, full_values_bytes
 use Rattle.tree.proofs.LookupLaws.{TerminalBytes, bytes_lookup}
 use Rattle.rules.specs.Limits.{vrf_output_length}
 use Rattle.rules.specs.VrfOutputs.{VrfOutput, output_of}
-use Rattle.rules.specs.State.{State, HasByteValues}
+use Rattle.rules.specs.State.{State, HasBytes}
 use Rattle.rules.specs.Response.{Target, Finding, searched, monitored, Step, Result, included, absent}
 use Rattle.rules.specs.Response.{other_leaf, Lookup, Entry, target_of, log_entry}
 use Rattle.rules.specs.Encoding.{opaque}
@@ -31,8 +31,8 @@ use Rattle.rules.specs.Refusals.{Inputs, Call, passed, known, log_walk, terminal
 use Rattle.rules.specs.Refusals.{commitment_by, commitment_of, judge}
 use Rattle.rules.specs.Calls.{next_log, next_state}
 use Rattle.rules.specs.Hashed.{hashed_by_lookup, hashed_by_entry, hashed_for_target, hashed}
-use Rattle.rules.specs.Consistency.{KeepsBytes}
-use Rattle.rules.proofs.RefusalLaws.{readings_were, accepted_meaning, state_was}
+use Rattle.rules.specs.Consistency.{AreByteInputs, IsByteState}
+use Rattle.rules.proofs.RefusalLaws.{valid_some, accepted_meaning, readings_were}
 use Rattle.rules.proofs.PartsLaws.{CommitmentFits, StepFits, OtherLeafFits, FindingFits, LookupFits}
 use Rattle.rules.proofs.PartsLaws.{EntryFits, PartsFit, response_fits}
 use Rattle.rules.proofs.OutputLaws.{outputs_sized, outputs_bytes, output-by}
@@ -62,32 +62,23 @@ strings_listed c t f x m =
 
 -- ---- bytes
 
--- the strings of a call that was read are bytes, where the kept values and the sheet are; outputs
--- and parts have the lengths that reading asks for
+-- the strings of a call that was read have bytes, where what it was given has; outputs and parts
+-- have the lengths that reading asks for
 pub record ByteCall (c : Call) : Type 0 where
-  pub values : HasByteValues c.state
+  pub state : HasBytes c.state
   pub outputs : (x : VrfOutput) → Memᴰ x c.outputs → AreBytes x.output
   pub output_length : (x : VrfOutput) → Memᴰ x c.outputs → length x.output ≡ vrf_output_length
   pub parts : PartsFit c.parts
 
-pub call_bytes : (s : Option State) (i : Inputs) (c : Call) → KeepsBytes s → AreBytes i.vrf_outputs → judge s i ≡ passed c → ByteCall c
+pub call_bytes : (s : Option State) (i : Inputs) (c : Call) → IsByteState s → AreByteInputs i → judge s i ≡ passed c → ByteCall c
 call_bytes s i c b h e =
     let r = readings_were s i c (accepted_meaning s i c e).0 in
     record {
-      values = subst KeepsBytes (state_was s i c e) b;
-      outputs = outputs_bytes i.vrf_outputs c.outputs h r.outputs;
+      state = subst IsByteState (valid_some s c.state r.state).0 b;
+      outputs = outputs_bytes i.vrf_outputs c.outputs h.vrf_outputs r.outputs;
       output_length = outputs_sized i.vrf_outputs c.outputs r.outputs;
       parts = response_fits i.response c.parts r.parts;
     }
-
--- after an accepted call the values that the new state keeps are bytes, where the old ones were
-pub next_values_bytes : (s : Option State) (i : Inputs) (c : Call) → KeepsBytes s → judge s i ≡ passed c
-    → HasByteValues (next_state c)
-unfolding next_state next_log known
-next_values_bytes s i c b e =
-    let r = readings_were s i c (accepted_meaning s i c e).0 in
-    full_values_bytes c.parts.tree_size (known c) (log_walk c) c.parts.nodes
-    (subst KeepsBytes (state_was s i c e) b) (response_fits i.response c.parts r.parts).node_bytes
 
 -- numbers each of which is tested to be a byte
 bytes_tested : (s : Bytes) → all (λ (b : ℕ). ltb b 256) s ≡ true → AreBytes s
@@ -173,6 +164,11 @@ module _ (c : Call) (b : ByteCall c) where
       each_append AreBytes (walk_strings (known c) (log_walk c) c.parts.nodes ++ flat_map (hashed_by_entry c) c.parts.entries)
       (hashed_for_target (target_of c.parts.finding) c.parts.label)
       (each_append AreBytes (walk_strings (known c) (log_walk c) c.parts.nodes) (flat_map (hashed_by_entry c) c.parts.entries)
-      (bytes_walk (known c) (log_walk c) c.parts.nodes bytes-roots b.values b.parts.node_bytes)
+      (bytes_walk (known c) (log_walk c) c.parts.nodes bytes-roots b.state.1 b.parts.node_bytes)
       (λ x m. let (e, i, j) = listed-flat (hashed_by_entry c) c.parts.entries x m in bytes-entry e (b.parts.entries e i) x j))
       (bytes_finding c.parts.finding c.parts.label b.parts.finding b.parts.label)
+
+  -- and the new state has bytes
+  pub bytes_next : HasBytes (next_state c)
+  unfolding next_state next_log known
+  bytes_next = (b.state.0, full_values_bytes c.parts.tree_size (known c) (log_walk c) c.parts.nodes b.state.1 b.parts.node_bytes)

@@ -4,7 +4,6 @@ pub mod StateTextLaws
 pub mod MapLaws
 pub mod EncodingLaws
 pub mod ConfigurationLaws
-pub mod TrialOrderLaws
 pub mod RefusalLaws
 pub mod PartsLaws
 pub mod KindLaws
@@ -18,8 +17,6 @@ pub mod OriginLaws
 pub mod LastEntryLaws
 pub mod AgreeingSearchesLaws
 pub mod AgreeingChainsLaws
-pub mod AgreeingTextChainsLaws
-pub mod Demand3Laws
 pub mod SignedTextLaws
 pub mod ProgramLaws
 pub mod Running

@@ -1,15 +1,15 @@
 -- What a judgement means: acceptance is that everything reads and no rule applies, a refusal has
--- the number of the first that applies, which is the lowest, and leaves everything.
+-- the number of the first that applies, and leaves everything.
 use mathlib.Core.Path.{◌≡◌, refl, sym, ap, ◌∙◌, subst}
-use mathlib.Core.Logic.{◌⊎◌, inl, inr, ⊎_elim}
-use mathlib.Core.Bool.{Bool, true, false, not, false≢true}
-use mathlib.Core.List.{List, [], ◌∷◌, ◌++◌, map, Memᴰ}
+use mathlib.Core.Logic.{◌⊎◌, inl, inr}
+use mathlib.Core.Bool.{Bool, true, false}
+use mathlib.Core.List.{List, [], ◌∷◌, ◌++◌}
 use mathlib.Core.Option.{Option, none, some, Option-elim, none-ne-some}
 use Prim.Native.Nat.{ℕ, ◌≤◌}
 use native.Mathlib.Omega.{arith}
-use Rattle.lists.specs.Choice.{choose, is_some}
-use Rattle.lists.specs.Lists.{Bytes, rising}
-use Rattle.lists.proofs.ChoiceLaws.{provided_true, provided_some, given_provided}
+use Rattle.lists.specs.Choice.{choose}
+use Rattle.lists.specs.Lists.{Bytes}
+use Rattle.lists.proofs.ChoiceLaws.{provided_true, provided_some}
 use Rattle.rules.specs.Configuration.{read_configuration}
 use Rattle.rules.specs.VrfOutputs.{read_outputs}
 use Rattle.rules.specs.State.{State, is_valid}
@@ -20,8 +20,6 @@ use Rattle.rules.specs.Refusals.{judge}
 use Rattle.rules.specs.Calls.{number_of, state_after, value_of, written_first, output_after, text_of}
 use Rattle.rules.specs.Calls.{text_after}
 use Rattle.rules.specs.Consistency.{accepted, accepted_calls}
-use Rattle.rules.proofs.TrialOrderLaws.{Test, numbers, FirstOf, first_applies, some_first, first_lowest}
-use Rattle.rules.proofs.TrialOrderLaws.{rising_front, rising_rest}
 
 -- no rule of a list applies to a call
 abbrev pub NoneApplies : List Rule → Call → Type 0
@@ -34,13 +32,10 @@ unfolding tried choose
 passes [] c h = refl
 passes (r ∷ rs) c (a, h) = rw a (passes rs c h)
 
--- the rules of a list, tried on a call
-abbrev pub rule_tests : List Rule → Call → List Test
-rule_tests rs c = map (λ (r : Rule). (r.number, r.applies c)) rs
-
--- the first of them that applies has the number k
+-- the first rule of a list that applies to a call has the number k
 abbrev pub FirstApplies : List Rule → Call → ℕ → Type 0
-FirstApplies rs c k = FirstOf (rule_tests rs c) k
+FirstApplies [] c k = ⊥
+FirstApplies (r ∷ rs) c k = ((r.applies c ≡ true) × (r.number ≡ k)) ⊎ ((r.applies c ≡ false) × FirstApplies rs c k)
 
 -- a call is refused with the number of the first rule that applies
 pub refuses : (rs : List Rule) (c : Call) (k : ℕ) → FirstApplies rs c k → tried rs c ≡ refused k
@@ -99,6 +94,12 @@ pub rest_tried : (xs ys : List Rule) (c : Call) → NoneApplies xs c → tried (
 unfolding tried_after
 rest_tried xs ys c h = tried_append xs ys c ∙ ap (tried_after ys) (passes xs c h)
 
+-- a refusal by the first stays one, with its number
+pub after_refused : (xs ys : List Rule) (j : Judgement) (k : ℕ) → tried_after xs j ≡ refused k → tried_after (xs ++ ys) j ≡ refused k
+unfolding tried_after
+after_refused xs ys (refused n) k e = e
+after_refused xs ys (passed c) k e = tried_append xs ys c ∙ ap (tried_after ys) e
+
 -- ---- what is read of a call: 1 to 5
 
 -- the readings of a call, each with what it yields
@@ -143,84 +144,6 @@ unfolding read_call reading
 readings_pass s i c h =
     rw (provided_true (lengths_fit i) i h.fits, h.configuration, h.state, h.outputs, h.parts, ← h.inputs) refl
 
--- the readings of a call as tests: each applies where it fails
-abbrev pub reading_tests : Option State → Inputs → List Test
-reading_tests s i =
-    (1, not (lengths_fit i))
-    ∷ (2, not (is_some (read_configuration i.configuration)))
-    ∷ (3, not (is_some (valid_state s)))
-    ∷ (4, not (is_some (read_outputs i.vrf_outputs)))
-    ∷ (5, not (is_some (read_response i.response)))
-    ∷ []
-
--- a reading that ends in a refusal fails, or what follows refuses
-reading_refuses : {A R : Type 0} (n : ℕ) (o : Option A) (b : Bool) → is_some o ≡ b → (next : A → Judgement) (k : ℕ)
-    → ((a : A) → next a ≡ refused k → R) → reading n o next ≡ refused k
-    → ((not b ≡ true) × (n ≡ k)) ⊎ ((not b ≡ false) × R)
-unfolding reading is_some
-reading_refuses n none b q next k f e = inl (ap not (sym q), cc)
-reading_refuses n (some a) b q next k f e = inr (ap not (sym q), f a e)
-
--- and the other way
-refused_by_reading : {A R : Type 0} (n : ℕ) (o : Option A) (b : Bool) → is_some o ≡ b → (next : A → Judgement) (k : ℕ)
-    → ((a : A) → R → next a ≡ refused k) → ((not b ≡ true) × (n ≡ k)) ⊎ ((not b ≡ false) × R)
-    → reading n o next ≡ refused k
-unfolding reading is_some
-refused_by_reading n none b q next k f (inl (_, e)) = ap refused e
-refused_by_reading n none b q next k f (inr (x, _)) = absurd (false≢true (sym x ∙ ap not (sym q)))
-refused_by_reading n (some a) b q next k f (inl (x, _)) = absurd (false≢true (ap not q ∙ x))
-refused_by_reading n (some a) b q next k f (inr (_, h)) = f a h
-
--- a call that is refused while it is read has the number of the first reading that fails
-readings_refuse : (s : Option State) (i : Inputs) (k : ℕ) → read_call s i ≡ refused k → FirstOf (reading_tests s i) k
-unfolding read_call
-readings_refuse s i k =
-    reading_refuses 1 _ (lengths_fit i) (given_provided (lengths_fit i) i) _ k λ _.
-    reading_refuses 2 (read_configuration i.configuration) _ refl _ k λ _.
-    reading_refuses 3 (valid_state s) _ refl _ k λ _.
-    reading_refuses 4 (read_outputs i.vrf_outputs) _ refl _ k λ _.
-    reading_refuses 5 (read_response i.response) _ refl _ k λ _ e.
-    refused_not_passed k _ (sym e)
-
--- and the other way
-refused_by_readings : (s : Option State) (i : Inputs) (k : ℕ) → FirstOf (reading_tests s i) k → read_call s i ≡ refused k
-unfolding read_call
-refused_by_readings s i k =
-    refused_by_reading 1 _ (lengths_fit i) (given_provided (lengths_fit i) i) _ k λ _.
-    refused_by_reading 2 (read_configuration i.configuration) _ refl _ k λ _.
-    refused_by_reading 3 (valid_state s) _ refl _ k λ _.
-    refused_by_reading 4 (read_outputs i.vrf_outputs) _ refl _ k λ _.
-    refused_by_reading 5 (read_response i.response) _ refl _ k λ _ e. absurd e
-
--- ---- refusals
-
-module _ (rs : List Rule) (s : Option State) (i : Inputs) where
-  -- a refusal with the number n applies: a reading with this number fails, or all readings succeed,
-  -- and a rule with this number applies to the call that was read
-  abbrev pub RefusalApplies : ℕ → Type 0
-  RefusalApplies n =
-      Memᴰ (n, true) (reading_tests s i) ⊎ ((c : Call) × Readings s i c × Memᴰ (n, true) (rule_tests rs c))
-
-  -- the refusal that applies first has the number k: it is that of a reading that fails while those
-  -- before it succeed, or all readings succeed, and it is that of the first rule that applies
-  abbrev pub FirstRefusal : ℕ → Type 0
-  FirstRefusal k = FirstOf (reading_tests s i) k ⊎ ((c : Call) × Readings s i c × FirstApplies rs c k)
-
-  -- a call is refused with the number of the refusal that applies first
-  pub trial-refusal : (k : ℕ) → tried_after rs (read_call s i) ≡ refused k → FirstRefusal k
-  unfolding tried_after
-  trial-refusal k e = go (read_call s i) refl e
-    where
-      go : (j : Judgement) → read_call s i ≡ j → tried_after rs j ≡ refused k → FirstRefusal k
-      go (refused n) q h = inl (readings_refuse s i k (q ∙ h))
-      go (passed c) q h = inr (c, readings_were s i c q, subst (Tried rs c) h (tried_meaning rs c))
-
-  -- and the other way
-  pub refusal-trial : (k : ℕ) → FirstRefusal k → tried_after rs (read_call s i) ≡ refused k
-  unfolding tried_after
-  refusal-trial k (inl h) = ap (tried_after rs) (refused_by_readings s i k h)
-  refusal-trial k (inr (c, r, h)) = ap (tried_after rs) (readings_pass s i c r) ∙ refuses rs c k h
-
 -- ---- search and monitoring
 
 -- acceptance: everything reads, and none of 6 to 16 applies
@@ -233,81 +156,49 @@ pub acceptance : (s : Option State) (i : Inputs) (c : Call) → read_call s i �
 unfolding judge tried_after
 acceptance s i c r h = rw r (passes (checks ++ last_checks) c h)
 
--- an accepted call was judged with the state that it was given
-pub state_was : (s : Option State) (i : Inputs) (c : Call) → judge s i ≡ passed c → s ≡ some c.state
-state_was s i c e = (valid_some s c.state (readings_were s i c (accepted_meaning s i c e).0).state).0
-
--- a refusal has the number of the first of the sixteen that applies
-pub refusal_meaning : (s : Option State) (i : Inputs) (k : ℕ) → judge s i ≡ refused k
-    → FirstRefusal (checks ++ last_checks) s i k
-unfolding judge
-refusal_meaning s i = trial-refusal (checks ++ last_checks) s i
-
--- and the other way
-pub refusal_by_first : (s : Option State) (i : Inputs) (k : ℕ) → FirstRefusal (checks ++ last_checks) s i k
-    → judge s i ≡ refused k
-unfolding judge
-refusal_by_first s i = refusal-trial (checks ++ last_checks) s i
-
--- the numbers of the readings and then of the rules rise in the order of trial
-pub numbers_rise : (s : Option State) (i : Inputs)
-    → rising (numbers (reading_tests s i) ++ map (λ (r : Rule). r.number) (checks ++ last_checks)) ≡ true
-unfolding rising checks last_checks
-numbers_rise s i = refl
-
--- so it has the lowest number that applies
-pub refusal_lowest : (s : Option State) (i : Inputs) (k : ℕ) → judge s i ≡ refused k
-    → RefusalApplies (checks ++ last_checks) s i k × ((n : ℕ) → RefusalApplies (checks ++ last_checks) s i n → k ≤ n)
-unfolding checks last_checks
-refusal_lowest s i k e = (applies (refusal_meaning s i k e), lowest (refusal_meaning s i k e))
-  where
-    rules : List Rule
-    rules = checks ++ last_checks
-
-    applies : FirstRefusal rules s i k → RefusalApplies rules s i k
-    applies (inl h) = inl (first_applies (reading_tests s i) k h)
-    applies (inr (c, r, h)) = inr (c, r, first_applies (rule_tests rules c) k h)
-
-    -- no reading fails of a call that was read
-    none-fails : (c : Call) → Readings s i c → (n : ℕ) → FirstOf (reading_tests s i) n → ⊥
-    none-fails c r n h = refused_not_passed n c (sym (refused_by_readings s i n h) ∙ readings_pass s i c r)
-
-    lowest : FirstRefusal rules s i k → (n : ℕ) → RefusalApplies rules s i n → k ≤ n
-    lowest (inl h) n (inl m) = first_lowest (reading_tests s i) k n (rising_front _ _ (numbers_rise s i)) h m
-    lowest (inl h) n (inr (c, r, _)) = absurd (none-fails c r k h)
-    lowest (inr (c, r, _)) n (inl m) = let (l, h) = some_first (reading_tests s i) n m in absurd (none-fails c r l h)
-    lowest (inr (c, r, h)) n (inr (d, t, m)) =
-        let q : passed d ≡ passed c = sym (readings_pass s i d t) ∙ readings_pass s i c r in
-        let p : d ≡ c = cc in
-        first_lowest (rule_tests rules c) k n (rising_rest (numbers (reading_tests s i)) _ (numbers_rise s i)) h
-        (subst (λ (x : Call). Memᴰ (n, true) (rule_tests rules x)) p m)
-
 -- a number of the list
 abbrev pub IsNumber : ℕ → Type 0
 IsNumber k = (1 ≤ k) × (k ≤ 16)
 
--- all tests of a list have such numbers
-abbrev AllNumbered : List Test → Type 0
+-- a judgement, if it is a refusal, has one of them
+abbrev Numbered : Judgement → Type 0
+Numbered (refused k) = IsNumber k
+Numbered (passed c) = Unit {0}
+
+-- a reading with such a number, and such judgements after it
+reading_numbered : {A : Type 0} (k : ℕ) (o : Option A) (next : A → Judgement) → IsNumber k → ((a : A) → Numbered (next a)) → Numbered (reading k o next)
+unfolding reading
+reading_numbered k none next n h = n
+reading_numbered k (some a) next n h = h a
+
+-- so have all rules of a list
+abbrev AllNumbered : List Rule → Type 0
 AllNumbered [] = Unit {0}
-AllNumbered (t ∷ ts) = IsNumber t.0 × AllNumbered ts
+AllNumbered (r ∷ rs) = IsNumber r.number × AllNumbered rs
 
--- and then the first that applies
-first_numbered : (ts : List Test) (k : ℕ) → AllNumbered ts → FirstOf ts k → IsNumber k
-first_numbered [] k a h = absurd h
-first_numbered (t ∷ ts) k (a, b) (inl (_, e)) = subst IsNumber e a
-first_numbered (t ∷ ts) k (a, b) (inr (_, h)) = first_numbered ts k b h
-
--- so has a refusal, if the rules have
-pub refusal_number : (rs : List Rule) → ((c : Call) → AllNumbered (rule_tests rs c))
-    → (s : Option State) (i : Inputs) (k : ℕ) → tried_after rs (read_call s i) ≡ refused k → IsNumber k
-refusal_number rs a s i k e =
-    ⊎_elim (first_numbered (reading_tests s i) k (omega arith)) (λ (c, _, h). first_numbered (rule_tests rs c) k (a c) h)
-    (trial-refusal rs s i k e)
+-- and then their trial
+tried_numbered : (rs : List Rule) (c : Call) → AllNumbered rs → Numbered (tried rs c)
+unfolding tried choose
+tried_numbered [] c h = tt
+tried_numbered (r ∷ rs) c (n, h) = go (r.applies c) (tried_numbered rs c h)
+  where
+    go : (b : Bool) → Numbered (tried rs c) → Numbered (choose b (λ _. refused r.number) (λ _. tried rs c))
+    go true k = n
+    go false k = k
 
 -- every refusal has one of the sixteen numbers
 pub sixteen_numbers : (s : Option State) (i : Inputs) (k : ℕ) → judge s i ≡ refused k → IsNumber k
-unfolding judge checks last_checks
-sixteen_numbers = refusal_number (checks ++ last_checks) (λ _. omega arith)
+unfolding judge tried_after checks last_checks read_call
+sixteen_numbers s i k e = subst Numbered e (after (read_call s i) (
+    reading_numbered 1 _ _ (omega arith) λ _.
+    reading_numbered 2 _ _ (omega arith) λ _.
+    reading_numbered 3 _ _ (omega arith) λ _.
+    reading_numbered 4 _ _ (omega arith) λ _.
+    reading_numbered 5 _ _ (omega arith) λ _. tt))
+  where
+    after : (j : Judgement) → Numbered j → Numbered (tried_after (checks ++ last_checks) j)
+    after (refused n) h = h
+    after (passed c) h = tried_numbered (checks ++ last_checks) c (omega arith)
 
 -- a refusal leaves the state, the output bytes and the bytes lent for the new text as given
 pub refusal_leaves : (s : Option State) (output new_text : Bytes) (k : ℕ)

@@ -36,8 +36,8 @@ use Rattle.rules.specs.Calls.{kt_signed_text}
 use Rattle.rules.proofs.ConfigurationLaws.{configuration_least, head_length}
 use Rattle.rules.proofs.StateLaws.{valid_was}
 use Rattle.rules.proofs.RefusalLaws.{valid_some, Readings, readings_were, readings_pass, NoneApplies}
-use Rattle.rules.proofs.RefusalLaws.{IsNumber, refused_not_passed, after_passed, rest_tried}
-use Rattle.rules.proofs.RefusalLaws.{refusal_number}
+use Rattle.rules.proofs.RefusalLaws.{IsNumber, refused_not_passed, after_passed, after_refused}
+use Rattle.rules.proofs.RefusalLaws.{rest_tried, sixteen_numbers}
 use Rattle.rules.proofs.PartsLaws.{response_fits}
 use Rattle.rules.proofs.AcceptedLaws.{call_read, requested-was}
 use Rattle.rules.proofs.NextStateLaws.{monitoring_room, found_by_monitoring}
@@ -50,8 +50,9 @@ signed_text_least = 72
 
 -- a refusal without a signed text has one of the sixteen numbers
 unsigned_number : (st : Option State) (kind : Option Kind) (a : Arguments) (k : ℕ) → judge_unsigned st kind a ≡ refused k → IsNumber k
-unfolding judge_unsigned judge_without_head checks
-unsigned_number st kind a = refusal_number checks (λ _. omega arith) st (library_inputs kind a [] 0)
+unfolding judge_unsigned judge_without_head judge
+unsigned_number st kind a k e =
+    sixteen_numbers st (library_inputs kind a [] 0) k (after_refused checks last_checks (read_call st (library_inputs kind a [] 0)) k e)
 
 module _ (st : Option State) (kind : Option Kind) (a : Arguments) (c : Call) (e : judge_unsigned st kind a ≡ passed c) where
   -- it was read, and none of 6 to 14 applies to it
@@ -250,7 +251,7 @@ text_fitted text j c e = go (leb (length text) state_text_limit) refl e
     go false q h = absurd (refused_not_passed 1 c h)
 
 -- with such a text, and room for the new one, a judgement stands
-pub text_judged_lem : (text new_text : Bytes) (j : Judgement) → leb (length text) state_text_limit ≡ true → state_text_limit ≤ length new_text
+text_judged_lem : (text new_text : Bytes) (j : Judgement) → leb (length text) state_text_limit ≡ true → state_text_limit ≤ length new_text
     → text_judged text (room_judged new_text j) ≡ j
 unfolding text_judged room_judged choose
 text_judged_lem text new_text j t r = rw (t, le-leb state_text_limit (length new_text) r) refl

@@ -1,23 +1,23 @@
 -- Laws of a state's text (specs/StateText.antt): a state that is written reads as itself, a text
--- that reads is what is written, it is never too long, and that of the first state is one line.
+-- that reads is what is written, and it is never too long.
 use mathlib.Core.Path.{◌≡◌, refl, sym, ◌∙◌, ap, ap₂}
 use mathlib.Core.Bool.{true}
-use mathlib.Core.List.{List, [], ◌∷◌, ◌++◌, map, flat_map, append_assoc, append-nil, Memᴰ}
+use mathlib.Core.List.{List, [], ◌∷◌, ◌++◌, map, append_assoc, append-nil, Memᴰ}
 use mathlib.Core.Option.{none, some, bind, some-injective, none-ne-some}
 use Prim.Native.Nat.{◌≤◌}
 use native.Mathlib.Omega.{arith}
 use lib.Dec.{eqb}
 use lib.ListN.{length, length-append}
 use borrow.Author.Tests.{le-leb, eq-eqb}
-use Rattle.lists.specs.Choice.{choose, ◌>>◌}
+use Rattle.lists.specs.Choice.{◌>>◌}
 use Rattle.lists.specs.Lists.{Bytes, all, same}
 use Rattle.lists.proofs.ChoiceLaws.{test_some, bind_some}
 use Rattle.lists.proofs.ListLaws.{none_left}
 use Rattle.hash.specs.Bytes.{AreBytes}
-use Rattle.lines.specs.Number.{ascii, decimal_from, decimal}
+use Rattle.lines.specs.Number.{ascii, decimal}
 use Rattle.lines.specs.Hex.{hex_field}
 use Rattle.lines.specs.Field.{write_field, write_fields}
-use Rattle.lines.specs.Line.{tab, newline, Read, read_lines, read_line, leading, joined, line, write_line}
+use Rattle.lines.specs.Line.{tab, newline, Read, read_lines, read_line, leading, joined}
 use Rattle.lines.proofs.FieldLaws.{Fits}
 use Rattle.lines.proofs.LineLaws.{is_plain_form, line_text, write_line_lem, read_line_lem, line_read, line_lacks}
 use Rattle.lines.proofs.LineLaws.{read_other, AllLack, all_lack_append, all_lack_map}
@@ -27,7 +27,7 @@ use Rattle.lines.proofs.LineLaws.{leading_end, leading-none, leading-all, leadin
 use Rattle.lines.proofs.NumberLaws.{decimal_short}
 use Rattle.lines.proofs.HexLaws.{length_hex_field}
 use Rattle.rules.specs.Limits.{label_limit, hash_length, state_text_limit}
-use Rattle.rules.specs.State.{MapEntry, State, is_valid, HasBytes, empty_state, new_state}
+use Rattle.rules.specs.State.{MapEntry, State, is_valid, HasBytes}
 use Rattle.rules.specs.StateText.{size_form, keep_form, pair_form, read_keep, read_pair, read_state_lines}
 use Rattle.rules.specs.StateText.{read_state, write_keep, write_pair, write_state}
 use Rattle.rules.proofs.StateLaws.{Valid, valid_was, values_few}
@@ -246,12 +246,3 @@ state_short s e =
     let g = v.map_fits in
     rw (state_text s, text_append k p)
     (omega (arith, length-append (size_text s) (newline ∷ (lines_text k ++ lines_text p)), length-append (lines_text k) (lines_text p)))
-
--- ---- the first state
-
--- its text is one line, which a C program writes for its first call: no entries, the time 0 and the
--- label
-pub first_text : (label : Bytes) → length label ≤ label_limit
-    → write_state (new_state label).state ≡ line (ascii "size" ∷ ascii "0" ∷ ascii "0" ∷ hex_field label ∷ [])
-unfolding write_state new_state empty_state write_line write_fields write_field decimal decimal_from ascii choose flat_map
-first_text label h = rw (le-leb (length label) label_limit h) (append-nil _ ∙ append-nil _)

@@ -170,15 +170,11 @@ read_rest search identifier label n (l ∷ ls) = do
 unfoldable pub read_kind_line : Kind → Bytes → Option (Kind × Read (kt_form search))
 read_kind_line kind l = map (λ (r : Read (kt_form search)). (kind, r)) (read_line (kt_form kind) l)
 
--- a first line, of either kind
-abbrev pub read_kt : Bytes → Option (Kind × Read (kt_form search))
-read_kt l = or_else (read_kind_line search l) (read_kind_line monitor l)
-
 unfoldable pub read_parts : List Bytes → Option Parts
 read_parts [] = none
 read_parts (l ∷ []) = none
 read_parts (l ∷ h ∷ ls) = do
-  (kind, (identifier, (label, _))) ← read_kt l
+  (kind, (identifier, (label, _))) ← or_else (read_kind_line search l) (read_kind_line monitor l)
   (n, _) ← read_line head_form h
   read_rest kind identifier label n ls
 

@@ -46,13 +46,9 @@ is_valid s =
     ∷ all (λ (v : ℕ). leb v greatest_version) (versions s.monitoring_map)
     ∷ [])
 
--- the values that it keeps are bytes
-abbrev pub HasByteValues : State → Type 0
-HasByteValues s = (v : Bytes) → Memᴰ v s.log.values → AreBytes v
-
--- and so is its label
+-- its label and values are bytes
 abbrev pub HasBytes : State → Type 0
-HasBytes s = AreBytes s.label × HasByteValues s
+HasBytes s = AreBytes s.label × ((v : Bytes) → Memᴰ v s.log.values → AreBytes v)
 
 unfoldable pub empty_state : Bytes → State
 empty_state label =

@@ -3,7 +3,9 @@ pub mod AnswerLineLaws
 pub mod FilesLaws
 pub mod ByHandLaws
 pub mod HeldLaws
-pub mod ReaderLaws
-pub mod ClaimsLaws
-pub mod ClaimsReadLaws
-pub mod ClaimsExamples
+pub mod ReaderTakenLaws
+pub mod CursorAskedLaws
+pub mod ReaderMadeLaws
+pub mod ReaderPastLaws
+pub mod ReadOnLaws
+pub mod ReadOnExamples

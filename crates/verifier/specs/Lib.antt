@@ -1,4 +1,3 @@
 pub mod Reading
-pub mod Claims
 pub mod Request
 pub mod Files

@@ -1,7 +1,6 @@
-// The verifier: what the program makes of its files, and the reader through which it reads the
-// first lines of a response.
+// The verifier: what the program makes of its files, and the reader that it reads a response on
+// with.
 mod answer_line;
-pub mod claims;
 pub mod files;
 pub mod reading;
 mod request;

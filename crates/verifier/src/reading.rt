@@ -1,12 +1,11 @@
 // A text kept together with an offset in it (paper 01, Response lines): the reader through which
-// the program reads the first lines of a response.
+// the program reads a response on, line by line.
 ghost use Rattle.std.specs.Prelude.{◌≡◌};
-ghost use Rattle.lines.specs.Cursor.{line_at, past};
+ghost use Rattle.lines.specs.Cursor.{left_at, line_at, past};
 ghost use Rattle.lines.specs.Readings.{line_of};
-ghost use Rattle.verifier.specs.Reading.{text_of_line};
+ghost use Rattle.verifier.specs.Reading.{read_on, read_on_of};
 
 use lines::cursor::{Cursor, NextLine};
-use lines::part::Part;
 
 // A text, and an offset from which it is read on.
 #[derive(Drop)]
@@ -15,12 +14,20 @@ pub struct Reader<'a> {
     at: usize,
 }
 
+// A line that was read, the reader's offset after it, and how many bytes are left from there on.
+#[derive(Drop)]
+pub struct ReadOn {
+    pub line: NextLine,
+    pub offset: usize,
+    pub left: usize,
+}
+
 impl<'a> Reader<'a> {
-    // The reader of a text from its beginning on.
-    pub fn new(text: &'a [u8]) -> Reader<'a>
-        ensures { (result.text ≡ text.entry) × (result.at ≡ 0) }
+    // The reader of a text from an offset on.
+    pub fn new(text: &'a [u8], at: usize) -> Reader<'a>
+        ensures { (result.text ≡ text.entry) × (result.at ≡ at) }
     {
-        Reader { text, at: 0 }
+        Reader { text, at }
     }
 
     // The line that begins at the offset.
@@ -28,13 +35,6 @@ impl<'a> Reader<'a> {
         ensures { line_of result ≡ line_at self.entry.text.now self.entry.at }
     {
         Cursor { at: self.at }.line(self.text)
-    }
-
-    // The line that was read at the offset, as a part of the text; none, where no newline ended it.
-    pub fn text_of(self, line: NextLine) -> &'a [u8]
-        ensures { result.now ≡ text_of_line self.entry.text.now self.entry.at (line_of line) }
-    {
-        text_of_line(self.text, self.at, line)
     }
 
     // The reader after a line that was read at the offset; at the offset, where no newline ended
@@ -55,14 +55,25 @@ impl<'a> Reader<'a> {
     {
         self.at
     }
+
+    // The number of bytes from the offset on.
+    pub fn left(self) -> usize
+        ensures { result ≡ left_at self.entry.text.now self.entry.at }
+    {
+        Cursor { at: self.at }.left(self.text)
+    }
 }
 
-// The bytes of a line that was read at an offset of a text; none, where no newline ended it.
-fn text_of_line(text: &[u8], at: usize, line: NextLine) -> &[u8]
-    ensures { result.now ≡ text_of_line text.now at (line_of line) }
+// Reads the line that begins at an offset of a text, and goes after it.
+pub fn read_on(text: &[u8], at: usize) -> ReadOn
+    ensures { read_on_of result ≡ read_on text.now at }
 {
-    match line {
-        NextLine::Ended { stop, next: _ } => Part { start: at, stop }.of(text),
-        NextLine::Unread => &text[0..0],
+    let reader = Reader::new(text, at);
+    let line = reader.line();
+    let after = reader.past(line);
+    ReadOn {
+        line,
+        offset: after.offset(),
+        left: after.left(),
     }
 }

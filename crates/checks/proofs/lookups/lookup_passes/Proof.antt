@@ -19,7 +19,7 @@ start F = F.before.before.before.before.before
 within : (F : tie.After-find-output) → F.find-output.result.index < records_capacity
 within F =
     let short = (start F).requires.1.1.0 in
-    found_below _ _ records_capacity _ (omega arith) (omega (arith, short)) F.find-output.ensures
+    found_below _ _ records_capacity _ (omega arith) (omega (arith, short)) F.find-output.ensures.1
 
 find-output-requires : tie.Need-find-output-requires
 find-output-requires c κs = search rules
@@ -32,7 +32,7 @@ returns c =
     let E = c.before.before in
     let F = E.before.before.before.before.before in
     let p = (start F).requires in
-    passes-untried _ _ _ _ _ _ _ _ _ p.0 F.find-output.ensures p.1.0 E.enum_told.given.1
+    passes-untried _ _ _ _ _ _ _ _ _ p.0 F.find-output.ensures.0 p.1.0 E.enum_told.given.1
     E.before.before.if1.true c.if2.true
 
 lookup-reaches-requires : tie.Need-lookup-reaches-requires
@@ -43,7 +43,7 @@ returns-2 c =
     let E = c.before.before.before.before.before in
     let F = E.before.before.before.before.before in
     let p = (start F).requires in
-    passes-target _ _ _ _ _ _ _ _ _ p.0 F.find-output.ensures p.1.0 E.enum_told.given.1
+    passes-target _ _ _ _ _ _ _ _ _ p.0 F.find-output.ensures.0 p.1.0 E.enum_told.given.1
     c.before.if3.true _ c.lookup-reaches.ensures
 
 enum-told-2 : tie.Need-enum-told-2
@@ -76,10 +76,10 @@ returns-3 c =
     let p = (start F).requires in
     ⊎_elim
     (λ (_, told, _, above, _, other).
-    passes-below _ _ _ _ _ _ _ _ _ p.0 F.find-output.ensures p.1.0 _ _ W.value_at.ensures
+    passes-below _ _ _ _ _ _ _ _ _ p.0 F.find-output.ensures.0 p.1.0 _ _ W.value_at.ensures
     c.lookup-reaches2.ensures told.given.1 (omega (arith, above.left, other.left)))
     (λ (_, told).
-    passes-monitored _ _ _ _ _ _ _ _ _ p.0 F.find-output.ensures p.1.0 _ _ W.value_at.ensures
+    passes-monitored _ _ _ _ _ _ _ _ _ p.0 F.find-output.ensures.0 p.1.0 _ _ W.value_at.ensures
     c.lookup-reaches2.ensures told.given.1)
     M.match.branch
 
@@ -90,7 +90,7 @@ returns-4 : tie.Need-returns-4
 returns-4 c =
     let F = c.before.before.before.before in
     let p = (start F).requires in
-    passes-absent _ _ _ _ _ _ _ _ _ p.0 F.find-output.ensures p.1.0 c.before.if1.false _ _
+    passes-absent _ _ _ _ _ _ _ _ _ p.0 F.find-output.ensures.0 p.1.0 c.before.if1.false _ _
     c.lookup-reaches3.ensures
 
 pub lookup-passes-spec : {M : Type 1} → statement M

@@ -1,15 +1,14 @@
 -- `checks::readings::read_call` meets its contract: what a call is given is read in the order of
 -- the refusals.
-use mathlib.Core.Path.{◌≡◌, sym, ◌∙◌, ap}
+use mathlib.Core.Path.{◌≡◌, sym, ◌∙◌, ap, subst}
 use mathlib.Core.Bool.{true}
 use mathlib.Core.Option.{some}
 use borrow.Author.Tests.{not-true, not-false}
 use Rattle.lists.specs.Choice.{is_some}
 use Rattle.rules.specs.Configuration.{read_configuration}
 use Rattle.rules.specs.VrfOutputs.{read_outputs}
-use Rattle.inputs.specs.Configuration.{configuration_in}
-use Rattle.inputs.proofs.ConfigurationReadingLaws.{none_read, parts-read}
-use Rattle.inputs.proofs.ResponseAnswerLaws.{response-not, response-was}
+use Rattle.inputs.specs.Configuration.{configuration_in, configuration_of}
+use Rattle.inputs.specs.Response.{parts_of, Offsets}
 use Rattle.checks.specs.Calls.{are_lengths_fit}
 use Rattle.checks.proofs.ReadingsLaws.{inputs_long, inputs-unconfigured, inputs-invalid}
 use Rattle.checks.proofs.ReadingsLaws.{inputs-outputless, inputs-broken, inputs_read}
@@ -40,8 +39,7 @@ lengths L = sym (not-false _ L.if1.false) ∙ L.before.lengths-fit.ensures
 configured : (K : tie.After-known-told)
     → let s = (start (before2 K)).args.configuration.now in
     read_configuration s ≡ some (configuration_in s K.before.settings.given.0.0)
-configured K =
-    parts-read _ _ (sym K.before.settings.given.1 ∙ K.before.before.before.read_configuration_lem.ensures.0)
+configured K = sym K.before.before.before.read_configuration_lem.ensures ∙ ap (configuration_of _) K.before.settings.given.1
 
 -- past 3 the state is valid
 valid : (S : tie.Else2) → (start (before2 (before3 S))).args.valid ≡ true
@@ -69,7 +67,7 @@ enum_told c = search rules
 returns-2 : tie.Need-returns-2
 returns-2 c =
     inputs-unconfigured _ _ _ _ _ _ _ _ _ _ (lengths c.before.before.before)
-    (none_read _ (sym c.enum_told.given.1 ∙ c.before.before.read_configuration_lem.ensures.0))
+    (sym c.before.before.read_configuration_lem.ensures ∙ ap (configuration_of _) c.enum_told.given.1)
 
 returns-3 : tie.Need-returns-3
 returns-3 c =
@@ -101,7 +99,7 @@ returns-5 c =
     let S = before4 O in
     let K = before3 S in
     inputs-broken _ _ _ _ _ _ _ _ _ _ (lengths (before2 K)) _ (configured K) (valid S) (risen O)
-    (response-not _ _ c.before.before.read-response.ensures.0 c.enum-told2.given.1)
+    (sym c.before.before.read-response.ensures.0 ∙ ap (parts_of _) c.enum-told2.given.1)
 
 returns-6 : tie.Need-returns-6
 unfolding configuration_in
@@ -109,9 +107,9 @@ returns-6 c =
     let O = c.before.before.before.before in
     let S = before4 O in
     let K = before3 S in
-    let (e, o) = response-was _ _ c.before.before.before.read-response.ensures.0 _ c.before.r.given.1 in
-    let L = before2 K in
-    inputs_read _ _ _ _ _ _ _ _ _ _ (lengths L) _ (configured K) (valid S) (risen O) (start L).pre _ o e
+    let e = c.before.before.before.read-response.ensures in
+    let q = c.before.r.given.1 in
+    inputs_read _ _ _ _ _ _ _ _ _ _ (lengths (before2 K)) _ (configured K) (valid S) (risen O) (start (before2 K)).requires _ (subst (Offsets _) q e.1) (sym e.0 ∙ ap (parts_of _) q)
 
 pub read-call-spec : {M : Type 1} → statement M
 read-call-spec =

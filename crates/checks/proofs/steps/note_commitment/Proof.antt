@@ -14,7 +14,7 @@ within : (P : tie.Then1) → P.before.find-output.result.index < records_capacit
 within P =
     let f = P.before.find-output in
     let S = P.before.before.before.before in
-    found_below _ _ records_capacity _ (omega arith) (omega (arith, S.requires.1.0)) f.ensures
+    found_below _ _ records_capacity _ (omega arith) (omega (arith, S.requires.1.0)) f.ensures.1
 
 find-output-requires : tie.Need-find-output-requires
 find-output-requires c κs = search rules
@@ -32,10 +32,10 @@ same_length : tie.Need-same-length
 same_length c = search rules
 
 returns : tie.Need-returns
-returns c = noted-found _ _ _ _ _ c.before.find-output.ensures c.if1.true
+returns c = noted-found _ _ _ _ _ c.before.find-output.ensures.0 c.if1.true
 
 returns-2 : tie.Need-returns-2
-returns-2 c = noted-missing _ _ _ _ _ c.before.find-output.ensures c.if1.false
+returns-2 c = noted-missing _ _ _ _ _ c.before.find-output.ensures.0 c.if1.false
 
 pub note-commitment-spec : {M : Type 1} → statement M
 note-commitment-spec =

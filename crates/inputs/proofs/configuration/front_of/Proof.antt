@@ -2,13 +2,11 @@
 -- ends.
 use mathlib.Core.Path.{◌≡◌, sym, ◌∙◌, ap}
 use mathlib.Core.Option.{some}
-use Prim.Native.Nat.{ℕ, ◌+◌}
-use native.Mathlib.Omega.{arith}
 use lib.ListN.{drop}
 use borrow.Author.Rules.{rules}
 use Rattle.lines.specs.Readings.{part_of}
 use Rattle.rules.specs.Encoding.{read_uint, read_opaque}
-use Rattle.inputs.specs.Configuration.{uint8, uint16, key_part, uint_in, opaque_in}
+use Rattle.inputs.specs.Configuration.{uint8, uint16, uint_in, opaque_in}
 use Rattle.inputs.proofs.ConfigurationReadingLaws.{no-suite, no_mode, no-signature-key, no-vrf-key}
 use Rattle.inputs.proofs.ConfigurationReadingLaws.{front-there}
 use Rattle.inputs.proofs.configuration.front_of.Statement.{statement}
@@ -29,14 +27,6 @@ mode-read q =
     let s = q.before.before.before.before.before.before.before.before.args.s.now in
     sym q.before.before.uint-at2.ensures.0 ∙ ap (uint_in s) q.mode.given.1
 
--- both end where the length of the signature key stands
-mode-ends : (q : tie.After-mode) → q.mode.given.0.1.0 ≡ uint16 + uint8
-mode-ends q =
-    let p = q.before.before.before.before in
-    let (a, _) = rw p.suite.given.1 at p.before.before.uint-at.ensures.1 in
-    let (b, _) = rw q.mode.given.1 at q.before.before.uint-at2.ensures.1 in
-    omega arith
-
 -- the signature key, after the mode
 signature-read : (r : tie.After-signature)
     → let q = r.before.before.before.before in
@@ -44,7 +34,7 @@ signature-read : (r : tie.After-signature)
     read_opaque uint16 (drop q.mode.given.0.1.0 s) ≡ some (part_of s r.signature.given.0.0, drop r.signature.given.0.1.0 s)
 signature-read r =
     let s = r.before.before.before.before.before.before.before.before.before.before.before.before.args.s.now in
-    sym r.before.before.opaque-at.ensures.0 ∙ ap (opaque_in s) r.signature.given.1
+    sym r.before.before.opaque-at.ensures ∙ ap (opaque_in s) r.signature.given.1
 
 uint-at-requires : tie.Need-uint-at-requires
 uint-at-requires c κs = search rules
@@ -58,7 +48,7 @@ enum_told c = search rules
 returns : tie.Need-returns
 returns c =
     let s = c.before.before.before.before.args.s.now in
-    (sym (no-suite s (sym c.before.before.uint-at.ensures.0 ∙ ap (uint_in s) c.enum_told.given.1)), tt)
+    sym (no-suite s (sym c.before.before.uint-at.ensures.0 ∙ ap (uint_in s) c.enum_told.given.1))
 
 uint-at-requires-2 : tie.Need-uint-at-requires-2
 uint-at-requires-2 c κs = search rules
@@ -73,8 +63,7 @@ returns-2 : tie.Need-returns-2
 returns-2 c =
     let p = c.before.before.before.before in
     let s = p.before.before.before.before.args.s.now in
-    let n = sym c.before.before.uint-at2.ensures.0 ∙ ap (uint_in s) c.enum-told2.given.1 in
-    (sym (no_mode s _ _ (suite-read p) n), tt)
+    sym (no_mode s _ _ (suite-read p) (sym c.before.before.uint-at2.ensures.0 ∙ ap (uint_in s) c.enum-told2.given.1))
 
 opaque-at-requires : tie.Need-opaque-at-requires
 opaque-at-requires c κs = search rules
@@ -90,8 +79,7 @@ returns-3 c =
     let q = c.before.before.before.before in
     let p = q.before.before.before.before in
     let s = p.before.before.before.before.args.s.now in
-    let n = sym c.before.before.opaque-at.ensures.0 ∙ ap (opaque_in s) c.enum-told3.given.1 in
-    (sym (no-signature-key s _ _ (suite-read p) _ _ (mode-read q) n), tt)
+    sym (no-signature-key s _ _ (suite-read p) _ _ (mode-read q) (sym c.before.before.opaque-at.ensures ∙ ap (opaque_in s) c.enum-told3.given.1))
 
 opaque-at-requires-2 : tie.Need-opaque-at-requires-2
 opaque-at-requires-2 c κs = search rules
@@ -108,8 +96,9 @@ returns-4 c =
     let q = r.before.before.before.before in
     let p = q.before.before.before.before in
     let s = p.before.before.before.before.args.s.now in
-    let n = sym c.before.before.opaque-at2.ensures.0 ∙ ap (opaque_in s) c.enum-told4.given.1 in
-    (sym (no-vrf-key s _ _ (suite-read p) _ _ (mode-read q) _ _ (signature-read r) n), tt)
+    sym
+    (no-vrf-key s _ _ (suite-read p) _ _ (mode-read q) _ _ (signature-read r)
+    (sym c.before.before.opaque-at2.ensures ∙ ap (opaque_in s) c.enum-told4.given.1))
 
 returns-5 : tie.Need-returns-5
 returns-5 c =
@@ -117,15 +106,9 @@ returns-5 c =
     let q = r.before.before.before.before in
     let p = q.before.before.before.before in
     let s = p.before.before.before.before.args.s.now in
-    let v = sym c.before.before.before.opaque-at2.ensures.0 ∙ ap (opaque_in s) c.before.vrf.given.1 in
-    let (k, stop) = rw r.signature.given.1 at r.before.before.opaque-at.ensures.1 in
-    let (l, _) = rw c.before.vrf.given.1 at c.before.before.before.opaque-at2.ensures.1 in (
-      sym (front-there s _ _ (suite-read p) _ _ (mode-read q) _ _ (signature-read r) _ _ v),
-      (
-        k ∙ ap (λ (n : ℕ). key_part n (part_of s r.signature.given.0.0)) (mode-ends q),
-        l ∙ ap (λ (n : ℕ). key_part n (part_of s c.before.vrf.given.0.0)) stop,
-      ),
-    )
+    sym
+    (front-there s _ _ (suite-read p) _ _ (mode-read q) _ _ (signature-read r) _ _
+    (sym c.before.before.before.opaque-at2.ensures ∙ ap (opaque_in s) c.before.vrf.given.1))
 
 pub front-of-spec : {M : Type 1} → statement M
 front-of-spec =

@@ -10,7 +10,6 @@ use Rattle.inputs.specs.Configuration.{lifetime_of, configuration_in, read_front
 use Rattle.inputs.specs.Configuration.{times_in}
 use Rattle.inputs.proofs.ConfigurationReadingLaws.{no_front, no-times, more-after, other-suite}
 use Rattle.inputs.proofs.ConfigurationReadingLaws.{other-mode, configuration-there}
-use Rattle.inputs.proofs.ConfigurationReadingLaws.{answered-none, answered-parts}
 use Rattle.inputs.proofs.configuration.read_configuration.Statement.{statement}
 use Rattle.inputs.proofs.configuration.read_configuration.Tie as tie
 
@@ -19,9 +18,7 @@ front_read : (p : tie.After-suite)
     → let f = p.suite.given.0 in
     let s = p.before.before.before.before.args.s.now in
     read_front s ≡ some (f.0, f.1.0, part_of s f.1.1.0, part_of s f.1.1.1.0, drop f.1.1.1.1.0 s)
-front_read p =
-    let s = p.before.before.before.before.args.s.now in
-    sym p.before.before.front_of.ensures.0 ∙ ap (front_in s) p.suite.given.1
+front_read p = sym p.before.before.front_of.ensures ∙ ap (front_in p.before.before.before.before.args.s.now) p.suite.given.1
 
 -- the times, after them
 times-read : (q : tie.After-ahead)
@@ -45,8 +42,7 @@ enum_told c = search rules
 returns : tie.Need-returns
 returns c =
     let s = c.before.before.before.before.args.s.now in
-    let n = sym c.before.before.front_of.ensures.0 ∙ ap (front_in s) c.enum_told.given.1 in
-    answered-none s (no_front s n)
+    sym (no_front s (sym c.before.before.front_of.ensures ∙ ap (front_in s) c.enum_told.given.1))
 
 times-at-requires : tie.Need-times-at-requires
 times-at-requires c κs = search rules
@@ -61,34 +57,28 @@ returns-2 : tie.Need-returns-2
 returns-2 c =
     let p = c.before.before.before.before in
     let s = p.before.before.before.before.args.s.now in
-    let n = sym c.before.before.times-at.ensures ∙ ap (times_in s) c.enum-told2.given.1 in
-    answered-none s (no-times s _ _ _ _ _ (front_read p) n)
+    sym (no-times s _ _ _ _ _ (front_read p) (sym c.before.before.times-at.ensures ∙ ap (times_in s) c.enum-told2.given.1))
 
 returns-3 : tie.Need-returns-3
 returns-3 c =
     let q = c.before.before in
     let p = q.before.before.before.before in
     let s = p.before.before.before.before.args.s.now in
-    answered-none s
-    (more-after s _ _ _ _ _ (front_read p) _ _ _ _ q.ahead.given.0.1.1.1.1.0 (times-read q) (omega arith))
+    sym (more-after s _ _ _ _ _ (front_read p) _ _ _ _ q.ahead.given.0.1.1.1.1.0 (times-read q) (omega arith))
 
 returns-4 : tie.Need-returns-4
 returns-4 c =
     let q = c.before.before.before in
     let p = q.before.before.before.before in
     let s = p.before.before.before.before.args.s.now in
-    answered-none s
-    (other-suite s _ _ _ _ _ (front_read p) _ _ _ _ q.ahead.given.0.1.1.1.1.0 (times-read q)
-    (omega arith) c.if2.true)
+    sym (other-suite s _ _ _ _ _ (front_read p) _ _ _ _ q.ahead.given.0.1.1.1.1.0 (times-read q) (omega arith) c.if2.true)
 
 returns-5 : tie.Need-returns-5
 returns-5 c =
     let q = c.before.before.before.before in
     let p = q.before.before.before.before in
     let s = p.before.before.before.before.args.s.now in
-    answered-none s
-    (other-mode s _ _ _ _ _ (front_read p) _ _ _ _ q.ahead.given.0.1.1.1.1.0 (times-read q)
-    (omega arith) c.before.if2.false c.if3.true)
+    sym (other-mode s _ _ _ _ _ (front_read p) _ _ _ _ q.ahead.given.0.1.1.1.1.0 (times-read q) (omega arith) c.before.if2.false c.if3.true)
 
 cast-t16 : tie.Need-overflow-cast-t16
 cast-t16 c = search rules
@@ -102,11 +92,7 @@ returns-6 c =
     let q = c.before.before.before.before in
     let p = q.before.before.before.before in
     let s = p.before.before.before.before.args.s.now in
-    let k = rw p.suite.given.1 at p.before.before.front_of.ensures.1 in
-    answered-parts s _
-    (configuration-there s _ _ _ _ _ (front_read p) _ _ _ _ q.ahead.given.0.1.1.1.1.0 (times-read q)
-    (omega arith) c.before.if2.false c.if3.false)
-    k.0 k.1
+    sym (configuration-there s _ _ _ _ _ (front_read p) _ _ _ _ q.ahead.given.0.1.1.1.1.0 (times-read q) (omega arith) c.before.if2.false c.if3.false)
 
 pub read-configuration-spec : {M : Type 1} → statement M
 read-configuration-spec =

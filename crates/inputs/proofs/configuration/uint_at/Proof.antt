@@ -8,15 +8,13 @@ use Rattle.inputs.proofs.configuration.uint_at.Statement.{statement}
 use Rattle.inputs.proofs.configuration.uint_at.Tie as tie
 
 returns : tie.Need-returns
-returns c = let a = c.before.before.args in (sym (no-uint a.s.now a.at a.width (omega arith)), tt)
+returns c = let a = c.before.before.args in (sym (no-uint a.s.now a.at a.width (omega arith)), omega arith)
 
 sub-if2 : tie.Need-overflow-sub-if2
 sub-if2 c = search rules
 
 returns-2 : tie.Need-returns-2
-returns-2 c =
-    let a = c.before.before.before.args in
-    (sym (no-uint a.s.now a.at a.width (omega arith)), tt)
+returns-2 c = let a = c.before.before.before.args in (sym (no-uint a.s.now a.at a.width (omega arith)), omega arith)
 
 add-next : tie.Need-overflow-add-next
 add-next c = search rules
@@ -36,10 +34,7 @@ uint-of-requires c κs = search rules
 returns-3 : tie.Need-returns-3
 returns-3 c =
     let a = c.before.before.before.before.before.args in
-    let n = c.uint-of in (
-      sym (uint-there a.s.now a.at a.width _ n.result refl (omega arith) n.ensures),
-      (refl, omega arith),
-    )
+    (sym (uint-there a.s.now a.at a.width _ c.uint-of.result refl (omega arith) c.uint-of.ensures), omega arith)
 
 pub uint-at-spec : {M : Type 1} → statement M
 uint-at-spec =

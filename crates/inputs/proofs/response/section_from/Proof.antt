@@ -11,7 +11,6 @@ use Rattle.inputs.specs.ResponseSections.{read_role}
 use Rattle.inputs.proofs.ResponseLaws.{from-was}
 use Rattle.inputs.proofs.ResponseSectionLaws.{role_told, Running, running-start, running-begins}
 use Rattle.inputs.proofs.ResponseSectionLaws.{running-continues, running-ends}
-use Rattle.inputs.proofs.ResponsePlaceLaws.{section_one}
 use borrow.Author.Rules.{rules}
 use Rattle.inputs.proofs.response.section_from.Statement.{statement}
 use Rattle.inputs.proofs.response.section_from.Tie as tie
@@ -73,8 +72,7 @@ enum-told-3 c = search rules
 returns : tie.Need-returns invariant-loop decreases-loop
 returns c =
     let P = c.before.before in
-    let e = sym P.role-from.ensures ∙ role_told P.role-from.result _ c.enum-told3.given.1 in
-    section_one _ _ _ _ (running-ends _ _ _ _ _ P.before.loop.invariant.2 e)
+    running-ends _ _ _ _ _ P.before.loop.invariant.2 (sym P.role-from.ensures ∙ role_told P.role-from.result _ c.enum-told3.given.1)
 
 pub section-from-spec : {M : Type 1} → statement M
 section-from-spec =

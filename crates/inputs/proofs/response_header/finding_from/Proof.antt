@@ -1,8 +1,8 @@
 -- `inputs::response_header::finding_from` meets its contract: the kind says whether a target line
 -- is read.
 use mathlib.Core.Path.{refl}
-use Rattle.inputs.specs.Response.{target_part}
-use Rattle.inputs.specs.ResponseHeader.{read_finding, found_as}
+use Rattle.inputs.specs.Response.{finding_in}
+use Rattle.inputs.specs.ResponseHeader.{read_finding}
 use borrow.Author.Rules.{rules}
 use Rattle.inputs.proofs.response_header.finding_from.Statement.{statement}
 use Rattle.inputs.proofs.response_header.finding_from.Tie as tie
@@ -11,7 +11,7 @@ enum_told : tie.Need-enum-told
 enum_told c = search rules
 
 target-from-requires : tie.Need-target-from-requires
-target-from-requires c κs = c.before.before.before.requires
+target-from-requires c κs = search rules
 
 enum-told-2 : tie.Need-enum-told-2
 enum-told-2 c = search rules
@@ -23,8 +23,8 @@ returns : tie.Need-returns
 returns c = rw c.before.enum_told.given.1 c.target-from.ensures
 
 returns-2 : tie.Need-returns-2
-unfolding read_finding found_as target_part
-returns-2 c = rw (c.before.enum-told2.given.1, c.no_target.ensures) refl
+unfolding finding_in read_finding
+returns-2 c = rw c.before.enum-told2.given.1 (refl, tt)
 
 pub finding-from-spec : {M : Type 1} → statement M
 finding-from-spec =

@@ -6,18 +6,17 @@ use native.Mathlib.Omega.{arith}
 use Rattle.lines.specs.Cursor.{line_at}
 use Rattle.lines.specs.Readings.{line_of}
 use Rattle.lines.proofs.SectionLaws.{line_here}
-use Rattle.rules.specs.ResponseText.{read_kt}
+use Rattle.inputs.specs.ResponseLines.{kt_of}
+use Rattle.inputs.specs.ResponseHeader.{read_kt}
 use Rattle.inputs.proofs.ResponseLaws.{from-open, from_none}
-use Rattle.inputs.proofs.ResponsePartLaws.{kt-not}
-use Rattle.inputs.proofs.ResponseFieldLaws.{kt_opened, kt_unopened}
+use Rattle.inputs.proofs.ResponseFieldLaws.{line_opened, opened_decodes}
 use borrow.Author.Rules.{rules}
 use Rattle.inputs.proofs.response_header.kt_from.Statement.{statement}
 use Rattle.inputs.proofs.response_header.kt_from.Tie as tie
 
 -- the line that was found
 line : (P : tie.After-known-told)
-    → let v = P.before.stop.given.0 in
-    line_at P.before.before.before.before.before.args.text.now 0 ≡ some (v.0, v.1.0.at)
+    → line_at P.before.before.before.before.before.args.text.now 0 ≡ some (P.before.stop.given.0.0, P.before.stop.given.0.1.0.at)
 line P = sym P.before.before.before.line.ensures ∙ ap line_of P.before.stop.given.1
 
 line-requires : tie.Need-line-requires
@@ -50,18 +49,18 @@ enum-told-2 c = search rules
 returns : tie.Need-returns
 returns c =
     let P = c.before.before.before in
-    kt_opened _ _ _ _ _ _ _ (line P.before.before) P.kt_line.ensures c.before.kind.given.1
+    let r = P.kt_line.ensures in
+    let k = c.before.kind.given.1 in
+    let e = line P.before.before in
+    (line_opened _ _ _ _ _ _ _ e r.0 r.1 k, opened_decodes _ _ _ _ _ _ _ e r.1 k)
 
 returns-2 : tie.Need-returns-2
 returns-2 c =
     let P = c.before.before in
-    let q = kt-not _ _ _ P.kt_line.ensures c.enum_told.given.1 in
-    kt_unopened _ (from_none read_kt _ _ _ _ (line P.before.before) q)
+    (sym (from_none read_kt _ _ _ _ (line P.before.before) (sym P.kt_line.ensures.0 ∙ ap (kt_of _) c.enum_told.given.1)), tt)
 
 returns-3 : tie.Need-returns-3
-returns-3 c =
-    let e = sym c.before.before.line.ensures ∙ ap line_of c.enum-told2.given.1 in
-    kt_unopened _ (from-open read_kt _ _ e)
+returns-3 c = (sym (from-open read_kt _ _ (sym c.before.before.line.ensures ∙ ap line_of c.enum-told2.given.1)), tt)
 
 pub kt-from-spec : {M : Type 1} → statement M
 kt-from-spec =

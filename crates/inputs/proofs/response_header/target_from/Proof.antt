@@ -8,10 +8,10 @@ use Rattle.lines.specs.Cursor.{line_at}
 use Rattle.lines.specs.Readings.{line_of}
 use Rattle.lines.proofs.SectionLaws.{line_here}
 use Rattle.rules.specs.ResponseText.{target_form}
-use Rattle.inputs.specs.Places.{line_start, shifted}
+use Rattle.inputs.specs.ResponseLines.{target_of}
 use Rattle.inputs.proofs.ResponseLaws.{from-open, from_none}
-use Rattle.inputs.proofs.ResponsePartLaws.{target-not}
-use Rattle.inputs.proofs.ResponseFieldLaws.{TargetWithin, target_unfound, target-within, target_found}
+use Rattle.inputs.proofs.ResponseFieldLaws.{TargetWithin, target_unfound, target-within}
+use Rattle.inputs.proofs.ResponseFieldLaws.{target-decodes, target_found}
 use borrow.Author.Rules.{rules}
 use Rattle.inputs.proofs.response_header.target_from.Statement.{statement}
 use Rattle.inputs.proofs.response_header.target_from.Tie as tie
@@ -22,19 +22,13 @@ line : (P : tie.After-known-told)
     line_at a.text.now a.at ≡ some (P.before.stop.given.0.0, P.before.stop.given.0.1.0.at)
 line P = sym P.before.before.before.line.ensures ∙ ap line_of P.before.stop.given.1
 
--- it is the third of the text
-third : (P : tie.After-known-told)
-    → let a = P.before.before.before.before.before.args in a.at ≡ line_start a.text.now 2
-third P = P.before.before.before.before.before.requires
-
 -- its fields stand within the text
 within : (P : tie.After-known-told2)
     → let a = P.before.before.before.before.before.before.before.before.before.before.args in
     TargetWithin a.text.now a.at P.before.t.given.0.0
 within P =
     let Q = P.before.before.before in
-    let L = Q.before.before in
-    target-within _ _ _ _ _ _ (line L) Q.target_line.ensures P.before.t.given.1 (third L)
+    target-within _ _ _ _ _ _ (line Q.before.before) Q.target_line.ensures.1 P.before.t.given.1
 
 line-requires : tie.Need-line-requires
 line-requires c κs = search rules
@@ -76,23 +70,22 @@ enum-told-2 : tie.Need-enum-told-2
 enum-told-2 c = search rules
 
 returns : tie.Need-returns
-unfolding shifted
 returns c =
     let P = c.before.before.before.before.before.before in
     let Q = P.before.before.before in
-    let L = Q.before.before in
-    target_found _ _ _ _ _ _ (line L) Q.target_line.ensures P.before.t.given.1 (third L)
+    let r = Q.target_line.ensures in
+    let e = line Q.before.before in
+    let k = P.before.t.given.1 in
+    (target_found _ _ _ _ _ _ e r.1 k r.0, target-decodes _ _ _ _ _ _ e r.1 k)
 
 returns-2 : tie.Need-returns-2
 returns-2 c =
     let P = c.before.before in
-    let q = target-not _ _ _ P.target_line.ensures c.enum_told.given.1 in
-    target_unfound _ _ (from_none (read_line target_form) _ _ _ _ (line P.before.before) q)
+    let e = sym P.target_line.ensures.0 ∙ ap (target_of _) c.enum_told.given.1 in
+    (sym (target_unfound _ _ (from_none (read_line target_form) _ _ _ _ (line P.before.before) e)), tt)
 
 returns-3 : tie.Need-returns-3
-returns-3 c =
-    let e = sym c.before.before.line.ensures ∙ ap line_of c.enum-told2.given.1 in
-    target_unfound _ _ (from-open (read_line target_form) _ _ e)
+returns-3 c = (sym (target_unfound _ _ (from-open (read_line target_form) _ _ (sym c.before.before.line.ensures ∙ ap line_of c.enum-told2.given.1))), tt)
 
 pub target-from-spec : {M : Type 1} → statement M
 target-from-spec =

@@ -11,8 +11,8 @@ use Rattle.lines.specs.Readings.{next_number_of}
 use Rattle.lines.proofs.FormLaws.{read-number-on, field_off, field-given}
 use Rattle.rules.specs.Limits.{number_bound, hash_length}
 use Rattle.rules.specs.ResponseText.{read_entry_line}
-use Rattle.inputs.proofs.ResponseLineLaws.{number-off, number-given, entry_given}
-use Rattle.inputs.proofs.ResponsePartLaws.{last-given, last-missing}
+use Rattle.inputs.proofs.ResponseLineLaws.{number-off, number-given, last-given, last-missing}
+use Rattle.inputs.proofs.ResponseLineLaws.{entry_given}
 use borrow.Author.Rules.{rules}
 use Rattle.inputs.proofs.response_lines.is_entry.Statement.{statement}
 use Rattle.inputs.proofs.response_lines.is_entry.Tie as tie
@@ -78,12 +78,12 @@ enum-told-3 c = search rules
 
 returns-3 : tie.Need-returns-3
 returns-3 c =
-    let e = last-missing _ _ _ _ c.before.before.last-bytes.ensures c.enum-told3.given.1 in
+    let e = last-missing _ _ _ _ c.before.before.last-bytes.ensures.0 c.enum-told3.given.1 in
     sym (hash-given c.before.before.before.before ∙ e)
 
 returns-4 : tie.Need-returns-4
 returns-4 c =
-    let e = last-given _ _ _ _ c.before.before.before.last-bytes.ensures _ _ c.before.length.given.1 in
+    let e = last-given _ _ _ _ c.before.before.before.last-bytes.ensures.0 _ _ c.before.length.given.1 in
     sym (hash-given c.before.before.before.before.before ∙ e)
 
 pub is-entry-spec : {M : Type 1} → statement M

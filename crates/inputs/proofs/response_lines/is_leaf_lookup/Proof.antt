@@ -12,8 +12,8 @@ use Rattle.lines.specs.Cursor.{fields_from}
 use Rattle.lines.specs.Readings.{next_number_of}
 use Rattle.rules.specs.Limits.{vrf_output_length, hash_length}
 use Rattle.rules.specs.ResponseText.{siblings_field, nl_form}
+use Rattle.inputs.specs.ResponseLines.{next_part_of}
 use Rattle.inputs.proofs.ResponseLineLaws.{number-off, number-given}
-use Rattle.inputs.proofs.ResponsePartLaws.{next-was, next-missing}
 use borrow.Author.Rules.{rules}
 use Rattle.inputs.proofs.response_lines.is_leaf_lookup.Statement.{statement}
 use Rattle.inputs.proofs.response_lines.is_leaf_lookup.Tie as tie
@@ -33,7 +33,7 @@ commitment-given : (P : tie.After-next2)
     → let l = P.before.before.before.before.before.before.before.before.before.args.l.now in
     is_some (read_line nl_form l) ≡ is_some (read_fields (exactly hash_length ∷ siblings_field ∷ []) (fields_from l P.next2.given.0.1.0.at))
 commitment-given P =
-    let (_, e, _) = next-was _ _ _ _ P.before.before.next-part.ensures _ _ P.next2.given.1 in
+    let e = sym P.before.before.next-part.ensures.0 ∙ ap (next_part_of _) P.next2.given.1 in
     output-given P.before.before.before.before ∙ field-given _ (exactly vrf_output_length) (exactly hash_length ∷ siblings_field ∷ []) _ _ _ e
 
 -- after the commitment if the siblings are
@@ -41,7 +41,7 @@ siblings-given : (P : tie.After-next3)
     → let l = P.before.before.before.before.before.before.before.before.before.before.before.before.before.args.l.now in
     is_some (read_line nl_form l) ≡ is_some (read_fields (siblings_field ∷ []) (fields_from l P.next3.given.0.1.0.at))
 siblings-given P =
-    let (_, e, _) = next-was _ _ _ _ P.before.before.next-part2.ensures _ _ P.next3.given.1 in
+    let e = sym P.before.before.next-part2.ensures.0 ∙ ap (next_part_of _) P.next3.given.1 in
     commitment-given P.before.before.before.before ∙ field-given _ (exactly hash_length) (siblings_field ∷ []) _ _ _ e
 
 slice-aggregate-number-after : tie.Need-slice-aggregate-number-after
@@ -76,7 +76,7 @@ enum-told-2 c = search rules
 
 returns-2 : tie.Need-returns-2
 returns-2 c =
-    let e = next-missing _ _ _ _ c.before.before.next-part.ensures c.enum-told2.given.1 in
+    let e = sym c.before.before.next-part.ensures.0 ∙ ap (next_part_of _) c.enum-told2.given.1 in
     sym (output-given c.before.before.before.before ∙ none_given _ (field_off _ (exactly vrf_output_length) (exactly hash_length ∷ siblings_field ∷ []) _ e))
 
 next-part-requires-2 : tie.Need-next-part-requires-2
@@ -90,7 +90,7 @@ enum-told-3 c = search rules
 
 returns-3 : tie.Need-returns-3
 returns-3 c =
-    let e = next-missing _ _ _ _ c.before.before.next-part2.ensures c.enum-told3.given.1 in
+    let e = sym c.before.before.next-part2.ensures.0 ∙ ap (next_part_of _) c.enum-told3.given.1 in
     sym (commitment-given c.before.before.before.before ∙ none_given _ (field_off _ (exactly hash_length) (siblings_field ∷ []) _ e))
 
 ends-with-siblings-requires : tie.Need-ends-with-siblings-requires

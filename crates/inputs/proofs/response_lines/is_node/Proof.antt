@@ -10,8 +10,7 @@ use Rattle.lines.specs.Cursor.{fields_from}
 use Rattle.lines.specs.Readings.{word_of}
 use Rattle.rules.specs.Limits.{hash_length}
 use Rattle.rules.specs.ResponseText.{read_node}
-use Rattle.inputs.proofs.ResponseLineLaws.{node_given}
-use Rattle.inputs.proofs.ResponsePartLaws.{last-given, last-missing}
+use Rattle.inputs.proofs.ResponseLineLaws.{last-given, last-missing, node_given}
 use borrow.Author.Rules.{rules}
 use Rattle.inputs.proofs.response_lines.is_node.Statement.{statement}
 use Rattle.inputs.proofs.response_lines.is_node.Tie as tie
@@ -54,12 +53,12 @@ enum-told-2 c = search rules
 
 returns-2 : tie.Need-returns-2
 returns-2 c =
-    let e = last-missing _ _ _ _ c.before.before.last-bytes.ensures c.enum-told2.given.1 in
+    let e = last-missing _ _ _ _ c.before.before.last-bytes.ensures.0 c.enum-told2.given.1 in
     sym (hash-given c.before.before.before.before ∙ e)
 
 returns-3 : tie.Need-returns-3
 returns-3 c =
-    let e = last-given _ _ _ _ c.before.before.before.last-bytes.ensures _ _ c.before.length.given.1 in
+    let e = last-given _ _ _ _ c.before.before.before.last-bytes.ensures.0 _ _ c.before.length.given.1 in
     sym (hash-given c.before.before.before.before.before ∙ e)
 
 pub is-node-spec : {M : Type 1} → statement M

@@ -10,8 +10,8 @@ use Rattle.lines.specs.Field.{read_fields}
 use Rattle.lines.specs.Cursor.{fields_from}
 use Rattle.lines.specs.Readings.{next_number_of}
 use Rattle.rules.specs.ResponseText.{commitment_field, read_step}
-use Rattle.inputs.proofs.ResponseLineLaws.{number-off, number-given, step_given}
-use Rattle.inputs.proofs.ResponsePartLaws.{last-given, last-missing}
+use Rattle.inputs.proofs.ResponseLineLaws.{number-off, number-given, last-given, last-missing}
+use Rattle.inputs.proofs.ResponseLineLaws.{step_given}
 use borrow.Author.Rules.{rules}
 use Rattle.inputs.proofs.response_lines.is_step.Statement.{statement}
 use Rattle.inputs.proofs.response_lines.is_step.Tie as tie
@@ -57,17 +57,17 @@ enum-told-2 c = search rules
 
 returns-2 : tie.Need-returns-2
 returns-2 c =
-    let e = last-missing _ _ _ _ c.before.before.last-bytes.ensures c.enum-told2.given.1 in
+    let e = last-missing _ _ _ _ c.before.before.last-bytes.ensures.0 c.enum-told2.given.1 in
     sym (commitment-given c.before.before.before.before ∙ e)
 
 returns-3 : tie.Need-returns-3
 returns-3 c =
-    let e = last-given _ _ _ _ c.before.before.before.before.last-bytes.ensures _ _ c.before.before.length.given.1 in
+    let e = last-given _ _ _ _ c.before.before.before.before.last-bytes.ensures.0 _ _ c.before.before.length.given.1 in
     sym (commitment-given c.before.before.before.before.before.before ∙ e ∙ rw (eq-eqb _ _ c.if1.true) refl)
 
 returns-4 : tie.Need-returns-4
 returns-4 c =
-    let e = last-given _ _ _ _ c.before.before.before.before.last-bytes.ensures _ _ c.before.before.length.given.1 in
+    let e = last-given _ _ _ _ c.before.before.before.before.last-bytes.ensures.0 _ _ c.before.before.length.given.1 in
     sym (commitment-given c.before.before.before.before.before.before ∙ e ∙ rw (ne_eqb _ _ c.if1.false) refl)
 
 pub is-step-spec : {M : Type 1} → statement M

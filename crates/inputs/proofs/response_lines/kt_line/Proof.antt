@@ -1,8 +1,8 @@
 -- `inputs::response_lines::kt_line` meets its contract: the line is read as one of a search, else
 -- as one of monitoring.
-use mathlib.Core.Path.{refl, ◌∙◌}
+use mathlib.Core.Path.{refl}
+use Rattle.lists.specs.Choice.{or_else}
 use Rattle.lines.specs.Number.{ascii}
-use Rattle.inputs.proofs.ResponsePartLaws.{first_kind, other-kind}
 use borrow.Author.Rules.{rules}
 use Rattle.inputs.proofs.response_lines.kt_line.Statement.{statement}
 use Rattle.inputs.proofs.response_lines.kt_line.Tie as tie
@@ -28,12 +28,17 @@ unfolding ascii
 kind-line-requires-2 c κs = refl
 
 returns : tie.Need-returns
-returns c = first_kind _ _ _ c.before.before.before.kind_line_lem.ensures _ _ _ _ c.before.kind.given.1
+unfolding or_else
+returns c =
+    let r = c.before.before.before.kind-line in
+    let e = c.before.kind.given.1 in
+    (rw (← r.ensures.0, e) refl, rw e at r.ensures.1)
 
 returns-2 : tie.Need-returns-2
+unfolding or_else
 returns-2 c =
-    let P = c.before.before in
-    c.kind-line2.ensures ∙ other-kind _ _ _ P.before.before.kind_line_lem.ensures _ P.enum_told.given.1
+    let r = c.kind-line2.ensures in
+    (rw (← c.before.before.before.before.kind-line.ensures.0, c.before.before.enum_told.given.1) r.0, r.1)
 
 pub kt-line-spec : {M : Type 1} → statement M
 kt-line-spec =

@@ -8,7 +8,7 @@ use Rattle.lines.specs.Hex.{decoded_length}
 use Rattle.lines.specs.Cursor.{read_at}
 use Rattle.lines.specs.Readings.{next_bytes_of}
 use Rattle.lines.proofs.FormLaws.{bytes-unfit, bytes-none}
-use Rattle.inputs.proofs.ResponsePartLaws.{field-before, part-read, part_none}
+use Rattle.inputs.proofs.ResponseLineLaws.{part-stands, part-read}
 use borrow.Author.Rules.{rules}
 use Rattle.inputs.proofs.response_lines.next_part.Statement.{statement}
 use Rattle.inputs.proofs.response_lines.next_part.Tie as tie
@@ -29,18 +29,18 @@ enum_told : tie.Need-enum-told
 enum_told c = search rules
 
 returns : tie.Need-returns
-returns c =
-    let e = sym c.before.before.bytes.ensures ∙ ap next_bytes_of c.enum_told.given.1 in
-    part_none _ _ _ (bytes-none _ _ _ e)
+returns c = (sym (bytes-none _ _ _ (sym c.before.before.bytes.ensures ∙ ap next_bytes_of c.enum_told.given.1)), tt)
 
 returns-2 : tie.Need-returns-2
-returns-2 c = part_none _ _ _ (bytes-unfit _ _ _ _ _ (decoded-here c.before.before) (ne_eqb _ _ c.if1.true))
+returns-2 c = (sym (bytes-unfit _ _ _ _ _ (decoded-here c.before.before) (ne_eqb _ _ c.if1.true)), tt)
 
 sub-t9 : tie.Need-overflow-sub-t9
-sub-t9 c = let p = field-before _ _ _ _ (decoded-here c.before.before.before) in omega arith
+sub-t9 c = let p = (part-stands _ _ _ _ (decoded-here c.before.before.before)).0 in omega arith
 
 returns-3 : tie.Need-returns-3
-returns-3 c = part-read _ _ _ _ (decoded-here c.before.before.before) _ (eq-eqb _ _ c.before.if1.false)
+returns-3 c =
+    let e = decoded-here c.before.before.before in
+    (sym (part-read _ _ _ _ e _ (eq-eqb _ _ c.before.if1.false)), (part-stands _ _ _ _ e).1)
 
 pub next-part-spec : {M : Type 1} → statement M
 next-part-spec =

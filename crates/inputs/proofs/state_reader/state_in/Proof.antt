@@ -1,6 +1,8 @@
 -- `inputs::state_reader::state_in` meets its contract: the struct is that of the state, or one
 -- whose label is too long.
-use Rattle.inputs.proofs.StateInLaws.{text-broken, text-held}
+use mathlib.Core.Path.{sym, ◌∙◌}
+use native.Mathlib.Omega.{arith}
+use Rattle.inputs.proofs.StateInLaws.{label_over, text-broken, text-held}
 use borrow.Author.Rules.{rules}
 use Rattle.inputs.proofs.state_reader.state_in.Statement.{statement}
 use Rattle.inputs.proofs.state_reader.state_in.Tie as tie
@@ -14,7 +16,7 @@ add-over c = search rules
 returns : tie.Need-returns
 returns c =
     let P = c.before.before.before.before in
-    text-broken _ _ P.read-state.ensures c.before.if1.true
+    label_over _ (omega arith) ∙ sym (text-broken _ _ P.read-state.ensures c.before.if1.true)
 
 returns-2 : tie.Need-returns-2
 returns-2 c =

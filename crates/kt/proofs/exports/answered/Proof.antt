@@ -3,7 +3,6 @@
 use Prim.Native.Nat.{◌≤◌}
 use native.Mathlib.Omega.{arith}
 use Rattle.rules.specs.Limits.{value_limit, state_text_limit}
-use Rattle.inputs.proofs.StateInLaws.{said_stands}
 use Rattle.kt.proofs.CallExportLaws.{text_short, answer_short, call-over, call-unplaced, call-refused}
 use Rattle.kt.proofs.CallExportLaws.{call-answered}
 use borrow.Author.Rules.{rules}
@@ -37,8 +36,7 @@ returns-3 : tie.Need-returns-3
 returns-3 c =
     let P = c.before.before.before.before in
     let r = P.judge.ensures in
-    let held = said_stands _ _ P.before.before.state-in.ensures in
-    call-refused _ _ _ _ _ _ (omega arith) (omega arith) _ held _ _ r.0 r.1 c.if3.true
+    call-refused _ _ _ _ _ _ (omega arith) (omega arith) _ P.before.before.state-in.ensures _ _ r.0 r.1 c.if3.true
 
 write-state-requires : tie.Need-write-state-requires
 write-state-requires c κs = search rules
@@ -64,8 +62,7 @@ returns-4 c =
     let accepted = c.before.before.before.before.before.if3.false in
     let P = judged c in
     let r = P.judge.ensures in
-    let held = said_stands _ _ P.before.before.state-in.ensures in
-    call-answered _ _ _ _ _ _ (omega arith) (omega arith) _ held _ _ r.0 r.1 accepted _ _ w.0 w.1
+    call-answered _ _ _ _ _ _ (omega arith) (omega arith) _ P.before.before.state-in.ensures _ _ r.0 r.1 accepted _ _ w.0 w.1
 
 pub answered-spec : {M : Type 1} → statement M
 answered-spec =

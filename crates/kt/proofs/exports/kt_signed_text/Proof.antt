@@ -1,6 +1,5 @@
 -- `kt::exports::kt_signed_text` meets its contract: the state is read, and the signed text placed.
 use native.Mathlib.Omega.{arith}
-use Rattle.inputs.proofs.StateInLaws.{said_stands}
 use Rattle.kt.proofs.SignedTextExportLaws.{signed-text-over, signed-text-answered}
 use borrow.Author.Rules.{rules}
 use Rattle.kt.proofs.exports.kt_signed_text.Statement.{statement}
@@ -22,8 +21,7 @@ returns-2 : tie.Need-returns-2
 returns-2 c =
     let P = c.before.before in
     let H = P.before.before in
-    let held = said_stands _ _ H.state-in.ensures in
-    signed-text-answered _ _ _ _ _ (omega (arith, H.before.if1.false)) _ held _ _ P.signed-text.ensures
+    signed-text-answered _ _ _ _ _ (omega (arith, H.before.if1.false)) _ H.state-in.ensures _ _ P.signed-text.ensures
 
 pub kt-signed-text-spec : {M : Type 1} → statement M
 kt-signed-text-spec = tie.close (tie.spec returns state-in-requires signed-text-requires same_length returns-2)

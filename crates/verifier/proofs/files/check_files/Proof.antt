@@ -3,7 +3,6 @@
 use mathlib.Core.Path.{◌≡◌, sym, ◌∙◌}
 use mathlib.Core.Bool.{true}
 use borrow.Author.Tests.{not-true, not-false}
-use Rattle.inputs.proofs.StateInLaws.{said_stands}
 use Rattle.verifier.specs.Files.{are_within}
 use Rattle.verifier.proofs.FilesLaws.{unread-refused, over-refused, refusal-told, request_within}
 use Rattle.verifier.proofs.FilesLaws.{call-told}
@@ -60,9 +59,7 @@ returns-3 c =
     let S = c.before.before.before.before in
     let Q = S.before in
     let P = Q.before in
-    let held = said_stands _ _ S.state-in.ensures in
-    call-told _ _ _ _ _ _ _ P.before.before.if1.false (fit P) _ Q.read-request.ensures.0 _ held
-    _ _ _ _ _ _ _ c.judged.ensures
+    call-told _ _ _ _ _ _ _ P.before.before.if1.false (fit P) _ Q.read-request.ensures.0 _ S.state-in.ensures _ _ _ _ _ _ _ c.judged.ensures
 
 pub check-files-spec : {M : Type 1} → statement M
 check-files-spec =
