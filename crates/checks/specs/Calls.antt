@@ -2,7 +2,7 @@
 -- stand for those of the rules.
 use Rattle.std.specs.Prelude.{◌≡◌, Bool, true, false, not, ◌&&◌, ℕ, ◌-◌, ◌^◌, ◌≤◌, ◌<◌, eqb, leb, length, take}
 use mathlib.Core.List.{List, [], ◌∷◌, ◌++◌, flatten}
-use Rattle.std.proofs.Math.Option.{Option, none, some, Option·elim, get_or}
+use Rattle.std.proofs.Math.Option.{Option, none, some, Option-elim, get_or}
 use Rattle.std.specs.Int.Count.{ones}
 use Rattle.lists.specs.Choice.{is_some}
 use Rattle.lists.specs.Lists.{Bytes, all, every, first, same, runs, unfalling}
@@ -82,7 +82,7 @@ block_after b (passed c) = block_of (next_state c)
 -- the version that was found; 0 where there is none
 unfoldable pub version_of : Judgement → ℕ
 version_of (refused k) = 0
-version_of (passed c) = Option·elim (target_of c.parts.finding) 0 (λ t. t.version)
+version_of (passed c) = Option-elim (target_of c.parts.finding) 0 (λ t. t.version)
 
 -- the number, the state, whether there is a value, its version and its length
 unfoldable pub answer_of : StateBlock → Judgement → Answer

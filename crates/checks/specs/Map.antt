@@ -1,7 +1,7 @@
 -- The new monitoring map, in the room of a state's struct: for contracts of private functions
 -- alone.
 use Rattle.std.specs.Prelude.{◌≡◌, true, List, ℕ, ◌≤◌, eqb, leb, length, take}
-use Rattle.std.proofs.Math.Option.{Option·elim}
+use Rattle.std.proofs.Math.Option.{Option-elim}
 use Rattle.lists.specs.Lists.{first, rising}
 use Rattle.hash.specs.Bytes.{padded}
 use Rattle.rules.specs.Limits.{map_limit}
@@ -52,4 +52,4 @@ IsNewMap Monitor n m p v r = HoldsAll (map_after_monitoring n (pairs_in m)) r
 
 -- the version at a position, 0 where no pair stands there
 unfoldable pub version_at : ℕ → List MapEntry → ℕ
-version_at p es = Option·elim (first (λ (e : MapEntry). eqb e.position p) es) 0 (λ e. e.version)
+version_at p es = Option-elim (first (λ (e : MapEntry). eqb e.position p) es) 0 (λ e. e.version)

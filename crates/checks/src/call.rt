@@ -16,7 +16,7 @@ use inputs::state::State;
 use tree::log_head::LogHead;
 
 // The kind of call that is asked for, or none.
-#[derive(Drop)]
+#[derive(Clone, Copy)]
 pub enum AskedKind {
     Search,
     Monitor,
@@ -25,7 +25,7 @@ pub enum AskedKind {
 
 // 0 for acceptance, or the number of the refusal; the state afterwards; whether a value was found,
 // its version, and how many of the output bytes it fills.
-#[derive(Drop)]
+#[derive(Clone, Copy)]
 pub struct Answer {
     pub number: u64,
     pub state: State,

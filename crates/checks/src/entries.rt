@@ -20,7 +20,7 @@ use tree::search_tree::next_asked;
 
 // Whether the entries are as asked; then whether their times fit each other and what is kept, and
 // the time of the last one.
-#[derive(Drop)]
+#[derive(Clone, Copy)]
 pub(crate) struct EntriesAsked {
     pub asked: bool,
     pub timestamps: bool,
@@ -29,7 +29,7 @@ pub(crate) struct EntriesAsked {
 
 // The lookups at an offset: whether their versions are from the front of those wanted, and how many
 // they are; the offset after them.
-#[derive(Drop)]
+#[derive(Clone, Copy)]
 struct LookupsShown {
     begin: bool,
     count: usize,
@@ -37,7 +37,7 @@ struct LookupsShown {
 }
 
 // Whether the lookups of an entry are as asked, and the offset after them.
-#[derive(Drop)]
+#[derive(Clone, Copy)]
 struct EntryAsked {
     asked: bool,
     next: usize,

@@ -1,6 +1,8 @@
 // The calls on a response (paper 01, Sixteen numbers). `call` has the whole of a call, `readings` 1
 // to 5, `trial` 6 to 14 in the order of trial, `acceptance` what follows from them; `search` and
 // `monitoring` have what the kinds ask.
+#![tactic(auto)]
+
 mod acceptance;
 pub mod call;
 mod commitment;

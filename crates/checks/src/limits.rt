@@ -1,6 +1,6 @@
 // The most bytes of what a call is given (paper 01, Sixteen numbers: 1); the state's are
 // State::TEXT.
-#[derive(Drop)]
+#[derive(Clone, Copy)]
 pub struct InputLimit {}
 
 impl InputLimit {

@@ -31,7 +31,7 @@ use tree::prefix_tree::{Terminal, TerminalKind, lookup_root, terminal_fits};
 
 // The number of the first refusal of 12 and 13 that applies, or 0; the position of a search's first
 // complete entry.
-#[derive(Drop)]
+#[derive(Clone, Copy)]
 pub(crate) struct Judged {
     pub number: u64,
     pub position: u64,
@@ -39,7 +39,7 @@ pub(crate) struct Judged {
 
 // What lookups are tried for: the kind of the response, and of a search its version and the
 // commitment of that.
-#[derive(Drop)]
+#[derive(Clone, Copy)]
 struct Sought {
     kind: Kind,
     version: u32,
@@ -50,7 +50,7 @@ struct Sought {
 // reach it; how many they are, and whether their versions are from the front of the ladder; whether
 // each is included exactly where its version is not above the one sought, whether they end early,
 // and whether all are included.
-#[derive(Drop)]
+#[derive(Clone, Copy)]
 struct Summary {
     root: [u8; 32],
     reached: bool,
@@ -62,7 +62,7 @@ struct Summary {
 }
 
 // The summary of an entry's lookups, and the offset after them.
-#[derive(Drop)]
+#[derive(Clone, Copy)]
 struct Summed {
     summary: Summary,
     next: usize,
@@ -71,7 +71,7 @@ struct Summed {
 // What is known of the entries so far: whether all lookups that were tried reach their roots;
 // whether there was a complete entry, and the position of the first; whether the others before it
 // end early, and all after it are complete; whether all lookups are included.
-#[derive(Drop)]
+#[derive(Clone, Copy)]
 struct Results {
     reached: bool,
     found: bool,

@@ -7,7 +7,7 @@ use inputs::state::{MonitoringMap, State};
 use tree::search_tree::last_right_ancestor;
 
 // A map, or there is no room for one pair more.
-#[derive(Drop)]
+#[derive(Clone, Copy)]
 pub(crate) struct NewMap {
     pub fits: bool,
     pub map: MonitoringMap,

@@ -13,7 +13,7 @@ use tree::search_tree::is_right_ancestor;
 pub(crate) const NONE: u32 = u32::MAX;
 
 // A pair of the map, by its number, or no pair.
-#[derive(Drop)]
+#[derive(Clone, Copy)]
 pub(crate) enum LargestPair {
     Pair(usize),
     NoPair,

@@ -10,7 +10,7 @@ use inputs::vrf_outputs::outputs_rise;
 
 // A call as read: the configuration and the response, the clock, and the size and time that the
 // state keeps of the log.
-#[derive(Drop)]
+#[derive(Clone, Copy)]
 pub(crate) struct Call {
     pub(crate) configuration: Configuration,
     pub(crate) response: Response,
@@ -20,7 +20,7 @@ pub(crate) struct Call {
 }
 
 // A call, or the number of the first refusal from 1 to 5 that applies.
-#[derive(Drop)]
+#[derive(Clone, Copy)]
 pub(crate) enum ReadCall {
     Read(Call),
     Refused(u64),

@@ -1,7 +1,7 @@
 // What is tried before the sections of a response are looked at (paper 01, Sixteen numbers):
 // lengths, kind, identifier and label, size, version.
 ghost use Rattle.std.specs.Prelude.{◌≡◌, false, not, ◌||◌, ℕ, ◌≤◌, eqb, ltb, length};
-ghost use Rattle.std.proofs.Math.Option.{Option·elim};
+ghost use Rattle.std.proofs.Math.Option.{Option-elim};
 ghost use Rattle.lists.specs.Lists.{Bytes, any, same};
 ghost use Rattle.lines.specs.Hex.{read_hex};
 ghost use Rattle.rules.specs.Limits.{label_limit, tree_size_limit, greatest_version};
@@ -159,7 +159,7 @@ fn version_fits(version: u32, versions: &[u32]) -> bool
 // Whether a field encodes certain bytes.
 fn decodes(field: &[u8], bytes: &[u8]) -> bool
     requires { length bytes.now ≤ label_limit }
-    ensures { result ≡ Option·elim (read_hex field.now) false
+    ensures { result ≡ Option-elim (read_hex field.now) false
         (λ (b : Bytes). same b bytes.now) }
 {
     let mut room = [0u8; State::LABEL];

@@ -11,7 +11,7 @@ use lines::layout::Layout;
 
 // A step: its version, whether it has a commitment, and the offset of its digits; the offset of the
 // next line.
-#[derive(Drop)]
+#[derive(Clone, Copy)]
 pub(crate) enum NextStep {
     Step {
         version: u32,
@@ -23,14 +23,14 @@ pub(crate) enum NextStep {
 }
 
 // An entry, by the offset after its line.
-#[derive(Drop)]
+#[derive(Clone, Copy)]
 pub(crate) enum NextEntry {
     Entry(usize),
     Unread,
 }
 
 // A lookup, by the offset where its line stops; the offset of the next line.
-#[derive(Drop)]
+#[derive(Clone, Copy)]
 pub(crate) enum NextLookup {
     Lookup { stop: usize, next: usize },
     Unread,

@@ -8,7 +8,7 @@ ghost use Rattle.checks.specs.Steps.{records_capacity, IsNoted};
 use inputs::vrf_outputs::find_output;
 
 // Whether the steps are as asked, and then whether there is an output of each version.
-#[derive(Drop)]
+#[derive(Clone, Copy)]
 pub(crate) struct StepsAsked {
     pub asked: bool,
     pub there: bool,
@@ -16,7 +16,7 @@ pub(crate) struct StepsAsked {
 
 // The table of commitments: the offset in the steps where that of a version stands, by the record
 // of the version's output.
-#[derive(Drop)]
+#[derive(Clone, Copy)]
 pub(crate) struct Commitments {}
 
 impl Commitments {

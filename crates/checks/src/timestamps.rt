@@ -3,7 +3,7 @@ ghost use Rattle.std.specs.Prelude.{◌≡◌};
 ghost use Rattle.checks.specs.Entries.{no_timestamps, timestamps_after, near_clock, fits_kept};
 
 // The time of the latest entry, 0 where there is none, and whether all times fit so far.
-#[derive(Drop)]
+#[derive(Clone, Copy)]
 pub(crate) struct Timestamps {
     pub latest: u64,
     pub fit: bool,

@@ -20,7 +20,7 @@ use tree::log_head::{LogHead, log_head, nodes_asked};
 
 // The number of the first refusal from 6 to 13 that applies, or 0; the position of a search's first
 // complete entry, the timestamp of the last entry.
-#[derive(Drop)]
+#[derive(Clone, Copy)]
 pub(crate) struct Tried {
     pub(crate) number: u64,
     pub(crate) position: u64,
@@ -28,7 +28,7 @@ pub(crate) struct Tried {
 }
 
 // The same of 6 to 14, and the root of the log.
-#[derive(Drop)]
+#[derive(Clone, Copy)]
 pub(crate) struct Checked {
     pub(crate) number: u64,
     pub(crate) position: u64,
@@ -38,7 +38,7 @@ pub(crate) struct Checked {
 
 // Whether steps and entries are as asked; then whether there is an output of each step's version,
 // whether the times of the entries fit each other and what is kept, and the time of the last one.
-#[derive(Drop)]
+#[derive(Clone, Copy)]
 pub(crate) struct Shape {
     pub(crate) asked: bool,
     pub(crate) outputs: bool,
@@ -47,7 +47,7 @@ pub(crate) struct Shape {
 }
 
 // The number of the first refusal from 9 to 11 that applies, or 0; the time of the last entry.
-#[derive(Drop)]
+#[derive(Clone, Copy)]
 struct Tried9to11 {
     number: u64,
     timestamp: u64,

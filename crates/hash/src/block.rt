@@ -8,7 +8,7 @@ use crate::words::{
 };
 
 // The eight words of a hash value, and the eight working variables of the rounds.
-#[derive(Drop)]
+#[derive(Clone, Copy)]
 pub struct HashValue {
     pub a: u32,
     pub b: u32,

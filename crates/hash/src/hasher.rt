@@ -11,7 +11,7 @@ use std::num::wrapping_add_u64;
 
 // The hash value after the whole blocks of what has come, the bytes after them with zeros after,
 // and how many bytes have come, modulo 2^64.
-#[derive(Drop)]
+#[derive(Clone, Copy)]
 pub struct Hasher {
     pub value: HashValue,
     pub block: [u8; 64],

@@ -2,7 +2,7 @@
 -- for contracts of private functions alone.
 use Rattle.std.specs.Prelude.{◌≡◌, true, false, ℕ, ◌≤◌, eqb, length, take, drop}
 use mathlib.Core.List.{List, [], ◌∷◌, flatten, Memᴰ}
-use Rattle.std.proofs.Math.Option.{Option, none, some, Option·elim, bind as ◌>>=◌}
+use Rattle.std.proofs.Math.Option.{Option, none, some, Option-elim, bind as ◌>>=◌}
 use Rattle.lists.specs.Choice.{◌>>◌}
 use Rattle.lists.specs.Lists.{Bytes}
 use Rattle.hash.specs.Bytes.{padded}
@@ -103,4 +103,4 @@ refused_by k = record { number = k; state = empty_state [] }
 
 -- a state that was read, or the refusal of a text that says no valid state
 unfoldable pub or_refused : Option State → NumberedState
-or_refused o = Option·elim o (refused_by 3) (λ st. record { number = 0; state = st })
+or_refused o = Option-elim o (refused_by 3) (λ st. record { number = 0; state = st })

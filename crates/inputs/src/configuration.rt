@@ -8,7 +8,7 @@ ghost use Rattle.inputs.specs.Configuration.{read_front, front_in, read_times, t
 use lines::part::Part;
 
 // The maximum lifetime, in milliseconds, where there is one.
-#[derive(Drop)]
+#[derive(Clone, Copy)]
 pub enum Lifetime {
     Limited(u64),
     Unlimited,
@@ -17,7 +17,7 @@ pub enum Lifetime {
 // The fields in the order of the encoding: suite and mode; the public keys, each the part of the
 // encoded configuration that it fills; how far the log's time may be ahead of the clock and behind
 // it; the monitoring window; the maximum lifetime.
-#[derive(Drop)]
+#[derive(Clone, Copy)]
 pub struct Configuration {
     pub suite: u16,
     pub mode: u8,
@@ -29,7 +29,7 @@ pub struct Configuration {
     pub lifetime: Lifetime,
 }
 
-#[derive(Drop)]
+#[derive(Clone, Copy)]
 pub enum ReadConfiguration {
     Read(Configuration),
     Unread,
@@ -53,28 +53,28 @@ const ABSENT: u64 = 0;
 const PRESENT: u64 = 1;
 
 // A number and the offset after it.
-#[derive(Drop)]
+#[derive(Clone, Copy)]
 enum Uint {
     Value { value: u64, next: usize },
     Unread,
 }
 
 // A byte string and the offset after it.
-#[derive(Drop)]
+#[derive(Clone, Copy)]
 enum Opaque {
     Key { key: Part, next: usize },
     Unread,
 }
 
 // An optional number and the offset after it.
-#[derive(Drop)]
+#[derive(Clone, Copy)]
 enum Optional {
     Value { lifetime: Lifetime, next: usize },
     Unread,
 }
 
 // Suite, mode and keys, and the offset after them.
-#[derive(Drop)]
+#[derive(Clone, Copy)]
 enum Front {
     Fields {
         suite: u64,
@@ -87,7 +87,7 @@ enum Front {
 }
 
 // The times, and the offset after them.
-#[derive(Drop)]
+#[derive(Clone, Copy)]
 enum Times {
     Fields {
         ahead: u64,

@@ -1,6 +1,8 @@
 // What a call is given, read: configuration, VRF outputs, state, response (paper 01, What a call is
 // given). Each function's contract is an equation with a definition of the crate rules, through
 // what specs/ says of the values that come back.
+#![tactic(auto)]
+
 pub mod configuration;
 pub mod refusal;
 pub mod response;

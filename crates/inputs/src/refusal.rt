@@ -1,5 +1,5 @@
 // The sixteen refusals by name (paper 01, Sixteen numbers); include/kt.h has the same names for C.
-#[derive(Drop)]
+#[derive(Clone, Copy)]
 pub struct Refusal {}
 
 impl Refusal {

@@ -12,7 +12,7 @@ use lines::cursor::{Cursor, NextLine};
 use lines::part::Part;
 
 // A section: the part of the text that its lines fill, and how many steps, entries or nodes it has.
-#[derive(Drop)]
+#[derive(Clone, Copy)]
 pub struct Section {
     pub part: Part,
     pub count: usize,
@@ -20,7 +20,7 @@ pub struct Section {
 
 // The fields that encode identifier and label; n; the target of a search; the lines of steps, of
 // entries with their lookups, and of nodes.
-#[derive(Drop)]
+#[derive(Clone, Copy)]
 pub struct Response {
     pub kind: Kind,
     pub identifier: Part,
@@ -33,7 +33,7 @@ pub struct Response {
 }
 
 // A response, or bytes that break the line rules or a field's length: refusal 5.
-#[derive(Drop)]
+#[derive(Clone, Copy)]
 pub enum ReadResponse {
     Read(Response),
     Unread,
@@ -51,7 +51,7 @@ pub fn read_response(text: &[u8]) -> ReadResponse
 }
 
 // What the lines of a section are. The `end` line is a section of its own.
-#[derive(Drop)]
+#[derive(Clone, Copy)]
 enum Sort {
     Steps,
     Entries,
@@ -61,7 +61,7 @@ enum Sort {
 
 // A line begins an element of a section, or continues one, as a lookup does an entry, or stands
 // outside.
-#[derive(Drop)]
+#[derive(Clone, Copy)]
 enum Role {
     Begins,
     Continues,
@@ -69,7 +69,7 @@ enum Role {
 }
 
 // What a line is in a section, and the offset after it.
-#[derive(Drop)]
+#[derive(Clone, Copy)]
 struct RoleFrom {
     role: Role,
     next: usize,

@@ -16,7 +16,7 @@ use lines::cursor::{Cursor, NextLine};
 use lines::part::Part;
 
 // What stands before the sections, and the offset where these begin.
-#[derive(Drop)]
+#[derive(Clone, Copy)]
 pub(crate) struct Header {
     pub(crate) kind: Kind,
     pub(crate) identifier: Part,
@@ -27,14 +27,14 @@ pub(crate) struct Header {
 }
 
 // A header, or lines that begin no response.
-#[derive(Drop)]
+#[derive(Clone, Copy)]
 pub(crate) enum ReadHeader {
     Read(Header),
     Unread,
 }
 
 // A first line, and the offset after it.
-#[derive(Drop)]
+#[derive(Clone, Copy)]
 enum KtFrom {
     Read {
         kind: Kind,
@@ -46,14 +46,14 @@ enum KtFrom {
 }
 
 // A `head` line, with n, and the offset after it.
-#[derive(Drop)]
+#[derive(Clone, Copy)]
 enum HeadFrom {
     Read { tree_size: u64, next: usize },
     Unread,
 }
 
 // What a response of a kind found, and the offset after it.
-#[derive(Drop)]
+#[derive(Clone, Copy)]
 enum FindingFrom {
     Read { target: Target, next: usize },
     Unread,

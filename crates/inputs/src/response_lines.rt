@@ -20,14 +20,14 @@ use lines::cursor::{Cursor, NextBytes, NextNumber, NextWord};
 use lines::layout::Word;
 use lines::part::Part;
 
-#[derive(Drop)]
+#[derive(Clone, Copy)]
 pub enum Kind {
     Search,
     Monitor,
 }
 
 // The version, and the fields that encode opening and value.
-#[derive(Drop)]
+#[derive(Clone, Copy)]
 pub struct Target {
     pub version: u32,
     pub opening: Part,
@@ -35,7 +35,7 @@ pub struct Target {
 }
 
 // A first line: the kind, and the fields that encode identifier and label.
-#[derive(Drop)]
+#[derive(Clone, Copy)]
 pub enum KtLine {
     Read {
         kind: Kind,
@@ -46,14 +46,14 @@ pub enum KtLine {
 }
 
 // A `head` line, with n.
-#[derive(Drop)]
+#[derive(Clone, Copy)]
 pub enum HeadLine {
     Read(u64),
     Unread,
 }
 
 // A `target` line.
-#[derive(Drop)]
+#[derive(Clone, Copy)]
 pub enum TargetLine {
     Read(Target),
     Unread,
@@ -81,7 +81,7 @@ const VRF_OUTPUT: usize = 32;
 const SIBLINGS: usize = 255;
 
 // A field that encodes a byte string of a certain length, by the part that it fills, or another.
-#[derive(Drop)]
+#[derive(Clone, Copy)]
 enum NextPart {
     Read { part: Part, next: Cursor },
     Unread,
@@ -89,7 +89,7 @@ enum NextPart {
 
 // A last field that encodes a byte string, by that string's length and the part that the field
 // fills, or another.
-#[derive(Drop)]
+#[derive(Clone, Copy)]
 enum LastBytes {
     Read { length: usize, part: Part },
     Unread,
@@ -97,7 +97,7 @@ enum LastBytes {
 
 // The two last fields that encode byte strings of certain lengths, by the parts that they fill, or
 // others.
-#[derive(Drop)]
+#[derive(Clone, Copy)]
 enum LastParts {
     Read { first: Part, second: Part },
     Unread,

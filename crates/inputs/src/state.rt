@@ -11,7 +11,7 @@ use crate::refusal::Refusal;
 use tree::log_head::LogHead;
 
 // A label: its bytes, with zeros after them, and its length.
-#[derive(Drop)]
+#[derive(Clone, Copy)]
 pub struct Label {
     pub bytes: [u8; State::LABEL],
     pub length: usize,
@@ -19,7 +19,7 @@ pub struct Label {
 
 // What is kept of the log: its size m, the time of entry m - 1, and the values of its full
 // subtrees, left to right, with zeros after them.
-#[derive(Drop)]
+#[derive(Clone, Copy)]
 pub struct KeptLog {
     pub size: u64,
     pub timestamp: u64,
@@ -28,7 +28,7 @@ pub struct KeptLog {
 
 // The pairs of the monitoring map: their positions and their versions, with zeros after them, and
 // their number.
-#[derive(Drop)]
+#[derive(Clone, Copy)]
 pub struct MonitoringMap {
     pub positions: [u64; State::PAIRS],
     pub versions: [u32; State::PAIRS],
@@ -36,7 +36,7 @@ pub struct MonitoringMap {
 }
 
 // The label, the log and the monitoring map.
-#[derive(Drop)]
+#[derive(Clone, Copy)]
 pub struct State {
     pub label: Label,
     pub log: KeptLog,
@@ -44,7 +44,7 @@ pub struct State {
 }
 
 // A state, and 0 or the number of a refusal.
-#[derive(Drop)]
+#[derive(Clone, Copy)]
 pub struct NumberedState {
     pub number: u64,
     pub state: State,

@@ -25,7 +25,7 @@ use tree::log_head::LogHead;
 const VALUE: usize = 32;
 
 // What a `size` line says: the size, the time and the label; zeros where none was found.
-#[derive(Drop)]
+#[derive(Clone, Copy)]
 struct SizeLine {
     found: bool,
     size: u64,
@@ -34,7 +34,7 @@ struct SizeLine {
 }
 
 // A `pair` line, or another.
-#[derive(Drop)]
+#[derive(Clone, Copy)]
 enum PairLine {
     Pair { position: u64, version: u32 },
     Unread,
@@ -42,7 +42,7 @@ enum PairLine {
 
 // The `keep` lines that follow each other: their number, the offset after them, and the first of
 // their values, as many as a block takes.
-#[derive(Drop)]
+#[derive(Clone, Copy)]
 struct Keeps {
     count: usize,
     next: usize,
@@ -51,7 +51,7 @@ struct Keeps {
 
 // The `pair` lines that follow each other: their number with the first of their pairs, as many as a
 // state takes, and the offset after them.
-#[derive(Drop)]
+#[derive(Clone, Copy)]
 struct Pairs {
     map: MonitoringMap,
     next: usize,

@@ -14,7 +14,7 @@ const OUTPUT: usize = 32;
 const RECORD: usize = VERSION + OUTPUT;
 
 // The output of a version and the number of its record, counted from 0; or none, 0 and zeros.
-#[derive(Drop)]
+#[derive(Clone, Copy)]
 pub struct FoundOutput {
     pub found: bool,
     pub index: usize,

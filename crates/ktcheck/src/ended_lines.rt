@@ -7,7 +7,7 @@ use verifier::reading::read_on;
 
 // How many lines a newline ends, the offset after the last of them, and how many bytes are left
 // from there on.
-#[derive(Drop)]
+#[derive(Clone, Copy)]
 pub(crate) struct EndedLines {
     pub(crate) count: usize,
     pub(crate) offset: usize,

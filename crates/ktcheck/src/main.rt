@@ -1,5 +1,7 @@
 // The program (paper 01, Sixteen numbers): checks the response among the files of the current
 // folder, prints one line and, where it accepts, writes `state.new` and, after a search, `value`.
+#![tactic(auto)]
+
 mod ended_lines;
 mod outcome;
 mod reading;

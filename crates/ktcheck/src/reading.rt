@@ -2,7 +2,7 @@
 ghost use Rattle.io.specs.Counts.{IsPrefixLen};
 
 // Whether a file could not be read, and how many bytes of it were.
-#[derive(Drop)]
+#[derive(Clone, Copy)]
 pub(crate) struct FileRead {
     pub(crate) unread: bool,
     pub(crate) length: usize,

@@ -19,7 +19,7 @@ use Rattle.hash.specs.Bytes.{AreBytes}
 use Rattle.lines.specs.Number.{ascii, is_digit}
 use Rattle.lines.specs.Hex.{dash, is_hex_digit, digit_value, unhex, is_hex, read_hex, hex_digit, hex}
 use Rattle.lines.specs.Hex.{hex_field}
-use Rattle.lines.proofs.NumberLaws.{digit_bounds, is_digit, above_digits, is_plain, is_plain_lem}
+use Rattle.lines.proofs.NumberLaws.{digit_bounds, is_digit_lem, above_digits, is_plain, is_plain_lem}
 
 -- ---- digits
 
@@ -36,7 +36,7 @@ hex_digit_high d h = rw (le-ltb d 10 h) refl
 -- the value of a byte from 48 to 57
 pub value_low : (b : ℕ) → 48 ≤ b → b ≤ 57 → digit_value b ≡ b - 48
 unfolding digit_value
-value_low b l h = rw (is_digit b l h) refl
+value_low b l h = rw (is_digit_lem b l h) refl
 
 -- the value of a byte above 57
 pub value_high : (b : ℕ) → 57 < b → digit_value b ≡ b - 87
@@ -46,7 +46,7 @@ value_high b h = rw (above_digits b h) refl
 -- a byte from 48 to 57 is a hex digit
 is_hex_low : (b : ℕ) → 48 ≤ b → b ≤ 57 → is_hex_digit b ≡ true
 unfolding is_hex_digit
-is_hex_low b l h = rw (is_digit b l h) refl
+is_hex_low b l h = rw (is_digit_lem b l h) refl
 
 -- so is a byte from 97 to 102
 is_hex_high : (b : ℕ) → 97 ≤ b → b ≤ 102 → is_hex_digit b ≡ true
@@ -68,8 +68,8 @@ unfolding is_hex_digit
 is_hex_above b h = rw (above_digits b h) refl
 
 -- a digit that is written is a hex digit with its value
-pub digit_value : (d : ℕ) → d < 16 → (is_hex_digit (hex_digit d) ≡ true) × (digit_value (hex_digit d) ≡ d)
-digit_value d h = go (dec_lt d 10)
+pub digit_value_lem : (d : ℕ) → d < 16 → (is_hex_digit (hex_digit d) ≡ true) × (digit_value (hex_digit d) ≡ d)
+digit_value_lem d h = go (dec_lt d 10)
   where
     go : Dec (d < 10) → (is_hex_digit (hex_digit d) ≡ true) × (digit_value (hex_digit d) ≡ d)
     go (yes p) =
@@ -120,15 +120,15 @@ pub unhex_hex : (s : Bytes) → AreBytes s → unhex (hex s) ≡ s
 unfolding unhex hex
 unhex_hex [] h = refl
 unhex_hex (b ∷ s) (h, r) =
-    ap₂ ◌∷◌ (rw ((digit_value (b / 16) (omega arith)).1, (digit_value (b % 16) (omega arith)).1) (omega arith)) (unhex_hex s r)
+    ap₂ ◌∷◌ (rw ((digit_value_lem (b / 16) (omega arith)).1, (digit_value_lem (b % 16) (omega arith)).1) (omega arith)) (unhex_hex s r)
 
 -- bytes are written in hex digits
 pub hex_digits : (s : Bytes) → AreBytes s → all is_hex_digit (hex s) ≡ true
 unfolding hex all
 hex_digits [] h = refl
 hex_digits (b ∷ s) (h, r) =
-    cons_all is_hex_digit (hex_digit (b / 16)) (hex_digit (b % 16) ∷ hex s) (digit_value (b / 16) (omega arith)).0
-    (cons_all is_hex_digit (hex_digit (b % 16)) (hex s) (digit_value (b % 16) (omega arith)).0 (hex_digits s r))
+    cons_all is_hex_digit (hex_digit (b / 16)) (hex_digit (b % 16) ∷ hex s) (digit_value_lem (b / 16) (omega arith)).0
+    (cons_all is_hex_digit (hex_digit (b % 16)) (hex s) (digit_value_lem (b % 16) (omega arith)).0 (hex_digits s r))
 
 -- hex is not empty, of even length, and has digits alone
 pub hex_parts : (s : Bytes) → is_hex s ≡ true → (0 < length s) × (length s % 2 ≡ 0) × (all is_hex_digit s ≡ true)

@@ -25,9 +25,9 @@ unfolding is_digit
 digit_bounds b e = let h = and_holds (leb 48 b) (leb b 57) e in (leb-true 48 b h.0, leb-true b 57 h.1)
 
 -- a byte from 48 to 57 is a digit
-pub is_digit : (b : ℕ) → 48 ≤ b → b ≤ 57 → is_digit b ≡ true
+pub is_digit_lem : (b : ℕ) → 48 ≤ b → b ≤ 57 → is_digit b ≡ true
 unfolding is_digit
-is_digit b l h = holds_and (leb 48 b) (leb b 57) (le-leb 48 b l) (le-leb b 57 h)
+is_digit_lem b l h = holds_and (leb 48 b) (leb b 57) (le-leb 48 b l) (le-leb b 57 h)
 
 -- a byte below 48 is none
 pub below_digits : (b : ℕ) → b < 48 → is_digit b ≡ false
@@ -129,7 +129,7 @@ unfolding all
 decimal_form = decimal_by (λ n s. (b : ℕ) × (t : Bytes) × (s ≡ b ∷ t) × (all is_digit (b ∷ t) ≡ true) × (0 < n → b ≡ 48 → ⊥)) one more
   where
     digit : (d : ℕ) → d < 10 → all is_digit ((48 + d) ∷ []) ≡ true
-    digit d h = cons_all is_digit (48 + d) [] (is_digit (48 + d) (omega arith) (omega arith)) refl
+    digit d h = cons_all is_digit (48 + d) [] (is_digit_lem (48 + d) (omega arith) (omega arith)) refl
 
     one : (n : ℕ) → n < 10 → (b : ℕ) × (t : Bytes) × ((48 + n) ∷ [] ≡ b ∷ t) × (all is_digit (b ∷ t) ≡ true) × (0 < n → b ≡ 48 → ⊥)
     one n h = (48 + n, [], refl, digit n h, λ p q. omega arith)
@@ -145,7 +145,7 @@ unfolding is_decimal
 is_decimal_lem n = go (dec_lt n 10)
   where
     go : Dec (n < 10) → is_decimal (decimal n) ≡ true
-    go (yes p) = rw (decimal_last n p) (is_digit (48 + n) (omega arith) (omega arith))
+    go (yes p) = rw (decimal_last n p) (is_digit_lem (48 + n) (omega arith) (omega arith))
     go (no p) = let (b, t, e, a, f) = decimal_form n in rw e (decimal_many b t (f (omega arith)) a)
 
 -- a number not above the bound, once written, reads as itself

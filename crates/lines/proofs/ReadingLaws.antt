@@ -21,7 +21,7 @@ use Rattle.lines.specs.Number.{ascii, is_digit, is_decimal, digits_after, read_n
 use Rattle.lines.specs.Hex.{dash, is_hex_digit, digit_value, unhex, is_hex, read_hex, hex}
 use Rattle.lines.specs.Field.{exactly, read_field, write_field}
 use Rattle.lines.specs.Readings.{as_digest, digest_in}
-use Rattle.lines.proofs.NumberLaws.{is_digit}
+use Rattle.lines.proofs.NumberLaws.{is_digit_lem}
 use Rattle.lines.proofs.HexLaws.{parts_hex, hex_unhex, hex_digits, length_hex, hex_field_some}
 use Rattle.lines.proofs.FieldLaws.{field_read}
 use Rattle.lines.proofs.OffsetLaws.{at_cons, at_end}
@@ -99,7 +99,7 @@ module _ (bound : ℕ) (s : Bytes) (i n : ℕ) where
   pub digits_more : i < length s → 48 ≤ get_or s i 0 → get_or s i 0 ≤ 57
       → number_after bound n (drop i s) ≡ number_after bound (n * 10 + (get_or s i 0 - 48)) (drop (i + 1) s)
   unfolding number_after digits_after all
-  digits_more h l u = rw (at_cons s i h, is_digit (get_or s i 0) l u) refl
+  digits_more h l u = rw (at_cons s i h, is_digit_lem (get_or s i 0) l u) refl
 
 -- ---- values
 

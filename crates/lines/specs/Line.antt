@@ -1,7 +1,7 @@
 -- Texts of lines: fields parted by one tab, each line ended by the byte 0x0A (paper 01, Response
 -- lines).
 use Rattle.std.specs.Prelude.{cond, List, [], ◌∷◌, ◌++◌, ℕ, eqb}
-use Rattle.std.proofs.Math.Option.{Option, none, Option·elim, bind as ◌>>=◌}
+use Rattle.std.proofs.Math.Option.{Option, none, Option-elim, bind as ◌>>=◌}
 use Rattle.lists.specs.Choice.{provided, ◌>>◌}
 use Rattle.lists.specs.Lists.{Bytes, all_but_last, last_or, same}
 use Rattle.lines.specs.Field.{Field, Values, read_fields, write_fields}
@@ -71,7 +71,7 @@ and_then a (xs, rest) = (a ∷ xs, rest)
 -- the lines that a list begins with, as long as a reader takes them, and the lines after them
 unfoldable pub leading : {A : Type 0} → (Bytes → Option A) → List Bytes → List A × List Bytes
 leading read [] = ([], [])
-leading read (l ∷ ls) = Option·elim (read l) ([], l ∷ ls) (λ a. and_then a (leading read ls))
+leading read (l ∷ ls) = Option-elim (read l) ([], l ∷ ls) (λ a. and_then a (leading read ls))
 
 -- ---- writing
 

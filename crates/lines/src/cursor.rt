@@ -12,34 +12,34 @@ use crate::part::equal;
 
 // An offset in a text or in a line, from which it is read on. It goes in by value, and comes back
 // with what was read, after it.
-#[derive(Drop)]
+#[derive(Clone, Copy)]
 pub struct Cursor {
     pub at: usize,
 }
 
 // A line, by the offset of the newline that ends it; or what no newline ends.
-#[derive(Drop)]
+#[derive(Clone, Copy)]
 pub enum NextLine {
     Ended { stop: usize, next: Cursor },
     Unread,
 }
 
 // A field that is a certain word, or another.
-#[derive(Drop)]
+#[derive(Clone, Copy)]
 pub enum NextWord {
     Same(Cursor),
     Unread,
 }
 
 // A field that is a decimal number not above a bound, or another.
-#[derive(Drop)]
+#[derive(Clone, Copy)]
 pub enum NextNumber {
     Read { value: u64, next: Cursor },
     Unread,
 }
 
 // A field that encodes a byte string in hex, by that string's length, or another.
-#[derive(Drop)]
+#[derive(Clone, Copy)]
 pub enum NextBytes {
     Read { length: usize, next: Cursor },
     Unread,

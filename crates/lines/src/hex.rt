@@ -8,14 +8,14 @@ use crate::layout::Layout;
 use crate::part::equal;
 
 // A value of 32 bytes that was read, or none and zeros.
-#[derive(Drop)]
+#[derive(Clone, Copy)]
 pub struct Digest {
     pub found: bool,
     pub value: [u8; 32],
 }
 
 // The length of the byte string that a field encodes, or it encodes none.
-#[derive(Drop)]
+#[derive(Clone, Copy)]
 pub enum HexLength {
     Read(usize),
     Unread,

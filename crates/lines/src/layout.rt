@@ -1,6 +1,6 @@
 // How the lines of responses and of states are laid out (paper 01, Response lines): the words that
 // they begin with, and where their fields stand.
-#[derive(Drop)]
+#[derive(Clone, Copy)]
 pub struct Word {}
 
 impl Word {
@@ -37,7 +37,7 @@ impl Word {
 
 // Where the first field of a line stands, after its word and a tab, and what tells a line of a
 // response that was read from the others of its section.
-#[derive(Drop)]
+#[derive(Clone, Copy)]
 pub struct Layout {}
 
 impl Layout {

@@ -4,7 +4,7 @@ ghost use Rattle.lines.specs.Number.{read_number};
 ghost use Rattle.lines.specs.Readings.{number_of};
 
 // A number that was read, or none.
-#[derive(Drop)]
+#[derive(Clone, Copy)]
 pub enum Number {
     Value(u64),
     Unread,

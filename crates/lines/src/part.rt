@@ -4,7 +4,7 @@ ghost use Rattle.lists.specs.Lists.{same};
 ghost use Rattle.lines.specs.Readings.{part_of};
 
 // A part of a text, by the offsets where it starts and stops.
-#[derive(Drop)]
+#[derive(Clone, Copy)]
 pub struct Part {
     pub start: usize,
     pub stop: usize,

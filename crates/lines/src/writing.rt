@@ -11,7 +11,7 @@ ghost use Rattle.lines.specs.Readings.{put_of};
 use crate::hex::{HexLength, decoded_length, digit_value};
 
 // The offset after what was written, or nothing was.
-#[derive(Drop)]
+#[derive(Clone, Copy)]
 pub enum Put {
     Next(usize),
     Unchanged,

@@ -64,10 +64,14 @@ pub all_without : {A : Type 0} (f : A → Bool) (xs : List A) (x : A) → f x �
 all_without f xs x e =
     never_holds (all f (xs ++ x ∷ [])) (λ t. false≢true (sym e ∙ all_at f (xs ++ x ∷ []) x t (Memᴰ.append_right xs (Memᴰ.head refl))))
 
+-- what is made of an element, which comes first here, is among what is made of the elements
+placed : {A B : Type 0} (f : A → B) (x : A) (xs : List A) → Memᴰ x xs → Memᴰ (f x) (map f xs)
+placed f x xs (Memᴰ.head e) = Memᴰ.head (ap f e)
+placed f x xs (Memᴰ.tail {xs = ys} m) = Memᴰ.tail (placed f x ys m)
+
 -- what is made of an element is among what is made of the elements
 pub mapped_at : {A B : Type 0} (f : A → B) (xs : List A) (x : A) → Memᴰ x xs → Memᴰ (f x) (map f xs)
-mapped_at f xs x (Memᴰ.head e) = Memᴰ.head (ap f e)
-mapped_at f xs x (Memᴰ.tail {xs = ys} m) = Memᴰ.tail (mapped_at f ys x m)
+mapped_at f xs x m = placed f x xs m
 
 -- a test that holds of what is made of each element holds of all that is made
 pub all_mapped : {A B : Type 0} (t : B → Bool) (f : A → B) (xs : List A) → ((x : A) → Memᴰ x xs → t (f x) ≡ true) → all t (map f xs) ≡ true
@@ -295,10 +299,14 @@ at_member [] i d h = absurd (omega arith)
 at_member (x ∷ xs) zero d h = Memᴰ.head refl
 at_member (x ∷ xs) (suc i) d h = Memᴰ.tail (at_member xs i d (omega arith))
 
+-- a member, which comes first here, stands at a number
+numbered : {A : Type 0} (x d : A) (xs : List A) → Memᴰ x xs → (i : ℕ) × (i < length xs) × (get_or xs i d ≡ x)
+numbered x d xs (Memᴰ.head e) = (0, omega arith, sym e)
+numbered x d xs (Memᴰ.tail {xs = ys} m) = let (i, h, e) = numbered x d ys m in (suc i, omega arith, e)
+
 -- a member stands at a number
 pub member_at : {A : Type 0} (xs : List A) (x d : A) → Memᴰ x xs → (i : ℕ) × (i < length xs) × (get_or xs i d ≡ x)
-member_at xs x d (Memᴰ.head e) = (0, omega arith, sym e)
-member_at xs x d (Memᴰ.tail {xs = ys} m) = let (i, h, e) = member_at ys x d m in (suc i, omega arith, e)
+member_at xs x d m = numbered x d xs m
 
 -- where the number of elements is 0, there is none
 pub none_left : {A : Type 0} (xs : List A) → eqb (length xs) 0 ≡ true → xs ≡ []

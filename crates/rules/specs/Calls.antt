@@ -2,7 +2,7 @@
 -- search and monitoring, and the signed text; first over states, then as C programs call them, over
 -- state texts.
 use Rattle.std.specs.Prelude.{[], ℕ, zero, suc, ◌+◌, ◌*◌, ◌^◌, leb, length}
-use Rattle.std.proofs.Math.Option.{Option, none, some, Option·elim, get_or}
+use Rattle.std.proofs.Math.Option.{Option, none, some, Option-elim, get_or}
 use Rattle.lists.specs.Choice.{choose}
 use Rattle.lists.specs.Lists.{Bytes, written}
 use Rattle.tree.specs.LogTree.{full_values}
@@ -88,7 +88,7 @@ value_of (passed c) = value_found c
 
 -- lent bytes afterwards: what there is to write, from byte 0
 unfoldable pub written_first : Bytes → Option Bytes → Bytes
-written_first s t = Option·elim t s (written s 0)
+written_first s t = Option-elim t s (written s 0)
 
 -- a search's output bytes afterwards
 unfoldable pub output_after : Bytes → Judgement → Bytes

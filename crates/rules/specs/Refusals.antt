@@ -3,7 +3,7 @@
 -- read (6 to 16). The number of the first that applies is the answer.
 use Rattle.std.specs.Prelude.{Bool, true, false, ◌&&◌, ◌||◌, not, cond, List, [], ◌∷◌, ◌++◌, map, ℕ, ◌+◌, eqb, leb, ltb, length}
 use Rattle.std.proofs.Math.Option
-use Rattle.std.proofs.Math.Option.{Option, none, some, Option·elim, get_or, bind}
+use Rattle.std.proofs.Math.Option.{Option, none, some, Option-elim, get_or, bind}
 use Rattle.lists.specs.Choice.{choose, provided}
 use Rattle.lists.specs.Lists.{Bytes, all, every, first, last_or, same, unfalling}
 use Rattle.tree.specs.LogTree.{Known, Walk, walk_of, node_count, value, kept_values_met}
@@ -106,7 +106,7 @@ same_kind monitor search = false
 same_kind monitor monitor = true
 
 unfoldable pub kind_asked : Call → Bool
-kind_asked c = Option·elim c.inputs.kind false (same_kind (kind_of c.parts.finding))
+kind_asked c = Option-elim c.inputs.kind false (same_kind (kind_of c.parts.finding))
 
 unfoldable pub foreign : Call → Bool
 foreign c =
@@ -134,7 +134,7 @@ asked c = (kind_rules c).entries
 -- a step has a commitment exactly where its version is to have one
 unfoldable pub commitment_asked : (ℕ → Bool) → Step → Bool
 commitment_asked is_committed s =
-    Option·elim s.commitment (not (is_committed s.version)) (λ _. is_committed s.version)
+    Option-elim s.commitment (not (is_committed s.version)) (λ _. is_committed s.version)
 
 -- the entries at the positions asked, the versions looked up in each as asked
 unfoldable pub entries_asked : (List ℕ → List ℕ → Bool) → List Asked → List Entry → Bool

@@ -1,7 +1,7 @@
 -- A greatest-version search (paper 01, Ladder, search, monitoring): what is asked, what the lookups
 -- must show, the new map.
 use Rattle.std.specs.Prelude.{Bool, false, ◌&&◌, ◌||◌, not, cond, List, [], ◌∷◌, ℕ, leb, ltb, length}
-use Rattle.std.proofs.Math.Option.{Option·elim}
+use Rattle.std.proofs.Math.Option.{Option-elim}
 use Rattle.lists.specs.Choice.{choose}
 use Rattle.lists.specs.Lists.{all, any, begins, first, same}
 use Rattle.tree.specs.Ladder.{ladder}
@@ -59,7 +59,7 @@ early_then_complete vs t (e ∷ es) =
 -- version t goes to the position of the first whole entry, over a pair that stands there
 unfoldable pub map_after_search : List ℕ → ℕ → List Entry → List MapEntry → List MapEntry
 map_after_search vs t es old =
-    Option·elim (first (is_complete vs t) es) old
+    Option-elim (first (is_complete vs t) es) old
     (λ e. put_entry (λ (new before : ℕ). new) (record { position = e.position; version = t }) old)
 
 -- ---- all of it

@@ -1,7 +1,7 @@
 -- A state as text: a `size` line, a `keep` line for each value, a `pair` line for each pair of the
 -- map (paper 01, What a call is given).
 use mathlib.Core.List.{List, [], ◌∷◌, ◌++◌, flat_map}
-use Rattle.std.proofs.Math.Option.{Option, none, some, Option·elim, bind as ◌>>=◌}
+use Rattle.std.proofs.Math.Option.{Option, none, some, Option-elim, bind as ◌>>=◌}
 use Rattle.std.specs.Prelude.{eqb, leb, length}
 use Rattle.lists.specs.Choice.{choose, ◌>>◌}
 use Rattle.lists.specs.Lists.{Bytes}
@@ -64,7 +64,7 @@ unfoldable pub read_state_text : Bytes → NumberedState
 read_state_text s =
     choose (leb (length s) state_text_limit)
     (λ _.
-    Option·elim (read_state s) (record { number = 3; state = empty_state [] })
+    Option-elim (read_state s) (record { number = 3; state = empty_state [] })
     (λ st. record { number = 0; state = st }))
     (λ _. record { number = 1; state = empty_state [] })
 

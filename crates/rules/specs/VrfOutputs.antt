@@ -1,7 +1,7 @@
 -- The VRF outputs that the chip approved, which paper 01 calls the sheet (What a call is given):
 -- records of a version in 4 bytes and its output, versions rising.
 use Rattle.std.specs.Prelude.{Bool, ◌&&◌, List, [], map, ℕ, ◌+◌, ◌/◌, ◌%◌, eqb, length, take, drop}
-use Rattle.std.proofs.Math.Option.{Option, Option·elim}
+use Rattle.std.proofs.Math.Option.{Option, Option-elim}
 use Rattle.lists.specs.Choice.{provided}
 use Rattle.lists.specs.Lists.{Bytes, any, first, rising, runs}
 use Rattle.rules.specs.Limits.{vrf_output_length}
@@ -31,4 +31,4 @@ has_output outputs v = any (λ (x : VrfOutput). eqb x.version v) outputs
 
 -- the output of a version; the empty string where there is none
 unfoldable pub output_of : List VrfOutput → ℕ → Bytes
-output_of outputs v = Option·elim (first (λ (x : VrfOutput). eqb x.version v) outputs) [] (λ x. x.output)
+output_of outputs v = Option-elim (first (λ (x : VrfOutput). eqb x.version v) outputs) [] (λ x. x.output)

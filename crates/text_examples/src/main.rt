@@ -1,6 +1,8 @@
 // Runs the readers and writers of texts on good and broken examples, and writes a line for each:
 // what it is given, and what comes back. The examples are the lines of the file stdin beside src/,
 // of which the first names the columns. What must be written is the file stdout.
+#![tactic(auto)]
+
 mod example;
 mod fields;
 mod given;

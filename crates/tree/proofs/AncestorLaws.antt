@@ -16,7 +16,7 @@ use Rattle.lists.specs.Lists.{select, last_or, rising}
 use Rattle.tree.specs.SearchTree.{move_within, left, right, frontier, down_to, direct_path, right_ancestors}
 use Rattle.tree.proofs.PowerLaws.{below_power}
 use Rattle.tree.proofs.DigitLaws.{halved, cut_set, cut_clear, cut_bounds, by_digit, by_order}
-use Rattle.tree.proofs.StepLaws.{node, left_step}
+use Rattle.tree.proofs.StepLaws.{node, left_step_lem}
 use Rattle.lists.proofs.ListLaws.{rising_snoc, last_snoc}
 use Rattle.tree.proofs.ChildLaws.{move_stay, move_left, root_highest, left_moved, right_node}
 use Rattle.tree.proofs.FrontierLaws.{Digit, frontier_has}
@@ -160,7 +160,7 @@ path_from (suc k) (suc f) g n p b c h u = by_digit (p / 2 ^ suc k)
     skip zero c z outside rest = absurd (omega arith)
     skip (suc g) c z outside rest =
         let e : 2 * q ≡ p / 2 ^ suc k = omega (arith, halved p (suc k)) in
-        let d : move_within (suc g) n a ≡ move_within g n (ancestor k p) = move_left g n a outside ∙ ap (move_within g n) (left_step k q ∙ ap (node k) e) in
+        let d : move_within (suc g) n a ≡ move_within g n (ancestor k p) = move_left g n a outside ∙ ap (move_within g n) (left_step_lem k q ∙ ap (node k) e) in
         rw d (rest g (omega arith) ∙ sym (path_high (suc k) n p outside))
 
     pass : p / 2 ^ suc k % 2 ≡ 1 → risen p below ≡ path_to (suc k) n p

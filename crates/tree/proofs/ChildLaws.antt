@@ -6,7 +6,7 @@ use borrow.Author.Tests.{lt-ltb, le-ltb}
 use Rattle.lists.specs.Choice.{choose}
 use Rattle.tree.specs.SearchTree.{power, left_step, move_within, root, left, right}
 use Rattle.tree.proofs.PowerLaws.{power_unique, power_end}
-use Rattle.tree.proofs.StepLaws.{node, level_node, left_step, right_step_lem}
+use Rattle.tree.proofs.StepLaws.{node, level_node, left_step_lem, right_step_lem}
 
 -- ---- steps left until below n
 
@@ -40,7 +40,7 @@ root_empty n e = root_power n 1 (sym (power_end n (omega arith)))
 -- The left child of a node is the node of its left half, moved left to below n.
 pub left_moved : (n k q : ℕ) → left n (node (suc k) q) ≡ move_within (suc k) n (node k (2 * q))
 unfolding left
-left_moved n k q = rw (level_node (suc k) q, left_step k q)
+left_moved n k q = rw (level_node (suc k) q, left_step_lem k q)
 
 -- The right child of a node is the node of its right half, moved left to below n.
 pub right_node : (n k q : ℕ) → right n (node (suc k) q) ≡ move_within (suc k) n (node k (2 * q + 1))

@@ -17,7 +17,7 @@ use Rattle.lists.specs.Lists.{last_or, rising}
 use Rattle.tree.specs.SearchTree.{move_within, root, right, rightward, frontier}
 use Rattle.tree.proofs.PowerLaws.{below_power}
 use Rattle.tree.proofs.DigitLaws.{halved, cut, cut_set, cut_clear, cut_bounds, by_digit, by_order}
-use Rattle.tree.proofs.StepLaws.{node, left_step}
+use Rattle.tree.proofs.StepLaws.{node, left_step_lem}
 use Rattle.lists.proofs.ListLaws.{rising_cons}
 use Rattle.tree.proofs.ChildLaws.{move_stay, move_left, root_highest, right_node}
 
@@ -97,7 +97,7 @@ frontier_from (suc k) (suc f) g n b c h = by_digit (n / 2 ^ suc k)
     clear (suc g) c z rest =
         let e : 2 * (n / 2 ^ suc (suc k)) ≡ n / 2 ^ suc k = omega (arith, halved n (suc k)) in
         let out : n ≤ node (suc k) (n / 2 ^ suc (suc k)) = omega (arith, cut_clear n (suc k) z, cut_bounds n (suc k)) in
-        rw (move_left g n (node (suc k) (n / 2 ^ suc (suc k))) out, left_step k (n / 2 ^ suc (suc k)), e, digits_clear (suc k) n z) (rest g (omega arith))
+        rw (move_left g n (node (suc k) (n / 2 ^ suc (suc k))) out, left_step_lem k (n / 2 ^ suc (suc k)), e, digits_clear (suc k) n z) (rest g (omega arith))
 
 -- The frontier of an empty log is empty.
 pub frontier_none : frontier 0 ≡ []

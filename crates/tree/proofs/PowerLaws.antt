@@ -82,9 +82,9 @@ power_of_power k = let p = pow_pos k in power_unique k (2 ^ k) (omega arith) (om
 
 -- a tree of more than one entry splits at a power of two below its width, with no more to the right
 -- than to the left
-pub split_at : (width : ℕ) → 1 < width → (k : ℕ) × (split_at width ≡ 2 ^ k) × (split_at width < width) × (width ≤ 2 * split_at width)
+pub split_at_lem : (width : ℕ) → 1 < width → (k : ℕ) × (split_at width ≡ 2 ^ k) × (split_at width < width) × (width ≤ 2 * split_at width)
 unfolding split_at
-split_at width h =
+split_at_lem width h =
     let (k, e, l, u) = power_at (width - 1) (omega arith) in
     (k, e, omega arith, omega arith)
 
@@ -111,12 +111,12 @@ left_half_lem r = (refl, refl)
 pub halves_meet : (r : Range) → 1 < r.width
     → ((right_half r).start ≡ (left_half r).start + (left_half r).width) × ((left_half r).width + (right_half r).width ≡ r.width)
 unfolding left_half right_half
-halves_meet r h = let (k, e, l, u) = split_at r.width h in (refl, omega arith)
+halves_meet r h = let (k, e, l, u) = split_at_lem r.width h in (refl, omega arith)
 
 -- neither half is empty
 pub halves_filled : (r : Range) → 1 < r.width → (0 < (left_half r).width) × (0 < (right_half r).width)
 unfolding left_half right_half
 halves_filled r h =
-    let (k, e, l, u) = split_at r.width h in
+    let (k, e, l, u) = split_at_lem r.width h in
     let p = pow_pos k in
     omega arith

@@ -82,9 +82,9 @@ xor_node k q b c h =
     rw (e, z, w, xor_block k (4 * q + 1) b (2 ^ k - 1) 0 p (pow_pos k), h, xor_zero_r (2 ^ k - 1))
 
 -- A step left leads to the node of the left half.
-pub left_step : (k q : ℕ) → left_step (node (suc k) q) ≡ node k (2 * q)
+pub left_step_lem : (k q : ℕ) → left_step (node (suc k) q) ≡ node k (2 * q)
 unfolding left_step
-left_step k q =
+left_step_lem k q =
     let a : (4 * q + 1) / 2 ≡ 2 * q = omega arith in
     let b : (4 * q + 1) % 2 ≡ 1 = omega arith in
     let x : bit_xor (4 * q + 1) 1 ≡ 4 * q = xor_step (4 * q + 1) 1 ∙ (rw (a, b, xor_zero_r (2 * q)) (omega arith)) in
@@ -110,7 +110,7 @@ left_step_number x h = go (level x) (x / 2 ^ suc (level x)) (node_level x) h
     go zero q e p = absurd (omega arith)
     go (suc k) q e p =
         let z : suc k - 1 ≡ k = omega arith in
-        rw (e, left_step k q, z, pow-succ' 2 (suc k), pow-succ' 2 k) (omega (arith, pow_pos k))
+        rw (e, left_step_lem k q, z, pow-succ' 2 (suc k), pow-succ' 2 k) (omega (arith, pow_pos k))
 
 -- In numbers: a step right from above level 0 goes on by a power of two.
 pub right_step_number : (x : ℕ) → 0 < level x → right_step x ≡ x + 2 ^ (level x - 1)

@@ -4,7 +4,7 @@ ghost use Rattle.hash.specs.Bytes.{padded};
 ghost use Rattle.tree.specs.Ladder.{halve, ladder, ladder_within, ladder_capacity};
 
 // The versions in their order with zeros after them, and how many they are.
-#[derive(Drop)]
+#[derive(Clone, Copy)]
 pub struct Ladder {
     pub versions: [u32; Ladder::CAPACITY],
     pub length: usize,
@@ -33,7 +33,7 @@ impl Ladder {
 
 // The versions up to the first above the version asked for, which is `high`; `low` is the one
 // before it.
-#[derive(Drop)]
+#[derive(Clone, Copy)]
 struct Climb {
     versions: [u32; Ladder::CAPACITY],
     length: usize,

@@ -1,4 +1,6 @@
 // The tree layer: binary ladder, search tree, log tree, prefix tree.
+#![tactic(auto)]
+
 pub mod ladder;
 pub mod log_head;
 pub mod log_text;

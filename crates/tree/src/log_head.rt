@@ -10,7 +10,7 @@ use crate::log_tree::{WalkCursor, spine, spine_end};
 use lines::layout::Layout;
 
 // Its root, and whether the kept values were met.
-#[derive(Drop)]
+#[derive(Clone, Copy)]
 pub struct LogHead {
     pub root: [u8; 32],
     pub met: bool,

@@ -21,7 +21,7 @@ const VALUE: usize = 32;
 
 // Where the walk stands: where the next shown entry's line begins, or the text's end, and its
 // position; and how many nodes are passed.
-#[derive(Drop)]
+#[derive(Clone, Copy)]
 pub struct WalkCursor {
     pub at: usize,
     pub position: u64,
@@ -74,7 +74,7 @@ impl WalkCursor {
 
 // How a subtree is worked out: its value is kept, or is the next node; it is a shown entry, or has
 // two halves.
-#[derive(Drop)]
+#[derive(Clone, Copy)]
 pub enum Source {
     Retained,
     Given,
@@ -124,7 +124,7 @@ fn source_at(kept_size: u64, start: u64, width: u64, position: u64) -> Source
 
 // What the walk over a subtree yields: its value, where the walk then stands, and whether the kept
 // values were met.
-#[derive(Drop)]
+#[derive(Clone, Copy)]
 pub struct Walked {
     pub value: [u8; 32],
     pub cursor: WalkCursor,
@@ -327,7 +327,7 @@ fn subtree_end(
 
 // What the entries from start on up to tree_size are, which begin with a full subtree of so many as
 // width: that alone, the next node, or that and more, in two.
-#[derive(Drop)]
+#[derive(Clone, Copy)]
 pub enum Edge {
     Block,
     Node,

@@ -11,7 +11,7 @@ use lines::layout::Layout;
 
 // What stands at the place a lookup ends in: the leaf of the output looked up, nothing, or another
 // leaf.
-#[derive(Drop)]
+#[derive(Clone, Copy)]
 pub enum TerminalKind {
     SearchedLeaf,
     Empty,
@@ -19,7 +19,7 @@ pub enum TerminalKind {
 }
 
 // It, with its output where it is another leaf, and its commitment where it is a leaf.
-#[derive(Drop)]
+#[derive(Clone, Copy)]
 pub struct Terminal {
     pub kind: TerminalKind,
     pub output: [u8; 32],

@@ -23,7 +23,7 @@ pub(crate) fn power(x: u64) -> u64
 }
 
 // The entries of a frontier from left to right with zeros after them, and how many they are.
-#[derive(Drop)]
+#[derive(Clone, Copy)]
 pub struct Frontier {
     pub positions: [u64; Frontier::CAPACITY],
     pub length: usize,

@@ -1,5 +1,7 @@
 // Runs the tree layer on the examples of paper 01 and on borders, and writes a line for each: its
 // name, what it is given, and what comes back. What must be written is the file stdout beside src/.
+#![tactic(auto)]
+
 mod heads;
 mod line;
 mod lookups;

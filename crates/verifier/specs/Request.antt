@@ -1,7 +1,7 @@
 -- A request to the program, as it is read (paper 01, Sixteen numbers): how its struct stands for
 -- that of the rules.
 use Rattle.std.specs.Prelude.{◌≡◌, ℕ, take}
-use Rattle.std.proofs.Math.Option.{Option·elim}
+use Rattle.std.proofs.Math.Option.{Option-elim}
 use Rattle.lists.specs.Lists.{Bytes}
 use Rattle.lines.specs.Field.{read_fields}
 use Rattle.lines.specs.Cursor.{fields_from}
@@ -26,5 +26,5 @@ request_in b =
 abbrev pub IsFields : AskedKind → Bytes → ℕ → RequestBlock → Type 0
 IsFields asked line at r =
     request_in r
-    ≡ Option·elim (read_fields (request_form search).fields (fields_from line at)) broken_request
+    ≡ Option-elim (read_fields (request_form search).fields (fields_from line at)) broken_request
     (λ (x, (y, _)). record { kind = asked_kind asked; identifier = x; clock = y })

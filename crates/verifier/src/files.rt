@@ -22,7 +22,7 @@ use inputs::state_writer::write_state;
 
 // 0 for acceptance, or the number of the refusal; how many bytes of the line, of the value and of
 // the new state's text were written, and whether there is a value.
-#[derive(Drop)]
+#[derive(Clone, Copy)]
 pub struct Outcome {
     pub number: u64,
     pub line: usize,
@@ -40,7 +40,7 @@ impl Outcome {
 
 // The most bytes of the files `request` and `response`; those of the others are the limits of a
 // call.
-#[derive(Drop)]
+#[derive(Clone, Copy)]
 pub struct FileLimit {}
 
 impl FileLimit {

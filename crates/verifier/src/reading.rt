@@ -8,14 +8,14 @@ ghost use Rattle.verifier.specs.Reading.{read_on, read_on_of};
 use lines::cursor::{Cursor, NextLine};
 
 // A text, and an offset from which it is read on.
-#[derive(Drop)]
+#[derive(Clone, Copy)]
 pub struct Reader<'a> {
     text: &'a [u8],
     at: usize,
 }
 
 // A line that was read, the reader's offset after it, and how many bytes are left from there on.
-#[derive(Drop)]
+#[derive(Clone, Copy)]
 pub struct ReadOn {
     pub line: NextLine,
     pub offset: usize,

@@ -12,7 +12,7 @@ use lines::layout::Word;
 use lines::writing::put_decoded;
 
 // A request; its identifier is the first bytes of its room.
-#[derive(Drop)]
+#[derive(Clone, Copy)]
 pub(crate) struct Request {
     pub(crate) asked: AskedKind,
     pub(crate) identifier: [u8; Request::IDENTIFIER],
