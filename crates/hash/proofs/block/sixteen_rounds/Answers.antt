@@ -1,0 +1,65 @@
+-- `hash::block::sixteen_rounds` meets its contract: each call is one round more; each index below
+-- 16 is below the length that the function requires (`.pre`, at its start).
+-- the function's start, from the places after the fourth, the eighth and the twelfth round
+use Rattle.hash.proofs.BlockLaws.{rounds_zero, rounds_step}
+use Rattle.std.proofs.Common.{arith, rules}
+use Rattle.hash.proofs.block.sixteen_rounds.Goals as goal
+
+pub bounds-k-4 : goal.bounds-k-4
+bounds-k-4 c = omega (arith, c.requires)
+
+pub bounds-k-5 : goal.bounds-k-5
+bounds-k-5 c = omega (arith, c.requires)
+
+pub bounds-k-6 : goal.bounds-k-6
+bounds-k-6 c = omega (arith, c.requires)
+
+pub bounds-k-7 : goal.bounds-k-7
+bounds-k-7 c = omega (arith, c.requires)
+
+pub bounds-k-8 : goal.bounds-k-8
+bounds-k-8 c = omega (arith, c.requires)
+
+pub bounds-k-9 : goal.bounds-k-9
+bounds-k-9 c = omega (arith, c.requires)
+
+pub bounds-k-10 : goal.bounds-k-10
+bounds-k-10 c = omega (arith, c.requires)
+
+pub bounds-k-11 : goal.bounds-k-11
+bounds-k-11 c = omega (arith, c.requires)
+
+pub bounds-k-12 : goal.bounds-k-12
+bounds-k-12 c = omega (arith, c.requires)
+
+pub bounds-k-13 : goal.bounds-k-13
+bounds-k-13 c = omega (arith, c.requires)
+
+pub bounds-k-14 : goal.bounds-k-14
+bounds-k-14 c = omega (arith, c.requires)
+
+pub bounds-k-15 : goal.bounds-k-15
+bounds-k-15 c = omega (arith, c.requires)
+
+pub returns : goal.returns
+returns c =
+    let v = c.args.v in
+    let k = c.args.k.now in
+    let w = c.args.w.now in
+    let e0 = rounds_zero v k w in
+    let e1 = rounds_step 0 v _ _ k w e0 c.round-a.ensures in
+    let e2 = rounds_step 1 v _ _ k w e1 c.round-b.ensures in
+    let e3 = rounds_step 2 v _ _ k w e2 c.round-c.ensures in
+    let e4 = rounds_step 3 v _ _ k w e3 c.round-d.ensures in
+    let e5 = rounds_step 4 v _ _ k w e4 c.round-e.ensures in
+    let e6 = rounds_step 5 v _ _ k w e5 c.round-f.ensures in
+    let e7 = rounds_step 6 v _ _ k w e6 c.round-g.ensures in
+    let e8 = rounds_step 7 v _ _ k w e7 c.round-h.ensures in
+    let e9 = rounds_step 8 v _ _ k w e8 c.round-i.ensures in
+    let e10 = rounds_step 9 v _ _ k w e9 c.round-j.ensures in
+    let e11 = rounds_step 10 v _ _ k w e10 c.round-l.ensures in
+    let e12 = rounds_step 11 v _ _ k w e11 c.round-m.ensures in
+    let e13 = rounds_step 12 v _ _ k w e12 c.round-n.ensures in
+    let e14 = rounds_step 13 v _ _ k w e13 c.round-o.ensures in
+    let e15 = rounds_step 14 v _ _ k w e14 c.round-p.ensures in
+    rounds_step 15 v _ _ k w e15 c.round.ensures

@@ -1,0 +1,11 @@
+-- `hash::hmac::key_block` meets its contract: one law for a key that fits a block, one for a longer
+-- key.
+use Rattle.std.proofs.Common.{arith, rules}
+use Rattle.hash.proofs.HmacLaws.{key_short, key_long}
+use Rattle.hash.proofs.hmac.key_block.Goals as goal
+
+pub returns-then-key-le64 : goal.returns-then-key-le64
+returns-then-key-le64 c = key_short c.args.key.now c.copy_at.new.dst (omega arith) c.copy_at.ensures
+
+pub returns-else-key-le64 : goal.returns-else-key-le64
+returns-else-key-le64 c = key_long c.args.key.now c.digest-d.result c.copy_at-else-key-le64.new.dst (omega arith) c.digest-d.ensures c.copy_at-else-key-le64.ensures

@@ -1,0 +1,351 @@
+#!/usr/bin/env python3
+"""Turns proofs by `tie.close (tie.spec ..)` into Invariants.antt and Answers.antt.
+
+usage: turn_proofs.py CRATE NAMES [FUNCTION..]
+
+In the repository, with the folder of the old proofs, OLD/CRATE/F/Proof.antt, in the environment as OLD. CRATE is a crate of
+crates/, NAMES the file names.json that `rt check --generated DIR --old-names` writes in its folder once no Proof.antt is
+there. It writes proofs/F/Invariants.antt and Answers.antt with every answer that is more than a call of `search rules`.
+What it cannot turn stays as it was, behind XX, for the hand.
+"""
+import json
+import os
+import re
+import sys
+
+WORD = r"[^\s(){}\[\],;«»]+"
+TRIVIAL = {"search rules", "tt", "lit< tt", "search needs"}
+
+
+def norm(n):
+    return re.sub(r"-(\d+)$", r"\1", n.replace("_", "-"))
+
+
+def split_decls(text):
+    """Returns the head (comments and use lines) and the declarations, each a list of lines."""
+    lines = text.split("\n")
+    head, decls, cur, seen = [], [], None, False
+    pending = []
+    for line in lines:
+        if not seen and (line.startswith("use ") or line.startswith("--") or not line.strip() or (head and head[-1].startswith("use ") and line.startswith(" "))):
+            head.append(line)
+            continue
+        seen = True
+        if line.startswith("--"):
+            pending.append(line)
+        elif not line.strip():
+            continue
+        elif line[0] not in " \t":
+            m = re.match(r"(?:(?:abbrev|unfoldable|pub|private) )*(\S+)", line)
+            name = m.group(1)
+            if line.startswith("unfolding") or line.startswith("infix") or (cur and cur["name"] == name and not re.match(r"^(?:(?:abbrev|unfoldable|pub|private) )*\S+ :( |$)", line)):
+                cur["lines"].append(line)
+            else:
+                cur = {"name": name, "lines": [line], "notes": pending}
+                pending = []
+                decls.append(cur)
+        else:
+            cur["lines"].append(line)
+    return head, decls
+
+
+class Fn:
+    def __init__(self, data):
+        self.d = data
+        self.parent = {p[0]: p[1] for p in data["places"]}
+        self.field = {p[0]: p[2] for p in data["places"]}
+        self.callee = {p[0]: p[3] for p in data["places"]}
+        self.extra = {p[0]: p[4] for p in data["places"]}
+        self.need = {}
+        for i, (old, new) in enumerate(data["needs"]):
+            self.need[norm(old)] = (new, i)
+        self.at = [a[0] for a in data["asked_at"]]
+        self.clauses = {p[0]: c for p, c in zip(data["places"], data["clauses"])}
+        self.byname = {}
+        for p in data["places"]:
+            self.byname[norm(p[0])] = p[0]
+        self.for_loops = set()
+        for s in data["settled"]:
+            m = re.match(r"overflow_step-(.*)", s)
+            if m:
+                self.for_loops.add("loop-" + m.group(1))
+        self.pre = data["pre"]
+        self.args = {}
+        for a, b in data["args"]:
+            ma, mb = re.match(r"\.args \.(\S+)$", a), re.match(r"\.args \.(\S+)$", b)
+            if ma and mb:
+                self.args[ma.group(1)] = mb.group(1)
+
+
+def by_name(fn, goal, f):
+    """The place on the way to the goal whose step bears a name."""
+    place = goal
+    while place is not None:
+        old, new = fn.field.get(place, ("", ""))
+        if old and norm(old) == norm(f):
+            return place
+        place = fn.parent.get(place)
+    return None
+
+
+def field(fn, place, f, rest):
+    new = fn.field[place][1]
+    names = fn.d["params"].get(fn.callee.get(place) or "", [])
+    if rest and rest[0] in ("new", "auto", "args") and len(rest) > 1 and rest[1].isdigit() and names:
+        k = int(rest[1])
+        rest = [rest[0], names[k] if k < len(names) else rest[1]] + rest[2:]
+    rest = [r.replace("-", "_") for r in rest]
+    told = fn.clauses.get(place)
+    if told and rest[:1] == ["ensures"] and len(told["fields"]) == 1 and rest[1:2] != told["fields"]:
+        rest = ["ensures", told["fields"][0]] + rest[1:]
+    elif told and rest[:1] == ["ensures"] and len(rest) > 1 and rest[1].isdigit() and int(rest[1]) < len(told["fields"]):
+        rest = ["ensures", told["fields"][int(rest[1])]] + rest[2:]
+    if "loop" in new:
+        rest = ["invariant" if r == "inv" else r for r in rest[:1]] + rest[1:]
+    return "text", ".".join(["c", new] + rest)
+
+
+def walk(fn, goal, place, parts, log):
+    """Returns ('place', P) or ('text', s). place is None where the count of steps has gone past the start."""
+    parts = list(parts)
+    while parts and parts[0] == "before":
+        place = fn.parent.get(place) if place is not None else None
+        parts = parts[1:]
+    if not parts:
+        return "place", place
+    f, rest = parts[0], parts[1:]
+    f = {"pre": "requires", "well-formed": "well_formed"}.get(f, f)
+    if f in ("requires", "args", "ranges", "utf8", "well_formed"):
+        rest = [r.replace("-", "_") for r in rest]
+        if rest and f in ("args", "ranges"):
+            rest = [fn.args.get(rest[0], rest[0])] + rest[1:]
+        return "text", ".".join(["c", f] + rest)
+    old, new = fn.field.get(place, ("", ""))
+    if place is not None and old and norm(f) == norm(old):
+        return field(fn, place, f, rest)
+    for o, n in fn.extra.get(place, []):
+        if norm(o) == norm(f):
+            log.append(f"extra {o} -> {n} at {place}")
+            return "text", ".".join(["c", new, "auto", n] + rest) if new else ".".join(["c", n] + rest)
+    hit = by_name(fn, goal, f)
+    if hit is not None:
+        return field(fn, hit, f, rest)
+    log.append(f"field {f} at {place} ({old})")
+    return "text", ".".join(["c", "XX" + f] + rest)
+
+
+def turn(fn, goal, body, env, log, helpers):
+    """Turns a body: env maps a variable to a place."""
+    env = dict(env)
+    # helpers applied to a place
+    for _ in range(8):
+        changed = False
+        for h, (kind, param, hbody) in helpers.items():
+            pat = re.compile(r"\(" + re.escape(h) + r" \(?([\w.'₀-₉-]+)\)?\)|(?<![\w.-])" + re.escape(h) + r" \(?([A-Za-z][\w.'₀-₉-]*)\)?(?![\w'-])")
+            m = pat.search(body)
+            if not m:
+                continue
+            arg = m.group(1) or m.group(2)
+            inner = re.sub(r"(?<![\w.'-])" + re.escape(param) + r"(?![\w'-])", arg, hbody).strip()
+            if kind == "place":
+                rep = inner if re.match(r"^[\w.'₀-₉-]+$", inner) else "(" + inner + ")"
+            else:
+                rep = "(" + inner + ")"
+            body = body[: m.start()] + rep + body[m.end():]
+            changed = True
+            break
+        if not changed:
+            break
+    out, pos = [], 0
+    # lets that bind places are dropped; words that are paths are turned
+    token = re.compile(r"let (?:\(?)([\w'₀-₉-]+)(?:\)?) =\s+(" + WORD + r") in[ \t]*\n?[ \t]*|" + r"(?<![\w.'₀-₉-])([A-Za-z][\w'₀-₉-]*)((?:\.[\w'₀-₉-]+)*)")
+    alias = set()
+    def sub(text):
+        res, i = [], 0
+        for m in token.finditer(text):
+            if m.start() < i:
+                continue
+            if m.group(1):
+                parts = m.group(2).split(".")
+                if parts[0] in env:
+                    kind, val = walk(fn, goal, env[parts[0]], parts[1:], log)
+                    if kind == "place":
+                        env[m.group(1)] = val
+                        res.append(text[i:m.start()])
+                        i = m.end()
+                        continue
+                    env.pop(m.group(1), None)
+                    (alias.add if val == "c.args" else alias.discard)(m.group(1))
+                    res.append(text[i:m.start()] + m.group(0).replace(m.group(2), val, 1))
+                    i = m.end()
+                    continue
+                env.pop(m.group(1), None)
+                continue
+            if m.group(3) in alias and m.group(4):
+                parts = m.group(4).split(".")[1:]
+                parts = [fn.args.get(parts[0], parts[0])] + parts[1:]
+                res.append(text[i:m.start()] + ".".join([m.group(3)] + [q.replace("-", "_") for q in parts]))
+                i = m.end()
+                continue
+            if m.group(3) in env:
+                kind, val = walk(fn, goal, env[m.group(3)], [p for p in m.group(4).split(".") if p], log)
+                if kind == "place":
+                    log.append(f"place {val} as a value")
+                    val = "XX" + m.group(0)
+                res.append(text[i:m.start()] + val)
+                i = m.end()
+        res.append(text[i:])
+        return "".join(res)
+    return sub(body)
+
+
+def invariant(fn, name, decl, k, log, measure):
+    loop = fn.d["loops"][k]
+    (old, new), vars_ = loop[0], loop[1]
+    changed = fn.d["changed"][k]
+    text = "\n".join(decl["lines"][1:])
+    m = re.match(re.escape(decl["name"]) + r"((?:\s+" + WORD + r")*?)\s*=(?=\s)", text)
+    if not m:
+        log.append("invariant not read: " + decl["name"])
+        return None
+    params = m.group(1).split()
+    body = text[m.end():]
+    want = [("i", v) if c else ("n", v) for v, c in zip(vars_, changed)] + [("n", v) for v, c in zip(vars_, changed) if c]
+    if len(want) != len(params):
+        log.append(f"invariant {decl['name']}: {len(params)} parameters, {len(want)} wanted: {params} {vars_} {changed}")
+    table = {}
+    for p, (kind, v) in zip(params, want):
+        table[p] = f"l.initial.{v}" if kind == "i" else f"l.{v}"
+    def one(m):
+        return table.get(m.group(1), m.group(1)) + m.group(2)
+    body = re.sub(r"(?<![\w.'₀-₉-])([A-Za-z][\w'₀-₉-]*)((?:\.[\w'₀-₉-]+)*)", one, body)
+    kind = "decreases" if measure else "invariant"
+    stem = new
+    return f"abbrev pub {kind}-{stem} : goal.{kind}-{stem}\n" + "\n".join(l for l in decl["lines"][1:1] ) + f"{kind}-{stem} l ={body}"
+
+
+def main():
+    crate, names = sys.argv[1], json.load(open(sys.argv[2]))
+    only = set(sys.argv[3:])
+    top = os.path.join("crates", crate)
+    old = os.path.join(os.environ.get("OLD", "/nowhere"), crate)
+    for folder, _, fs in sorted(os.walk(old)):
+        if "Proof.antt" not in fs:
+            continue
+        rel = os.path.relpath(folder, old)
+        if only and os.path.basename(rel) not in only and rel not in only:
+            continue
+        key = "Rattle-" + crate + "-proofs." + rel.replace("/", ".") + ".Lts"
+        log = []
+        text = open(os.path.join(folder, "Proof.antt"), encoding="utf-8").read()
+        if key not in names or "tie.close" not in text:
+            print(f"{rel}: by hand ({'no names' if key not in names else 'no tie'})")
+            continue
+        fn = Fn(names[key])
+        head, decls = split_decls(text)
+        notes = [l for l in head if l.startswith("--")]
+        uses, cur = [], None
+        for l in head:
+            if l.startswith("use "):
+                uses.append(l)
+            elif l.startswith(" ") and uses:
+                uses[-1] += "\n" + l
+        uses = [u for u in uses if ".Tie as tie" not in u and "Statement.{statement}" not in u]
+        helpers, answers, invs, locals_ = {}, [], [], []
+        loops = 0
+        stem = {}
+        for d in decls:
+            sig = d["lines"][0]
+            n = d["name"]
+            whole = "\n".join(d["lines"])
+            if n.endswith("-spec") or n.endswith("_spec"):
+                continue
+            m = re.search(r": tie\.(invariant|decreases)-(loop\d*)\b", sig)
+            if m:
+                k = [norm(l[0][0]) for l in fn.d["loops"]].index(norm(m.group(2))) if norm(m.group(2)) in [norm(l[0][0]) for l in fn.d["loops"]] else None
+                if k is None:
+                    log.append("loop " + m.group(2) + " not found")
+                    continue
+                if m.group(1) == "decreases" and fn.d["loops"][k][0][1] in fn.for_loops:
+                    continue
+                r = invariant(fn, n, d, k, log, m.group(1) == "decreases")
+                if r:
+                    invs.append(("\n".join(d["notes"]) + "\n" if d["notes"] else "") + r)
+                continue
+            m = re.search(r": tie\.Need-(\S+)", whole)
+            if m and re.match(r"^\S+ : tie\.Need", whole):
+                cands = [n, m.group(1)]
+                cands += [c.replace("overflow-", "").replace("overflow_", "") for c in cands]
+                ren = []
+                for c in cands:
+                    c = norm(c)
+                    c = re.sub(r"^(loop\d*)-holds", r"\1-init", c)
+                    c = re.sub(r"^(loop\d*)-less", r"\1-smaller", c)
+                    c = re.sub(r"^(loop\d*)-again", r"\1-preserved", c)
+                    ren.append(c)
+                hit = next((c for c in ren if c in fn.need), None)
+                # the body
+                k = next((i for i, l in enumerate(d["lines"]) if i and not l.startswith((" ", "unfolding"))), None)
+                if k is None:
+                    log.append("no body: " + n)
+                    continue
+                unf = [l for l in d["lines"][1:k]]
+                body = "\n".join(d["lines"][k:])
+                mm = re.match(re.escape(n) + r"((?:\s+" + WORD + r")*?)\s*=(?=\s)", body)
+                if not mm:
+                    log.append("clauses: " + n)
+                    continue
+                args = mm.group(1).split()
+                rhs = body[mm.end():].strip("\n")
+                if rhs.strip() in TRIVIAL:
+                    continue
+                if not hit:
+                    log.append(f"no goal for {n} ({m.group(1)})")
+                    answers.append((None, n, d["notes"], unf, rhs, args))
+                    continue
+                answers.append((hit, n, d["notes"], unf, rhs, args))
+                continue
+            m = re.search(r":\s*\((\S+) : tie\.\S+[^)]*\)|: tie\.", whole)
+            if m:
+                k = next((i for i, l in enumerate(d["lines"]) if i and not l.startswith((" ", "unfolding"))), None)
+                body = "\n".join(d["lines"][k:]) if k else ""
+                mm = re.match(re.escape(n) + r"((?:\s+" + WORD + r")*?)\s*=(?=\s)", body)
+                if mm and len(mm.group(1).split()) == 1:
+                    rhs = body[mm.end():].strip()
+                    isplace = "→ tie." in whole
+                    helpers[n] = ("place" if isplace else "term", mm.group(1).split()[0], rhs)
+                else:
+                    log.append("helper " + n)
+                    locals_.append(whole)
+                continue
+            locals_.append(("\n".join(d["notes"]) + "\n" if d["notes"] else "") + whole)
+        res = []
+        for hit, n, note, unf, rhs, args in answers:
+            var = args[-2] if args and args[-1] in ("κs", "ks") else (args[-1] if args else "c")
+            pre = [a for a in args if a not in (var, "κs", "ks")]
+            if hit:
+                new, i = fn.need[hit]
+                place = fn.at[i] if i < len(fn.at) else None
+            else:
+                new, place = "XX" + n, None
+            env = {var: place} if place else {}
+            for lp in fn.d["places"]:
+                pass
+            body = turn(fn, place, rhs, env, log, helpers) if place else rhs
+            res.append("".join(x + "\n" for x in note) + f"pub {new} : goal.{new}\n" + "".join(u + "\n" for u in unf) + " ".join([new] + pre + ["c"]) + " =" + (("\n" + body.rstrip()) if "\n" in body.strip() else " " + body.strip()))
+        path = "Rattle." + crate + ".proofs." + rel.replace("/", ".")
+        to = os.path.join(top, "proofs", rel)
+        os.makedirs(to, exist_ok=True)
+        if invs:
+            with open(os.path.join(to, "Invariants.antt"), "w", encoding="utf-8") as f:
+                f.write("\n".join(notes + uses + [f"use {path}.Given as goal", ""]) + "\n" + "\n\n".join(invs) + "\n")
+        if res or locals_:
+            with open(os.path.join(to, "Answers.antt"), "w", encoding="utf-8") as f:
+                f.write("\n".join(notes + uses + [f"use {path}.Goals as goal", ""]) + "\n" + "\n\n".join(locals_ + res) + "\n")
+        if not invs and not res and not locals_:
+            os.rmdir(to) if not os.listdir(to) else None
+        if log:
+            print(f"{rel}: " + "; ".join(log))
+
+
+main()
