@@ -185,10 +185,10 @@ module _ {c : Call} {k : CallBlock} {text outputs : Bytes} (i : IsCall c k text 
       (offsets : List ℕ) (l : List ℕ) {ea : Bool}
       (entries : ea ≡ are_asked Monitor l k.response.tree_size ps vs (entries_in en)) where
     -- whether its entries are as asked
-    entries_fit : ea ≡ entries_asked (λ (wanted shown : List ℕ). same shown wanted)
+    entries_as_asked : ea ≡ entries_asked (λ (wanted shown : List ℕ). same shown wanted)
         (asked_by_monitoring c.parts.tree_size c.state.monitoring_map) (entries_in en)
     unfolding fit_by
-    entries_fit =
+    entries_as_asked =
         entries
         ∙ ap (λ (w : List Asked). entries_asked (λ (wanted shown : List ℕ). same shown wanted) w (entries_in en))
         (monitoring_asks k.response.tree_size ps vs alike l ∙ sym entries-known)
@@ -196,7 +196,7 @@ module _ {c : Call} {k : CallBlock} {text outputs : Bytes} (i : IsCall c k text 
     -- its shape, where they are not
     pub monitoring-not : ea ≡ false → s.asked ≡ false → HasShape c (steps_text text k) s offsets
     unfolding monitoring_rules
-    monitoring-not = not-shaped i monitoring-known is_steps is_entries s offsets entries_fit
+    monitoring-not = not-shaped i monitoring-known is_steps is_entries s offsets entries_as_asked
 
     -- and where they are, from its steps, whose versions are those of the pairs that count
     pub monitoring-shape : (marks : List ℕ) → ea ≡ true
@@ -206,7 +206,7 @@ module _ {c : Call} {k : CallBlock} {text outputs : Bytes} (i : IsCall c k text 
         → HasShape c (steps_text text k) s offsets
     unfolding monitoring_rules
     monitoring-shape marks h m a t =
-        has-shape i monitoring-known is_steps is_entries s offsets entries_fit
+        has-shape i monitoring-known is_steps is_entries s offsets entries_as_asked
         (subst (λ (w : List ℕ). Answered st outputs w (λ (v : ℕ). true) s.asked s.outputs offsets)
         (m ∙ ap versions_asked (sym entries-known)) a)
         t (rw h refl)

@@ -140,7 +140,7 @@ module _ (n : ℕ) (k : Known) (ps : List ℕ) (P : Walk → List Bytes → Type
       let dm = sized_drop (node_count x) ns d in
       rw (q, full_values_both n r x y k ns (full_cut n e r.start r.width l u), full_values_one n (left_half r) x k ns (walks_over a) fl)
       (both (part-all a ns d mx)
-      (full-parts b f (subtree_halves n r s w).1 (omega arith) (omega arith) (λ z i. full z (rw q (Memᴰ.tail i))) ms dm my)))
+      (full-parts {r = right_half r} b f (subtree_halves n r s w).1 (omega arith) (omega arith) (λ z i. full z (rw q (Memᴰ.tail i))) ms dm my)))
 
   -- The values that a walk of n entries hands on are those of walks of the full subtrees of n.
   pub full-values-parts : 0 < n → (ns : List Bytes) → Sized ns → P (walk_of n k.size ps) ns

@@ -25,7 +25,7 @@ use Rattle.tree.specs.Lookups.{terminal_at, terminal_of}
 use Rattle.tree.proofs.DigitLaws.{by_order}
 
 -- An array that the code holds has bytes as elements.
-pub bytes_held : (s : List ℕ) (vs : List Val) → shadow (each ℕ (e_int w8).ty.own s vs) → AreBytes s
+pub bytes_held : (s : List ℕ) (vs : List Val) → shadow (each ℕ (e_int w8).ty.own_val s vs) → AreBytes s
 bytes_held [] vs h = tt
 bytes_held (x ∷ s) [] h = absurd h
 bytes_held (x ∷ s) (v ∷ vs) (a, h) = (a.1, bytes_held s vs h)

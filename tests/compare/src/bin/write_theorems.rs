@@ -8,25 +8,25 @@ use std::env;
 
 const HEAD: &str = r#"-- Small calls made by the tests' honest log and case generator, computed with the real SHA-256. This file is written by that
 -- generator (tests/compare, `write_theorems`), and the tests compare it with what the generator writes.
-use mathlib.Core.Path.{_≡_, refl}
-use mathlib.Core.List.{[], _++_}
+use mathlib.Core.Path.{◌≡◌, refl}
+use mathlib.Core.List.{[], ◌++◌}
 use mathlib.Core.Option.{Option, none, some}
 use Prim.Native.Nat.{ℕ}
-use Rattle·lists.specs.Lists.{Bytes}
-use Rattle·lines.specs.Number.{ascii}
-use Rattle·rules.specs.StateText.{readState}
-use Rattle·rules.specs.Response.{search, monitor}
-use Rattle·rules.specs.Refusals.{Inputs, Judgement, judge}
-use Rattle·rules.specs.Calls.{numberOf, textOf, valueOf}
-use Rattle·rules.proofs.Running.{x, opened}
-use Rattle·rules.proofs.Cases.{asking}
+use Rattle.lists.specs.Lists.{Bytes}
+use Rattle.lines.specs.Number.{ascii}
+use Rattle.rules.specs.StateText.{read_state}
+use Rattle.rules.specs.Response.{search, monitor}
+use Rattle.rules.specs.Refusals.{Inputs, Judgement, judge}
+use Rattle.rules.specs.Calls.{number_of, text_of, value_of}
+use Rattle.rules.proofs.Running.{x, opened}
+use Rattle.rules.proofs.Cases.{asking}
 
 -- the number, the text of the new state, the value
 unfoldable pub answered : Judgement → ℕ × (Option Bytes × Option Bytes)
-answered j = (numberOf j, (textOf j, valueOf j))
+answered j = (number_of j, (text_of j, value_of j))
 
 unfoldable pub answer : Bytes → Inputs → ℕ × (Option Bytes × Option Bytes)
-answer text i = answered (judge (readState text) i)
+answer text i = answered (judge (read_state text) i)
 "#;
 
 /// Written out longer than this, what stands in several theorems gets a name.
@@ -80,7 +80,7 @@ impl Piece {
         let word = line.split(|byte| !byte.is_ascii_lowercase()).next();
         let word = String::from_utf8_lossy(word.unwrap_or(b""));
         Piece {
-            kind: format!("{word}-line"),
+            kind: format!("{word}_line"),
             written: text(line).unwrap_or_else(|| format!("x \"{}\"", hex(line))),
         }
     }
@@ -138,7 +138,7 @@ impl Names {
             if again && written.len() > LONG && !by_written.contains_key(&written) {
                 let count = counts.entry(kind.clone()).or_default();
                 *count += 1;
-                by_written.insert(written, format!("{kind}-{count}"));
+                by_written.insert(written, format!("{kind}_{count}"));
             }
         }
         Names { by_written }
@@ -221,12 +221,12 @@ fn pieces(case: &Case) -> Vec<Piece> {
     pieces
 }
 
-/// A name of letters, digits and hyphens.
+/// A name of letters, digits and underscores.
 fn name(case: &Case) -> String {
     let words = case.name.split(|c: char| !c.is_ascii_alphanumeric());
     let words: Vec<String> = words
         .filter(|word| !word.is_empty())
         .map(str::to_lowercase)
         .collect();
-    words.join("-")
+    words.join("_")
 }
