@@ -18,7 +18,8 @@ TRIVIAL = {"search rules", "tt", "lit< tt", "search needs"}
 
 
 def norm(n):
-    return re.sub(r"-(\d+)$", r"\1", n.replace("_", "-"))
+    n = re.sub(r"_lem$", "", n)
+    return re.sub(r"-(\d+)$", r"\1", n.replace("_", "-")).lower()
 
 
 def split_decls(text):
@@ -49,8 +50,62 @@ def split_decls(text):
     return head, decls
 
 
+def contracts():
+    """The names of each function's clauses, from the sources: path -> (requires, ensures)."""
+    out = {}
+    for folder, dirs, files in os.walk("crates"):
+        dirs[:] = [d for d in dirs if d != "out"]
+        for f in files:
+            if not f.endswith(".rt"):
+                continue
+            rel = os.path.join(folder, f).split("/")[1:]
+            crate, mods = rel[0], rel[2:]
+            mods[-1] = mods[-1][:-3]
+            if mods[-1] in ("lib", "main", "mod"):
+                mods = mods[:-1]
+            impl, name = None, None
+            for line in open(os.path.join(folder, f), encoding="utf-8"):
+                m = re.match(r"impl(?:<[^>]*>)? (\w+)", line)
+                if m:
+                    impl = m.group(1)
+                if line.startswith("}"):
+                    impl = None
+                m = re.match(r"\s*(?:pub(?:\([a-z]+\))? )?(?:unsafe )?(?:extern \"C\" )?fn (\w+)", line)
+                if m:
+                    name = "::".join([crate] + mods + ([impl] if impl else []) + [m.group(1)])
+                    out[name] = ([], [])
+                m = re.match(r"\s+(requires|ensures) (?:(\w+) )?\{", line)
+                if m and name:
+                    out[name][m.group(1) == "ensures"].append(m.group(2))
+    return out
+
+
+CONTRACTS = {}
+
+
+def clause(names, digits):
+    """Turns a path of digits into nested pairs into a clause's name and what is left."""
+    if not names or names == [None]:
+        return digits
+    if len(names) == 1:
+        return [names[0]] + digits
+    if not digits or not digits[0].isdigit():
+        return digits
+    if int(digits[0]) > 1:
+        return [names[int(digits[0])]] + digits[1:] if int(digits[0]) < len(names) else digits
+    j, left = 0, list(digits)
+    while j < len(names) - 1 and left and left[0] == "1":
+        j, left = j + 1, left[1:]
+    if j < len(names) - 1:
+        if not left or left[0] != "0":
+            return digits
+        left = left[1:]
+    return [names[j]] + left
+
+
 class Fn:
-    def __init__(self, data):
+    def __init__(self, data, own=""):
+        self.own = own
         self.d = data
         self.parent = {p[0]: p[1] for p in data["places"]}
         self.field = {p[0]: p[2] for p in data["places"]}
@@ -61,6 +116,8 @@ class Fn:
             self.need[norm(old)] = (new, i)
         self.at = [a[0] for a in data["asked_at"]]
         self.clauses = {p[0]: c for p, c in zip(data["places"], data["clauses"])}
+        self.arm = {p[0]: a for p, a in zip(data["places"], data["arms"])}
+        self.asked = {norm(k): v for k, v in data["asked"].items()}
         self.byname = {}
         for p in data["places"]:
             self.byname[norm(p[0])] = p[0]
@@ -88,13 +145,37 @@ def by_name(fn, goal, f):
     return None
 
 
+def on_way(fn, goal, place):
+    while goal is not None:
+        if goal == place:
+            return True
+        goal = fn.parent.get(goal)
+    return False
+
+
 def field(fn, place, f, rest):
+    arm = fn.arm.get(place)
+    if arm:
+        for new, old, path in arm[2]:
+            if norm(old) == norm(f) and rest[: len(path)] == path and (path or not rest):
+                tail = rest[len(path):]
+                if new == "ensures":
+                    up = place
+                    while up and fn.callee.get(up) is None:
+                        up = fn.parent.get(up)
+                    tail = clause(CONTRACTS.get(fn.callee.get(up) or "", ([], []))[1], tail)
+                return "text", ".".join(["c", arm[0], new] + tail)
     new = fn.field[place][1]
     names = fn.d["params"].get(fn.callee.get(place) or "", [])
     if rest and rest[0] in ("new", "auto", "args") and len(rest) > 1 and rest[1].isdigit() and names:
         k = int(rest[1])
         rest = [rest[0], names[k] if k < len(names) else rest[1]] + rest[2:]
     rest = [r.replace("-", "_") for r in rest]
+    swap = dict(map(tuple, fn.extra.get(place, [])))
+    if rest and rest[0] in swap and rest[0] in ("true", "false"):
+        rest = [swap[rest[0]]] + rest[1:]
+    if rest[:1] == ["ensures"] and fn.callee.get(place) in CONTRACTS:
+        rest = ["ensures"] + clause(CONTRACTS[fn.callee[place]][1], rest[1:])
     told = fn.clauses.get(place)
     if told and rest[:1] == ["ensures"] and len(told["fields"]) == 1 and rest[1:2] != told["fields"]:
         rest = ["ensures", told["fields"][0]] + rest[1:]
@@ -117,6 +198,8 @@ def walk(fn, goal, place, parts, log):
     f = {"pre": "requires", "well-formed": "well_formed"}.get(f, f)
     if f in ("requires", "args", "ranges", "utf8", "well_formed"):
         rest = [r.replace("-", "_") for r in rest]
+        if f == "requires" and fn.own in CONTRACTS:
+            rest = clause(CONTRACTS[fn.own][0], rest)
         if rest and f in ("args", "ranges"):
             rest = [fn.args.get(rest[0], rest[0])] + rest[1:]
         return "text", ".".join(["c", f] + rest)
@@ -140,17 +223,21 @@ def turn(fn, goal, body, env, log, helpers):
     # helpers applied to a place
     for _ in range(8):
         changed = False
-        for h, (kind, param, hbody) in helpers.items():
-            pat = re.compile(r"\(" + re.escape(h) + r" \(?([\w.'₀-₉-]+)\)?\)|(?<![\w.-])" + re.escape(h) + r" \(?([A-Za-z][\w.'₀-₉-]*)\)?(?![\w'-])")
+        for h, (kind, param, hbody, htype) in helpers.items():
+            path = r"[A-Za-z][\w.'₀-₉-]*"
+            pat = re.compile(r"\(" + re.escape(h) + r" (" + path + r")\)|\(" + re.escape(h) + r" \((" + path + r")\)\)|(?<![\w.-])" + re.escape(h) + r" (" + path + r")(?![\w'-])|(?<![\w.-])" + re.escape(h) + r" \((" + path + r")\)")
             m = pat.search(body)
             if not m:
                 continue
-            arg = m.group(1) or m.group(2)
-            inner = re.sub(r"(?<![\w.'-])" + re.escape(param) + r"(?![\w'-])", arg, hbody).strip()
+            arg = m.group(1) or m.group(2) or m.group(3) or m.group(4)
+            put = lambda s: re.sub(r"(?<![\w.'-])" + re.escape(param) + r"(?![\w'-])", arg, s).strip()
+            for n in set(re.findall(r"let ([A-Za-z]\w*'*) [=:]", hbody)):
+                hbody = re.sub(r"(?<![\w.'-])" + re.escape(n) + r"(?![\w'-])", n + "0", hbody)
+            inner = put(hbody)
             if kind == "place":
                 rep = inner if re.match(r"^[\w.'₀-₉-]+$", inner) else "(" + inner + ")"
             else:
-                rep = "(" + inner + ")"
+                rep = f"(let {h}0 : ({put(htype)}) = {inner} in {h}0)" if htype else "(" + inner + ")"
             body = body[: m.start()] + rep + body[m.end():]
             changed = True
             break
@@ -158,8 +245,8 @@ def turn(fn, goal, body, env, log, helpers):
             break
     out, pos = [], 0
     # lets that bind places are dropped; words that are paths are turned
-    token = re.compile(r"let (?:\(?)([\w'₀-₉-]+)(?:\)?) =\s+(" + WORD + r") in[ \t]*\n?[ \t]*|" + r"(?<![\w.'₀-₉-])([A-Za-z][\w'₀-₉-]*)((?:\.[\w'₀-₉-]+)*)")
-    alias = set()
+    token = re.compile(r"let (?:\(?)([\w'₀-₉-]+)(?:\)?) =\s+(" + WORD + r") in[ \t]*\n?[ \t]*|" + r"(?<![\w.'₀-₉-])(?!let \()([A-Za-z][\w'₀-₉-]*)((?:\.[\w'₀-₉-]+)*)|let (\([^=\n]*\)) =")
+    alias, steps = set(), {}
     def sub(text):
         res, i = [], 0
         for m in token.finditer(text):
@@ -176,10 +263,25 @@ def turn(fn, goal, body, env, log, helpers):
                         continue
                     env.pop(m.group(1), None)
                     (alias.add if val == "c.args" else alias.discard)(m.group(1))
+                    at = next((q for q, f in fn.field.items() if "c." + f[1] == val and on_way(fn, goal, q)), None)
+                    if at:
+                        steps[m.group(1)] = at
+                    else:
+                        steps.pop(m.group(1), None)
                     res.append(text[i:m.start()] + m.group(0).replace(m.group(2), val, 1))
                     i = m.end()
                     continue
                 env.pop(m.group(1), None)
+                continue
+            if m.group(5):
+                for n in re.findall(r"[\w'-]+", m.group(5)):
+                    env.pop(n, None), steps.pop(n, None), alias.discard(n)
+                continue
+            if m.group(3) in steps and m.group(4):
+                parts = m.group(4).split(".")[1:]
+                val = field(fn, steps[m.group(3)], parts[0], parts)[1]
+                res.append(text[i:m.start()] + m.group(3) + val[len("c." + fn.field[steps[m.group(3)]][1]):])
+                i = m.end()
                 continue
             if m.group(3) in alias and m.group(4):
                 parts = m.group(4).split(".")[1:]
@@ -197,6 +299,90 @@ def turn(fn, goal, body, env, log, helpers):
         res.append(text[i:])
         return "".join(res)
     return sub(body)
+
+
+def cut(text):
+    """The parts of the tuple `(a, b, ..)` that the text is, or None."""
+    text = text.strip()
+    if not text.startswith("("):
+        return None
+    depth, cuts, last = 0, [], 1
+    for i, ch in enumerate(text):
+        depth += (ch in "([{") - (ch in ")]}")
+        if depth == 0:
+            if i != len(text) - 1:
+                return None
+            cuts.append(text[last:i])
+            return [c.strip() for c in cuts]
+        if depth == 1 and ch == ",":
+            cuts.append(text[last:i])
+            last = i + 1
+    return None
+
+
+def as_record(body, names, log):
+    """The tuple at the end of a body as a record of clauses by their names."""
+    at, depth = 0, 0
+    for m in re.finditer(r"[(\[{]|[)\]}]|(?<!\w)in\s+", body):
+        if m.group(0)[0] in "([{":
+            depth += 1
+        elif m.group(0)[0] in ")]}":
+            depth -= 1
+        elif depth == 0:
+            at = m.end()
+    end = body[at:].strip()
+    if re.match(r"(?:omega|grind|search|simp|cc) (?:\w+|\(.*\))$", end, re.S) and (cut(end.split(" ", 1)[1]) is not None or "(" not in end):
+        return body[:at] + "record { " + "; ".join(f"{n} = {end}" for n in names) + " }"
+    parts = cut(end)
+    while parts and 1 < len(parts) < len(names) and cut(parts[-1]):
+        parts = parts[:-1] + cut(parts[-1])
+    if parts and len(parts) == len(names):
+        return body[:at] + "record { " + "; ".join(f"{n} = {p}" for n, p in zip(names, parts)) + " }"
+    text = body.rstrip()
+    if text.endswith(")"):
+        depth, i = 0, len(text) - 1
+        while i >= 0:
+            depth += (text[i] == ")") - (text[i] == "(")
+            if depth == 0:
+                break
+            i -= 1
+        parts = cut(text[i:])
+        while parts and len(parts) > 1 and len(parts) < len(names) and cut(parts[-1]):
+            parts = parts[:-1] + cut(parts[-1])
+        if parts and len(parts) == len(names):
+            return text[:i] + "(record { " + "; ".join(f"{n} = {p}" for n, p in zip(names, parts)) + " })"
+    log.append("clauses " + " ".join(names) + " not told apart")
+    return body
+
+
+def unpaired(fn, body, log):
+    """`let (a, (b, c)) = c.requires in` becomes a let for each clause."""
+    def one(m):
+        path = m.group(2)
+        names = None
+        if path == "c.requires":
+            names = CONTRACTS.get(fn.own, ([], []))[0]
+        elif path.endswith(".ensures"):
+            step = path.split(".")[1]
+            for place, (old, new) in fn.field.items():
+                if new == step and fn.callee.get(place) in CONTRACTS:
+                    names = CONTRACTS[fn.callee[place]][1]
+            for place, arm in fn.arm.items():
+                if arm and arm[0] == step:
+                    up = place
+                    while up and fn.callee.get(up) is None:
+                        up = fn.parent.get(up)
+                    names = CONTRACTS.get(fn.callee.get(up) or "", ([], []))[1]
+        if not names or len(names) < 2:
+            return m.group(0)
+        parts = cut(m.group(1))
+        while parts and len(parts) < len(names) and cut(parts[-1]):
+            parts = parts[:-1] + cut(parts[-1])
+        if not parts or len(parts) != len(names):
+            log.append("let " + m.group(1))
+            return m.group(0)
+        return "\n    ".join(f"let {p} = {path}.{n} in" for p, n in zip(parts, names) if p != "_")
+    return re.sub(r"let (\([^=\n]*\)) = (c[\w.-]*) in", one, body)
 
 
 def invariant(fn, name, decl, k, log, measure):
@@ -226,6 +412,7 @@ def invariant(fn, name, decl, k, log, measure):
 
 def main():
     crate, names = sys.argv[1], json.load(open(sys.argv[2]))
+    CONTRACTS.update(contracts())
     only = set(sys.argv[3:])
     top = os.path.join("crates", crate)
     old = os.path.join(os.environ.get("OLD", "/nowhere"), crate)
@@ -241,7 +428,7 @@ def main():
         if key not in names or "tie.close" not in text:
             print(f"{rel}: by hand ({'no names' if key not in names else 'no tie'})")
             continue
-        fn = Fn(names[key])
+        fn = Fn(names[key], "::".join([crate] + rel.replace("+", "").split("/")))
         head, decls = split_decls(text)
         notes = [l for l in head if l.startswith("--")]
         uses, cur = [], None
@@ -313,7 +500,13 @@ def main():
                 if mm and len(mm.group(1).split()) == 1:
                     rhs = body[mm.end():].strip()
                     isplace = "→ tie." in whole
-                    helpers[n] = ("place" if isplace else "term", mm.group(1).split()[0], rhs)
+                    said = " ".join(x.strip() for x in d["lines"][:k] if not x.startswith("unfolding"))
+                    ht = re.match(re.escape(n) + r" : \(\S+ : tie\.[^)]*\)\s*→ (.*)$", said)
+                    hp = re.match(re.escape(n) + r" : \((\S+) : tie", said)
+                    ty = ht.group(1) if ht and hp else ""
+                    if ty and hp.group(1) != mm.group(1).split()[0]:
+                        ty = re.sub(r"(?<![\w.'-])" + re.escape(hp.group(1)) + r"(?![\w'-])", mm.group(1).split()[0], ty)
+                    helpers[n] = ("place" if isplace else "term", mm.group(1).split()[0], rhs, ty)
                 else:
                     log.append("helper " + n)
                     locals_.append(whole)
@@ -321,8 +514,10 @@ def main():
             locals_.append(("\n".join(d["notes"]) + "\n" if d["notes"] else "") + whole)
         res = []
         for hit, n, note, unf, rhs, args in answers:
-            var = args[-2] if args and args[-1] in ("κs", "ks") else (args[-1] if args else "c")
-            pre = [a for a in args if a not in (var, "κs", "ks")]
+            args = [a for a in args if a not in ("κs", "ks")]
+            var = "c" if "c" in args else (args[-1] if args else "c")
+            pre = args[: args.index(var)] if var in args else []
+            post = args[args.index(var) + 1:] if var in args else []
             if hit:
                 new, i = fn.need[hit]
                 place = fn.at[i] if i < len(fn.at) else None
@@ -332,7 +527,12 @@ def main():
             for lp in fn.d["places"]:
                 pass
             body = turn(fn, place, rhs, env, log, helpers) if place else rhs
-            res.append("".join(x + "\n" for x in note) + f"pub {new} : goal.{new}\n" + "".join(u + "\n" for u in unf) + " ".join([new] + pre + ["c"]) + " =" + (("\n" + body.rstrip()) if "\n" in body.strip() else " " + body.strip()))
+            body = re.sub(r"\(not-(true|false) _ (c\.[\w-]+)\.(true|false)-raw\)", r"\2.\3", body)
+            body = re.sub(r"not-(true|false) _ (c\.[\w-]+)\.(true|false)-raw", r"\2.\3", body)
+            body = unpaired(fn, body, log)
+            if hit and fn.asked.get(hit):
+                body = as_record(body, fn.asked[hit], log)
+            res.append("".join(x + "\n" for x in note) + f"pub {new} : goal.{new}\n" + "".join(u + "\n" for u in unf) + " ".join([new] + pre + ["c"] + post) + " =" + (("\n    " + body.strip()) if "\n" in body.strip() else " " + body.strip()))
         path = "Rattle." + crate + ".proofs." + rel.replace("/", ".")
         to = os.path.join(top, "proofs", rel)
         os.makedirs(to, exist_ok=True)

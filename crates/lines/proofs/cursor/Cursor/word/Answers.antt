@@ -1,0 +1,20 @@
+-- `lines::cursor::Cursor::word` meets its contract: the field at the cursor is compared with the
+-- word.
+use mathlib.Core.Path.{sym, ◌∙◌}
+use native.Mathlib.Omega.{arith}
+use Rattle.lines.proofs.CursorLaws.{word-beyond, word-other, word_same}
+use borrow.Author.Rules.{rules}
+use Rattle.lines.proofs.cursor.Cursor.word.Goals as goal
+
+pub returns-then-line-at : goal.returns-then-line-at
+returns-then-line-at c = sym (word-beyond _ _ _ (omega arith))
+
+pub returns-then-equal : goal.returns-then-equal
+returns-then-equal c =
+    let e = sym c.equal.ensures ∙ c.if-equal.true in
+    sym (word_same _ _ _ _ c.field-f.ensures (omega arith) e)
+
+pub returns : goal.returns
+returns c =
+    let e = sym c.equal.ensures ∙ c.if-equal.false in
+    sym (word-other _ _ _ _ c.field-f.ensures (omega arith) e)

@@ -1,0 +1,23 @@
+-- `lines::hex::read_digest` meets its contract: the bytes so far and what the digits left encode
+-- stay the value, and what is left has the bytes that are no digits.
+use mathlib.Core.Path.{◌≡◌, refl, sym, ◌∙◌}
+use mathlib.Core.List.{◌++◌}
+use Prim.Native.Nat.{◌+◌, ◌-◌, ◌*◌, ◌≤◌}
+use native.Mathlib.Omega.{arith}
+use lib.ListN.{length, take, drop, length-set}
+use Rattle.lists.specs.Lists.{all}
+use Rattle.lines.specs.Hex.{is_hex_digit, unhex}
+use Rattle.lines.specs.Readings.{as_digest}
+use Rattle.lines.proofs.ReadingLaws.{digest_long, digest_other, digest_some, digit-pair, digit-other}
+use Rattle.lines.proofs.ReadingLaws.{digit-other-second, unhex-pair, unhex-end, digits_none, fill_step}
+use Rattle.lines.proofs.ReadingLaws.{fill_end}
+use borrow.Author.Tests.{not-true, not-false}
+use borrow.Author.Rules.{rules}
+use Rattle.lines.proofs.hex.read_digest.Given as goal
+
+abbrev pub invariant-loop-i : goal.invariant-loop-i
+invariant-loop-i l =
+    (l.i ≤ 32) × (length l.value ≡ 32) × (length l.s ≡ 64) × (all is_hex_digit l.s ≡ all is_hex_digit (drop (2 * l.i) l.s)) × (take l.i l.value ++ unhex (drop (2 * l.i) l.s) ≡ unhex l.s)
+
+abbrev pub decreases-loop-i : goal.decreases-loop-i
+decreases-loop-i l = 32 - l.i

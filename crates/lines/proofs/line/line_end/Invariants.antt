@@ -1,0 +1,16 @@
+-- `lines::line::line_end` meets its contract: the offset passed and what stands before the newline from there on stay the answer.
+use mathlib.Core.Path.{◌≡◌, refl, ◌∙◌}
+use Prim.Native.Nat.{ℕ, ◌+◌, ◌-◌, ◌≤◌}
+use native.Mathlib.Omega.{arith}
+use lib.ListN.{length, drop}
+use Rattle.lines.specs.Line.{before, newline}
+use Rattle.lines.proofs.OffsetLaws.{span-stop, span_more, span-end}
+use borrow.Author.Rules.{rules}
+use Rattle.lines.proofs.line.line_end.Given as goal
+
+abbrev pub invariant-loop-near : goal.invariant-loop-near
+invariant-loop-near l =
+    (l.near ≤ 12) × (l.at ≤ l.i) × (l.i - l.at ≤ length l.s - l.at) × (l.i + length (before newline (drop l.i l.s)) ≡ l.at + length (before newline (drop l.at l.s)))
+
+abbrev pub decreases-loop-near : goal.decreases-loop-near
+decreases-loop-near l = 12 - l.near

@@ -1,0 +1,16 @@
+-- `lines::part::equal` meets its contract: the bytes before i are the same, so those from i on
+-- decide.
+use mathlib.Core.Path.{◌≡◌, refl}
+use Prim.Native.Nat.{◌-◌, ◌≤◌}
+use native.Mathlib.Omega.{arith}
+use lib.ListN.{length, drop}
+use borrow.Author.Rules.{rules}
+use Rattle.lists.specs.Lists.{same}
+use Rattle.lists.proofs.SameLaws.{same_step, same_differs, same_end, same_longer}
+use Rattle.lines.proofs.part.equal.Given as goal
+
+abbrev pub invariant-loop-i : goal.invariant-loop-i
+invariant-loop-i l = (l.i ≤ length l.a) × (length l.a ≡ length l.b) × (same (drop l.i l.a) (drop l.i l.b) ≡ same l.a l.b)
+
+abbrev pub decreases-loop-i : goal.decreases-loop-i
+decreases-loop-i l = length l.a - l.i

@@ -1,0 +1,18 @@
+-- `lines::writing::store_bytes` meets its contract: the bytes from i on, stored into what is there,
+-- make the whole text in its place.
+use mathlib.Core.Path.{◌≡◌, refl, sym, ◌∙◌}
+use Prim.Native.Nat.{◌+◌, ◌-◌, ◌≤◌}
+use native.Mathlib.Omega.{arith}
+use lib.ListN.{length, drop, get_or, length-set}
+use lib.Seq.{sets}
+use Rattle.lists.specs.Lists.{written}
+use Rattle.lines.proofs.OffsetLaws.{at_cons, at_end}
+use Rattle.lines.proofs.WritingLaws.{sets_start, sets_next, sets_done}
+use borrow.Author.Rules.{rules}
+use Rattle.lines.proofs.writing.store_bytes.Given as goal
+
+abbrev pub invariant-loop-i : goal.invariant-loop-i
+invariant-loop-i l = (l.i ≤ length l.s) × (length l.out ≡ length l.initial.out) × (written l.initial.out l.at l.s ≡ sets l.out (l.at + l.i) (drop l.i l.s))
+
+abbrev pub decreases-loop-i : goal.decreases-loop-i
+decreases-loop-i l = length l.s - l.i

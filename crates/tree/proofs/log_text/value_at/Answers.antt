@@ -1,0 +1,24 @@
+-- `tree::log_text::value_at` meets its contract: the digits are there, or zeros are the value.
+use mathlib.Core.Path.{◌≡◌, sym, ◌∙◌, ap}
+use Prim.Native.Nat.{◌+◌, ◌-◌}
+use native.Mathlib.Omega.{arith}
+use lib.ListN.{take, drop}
+use Rattle.lines.specs.Layout.{value_digits}
+use Rattle.tree.specs.LogTree.{zeros}
+use Rattle.tree.proofs.LogTextLaws.{value_read, value_short}
+use borrow.Author.Rules.{rules}
+use Rattle.tree.proofs.log_text.value_at.Goals as goal
+
+pub returns-then-s-lt-DIGITS : goal.returns-then-s-lt-DIGITS
+unfolding zeros
+returns-then-s-lt-DIGITS c = let a = c.args in sym (value_short a.s.now a.at (omega arith))
+
+pub returns-then-s-at : goal.returns-then-s-at
+unfolding zeros
+returns-then-s-at c = let a = c.args in sym (value_short a.s.now a.at (omega arith))
+
+pub returns : goal.returns
+returns c =
+    let a = c.args in
+    let e : a.at + value_digits - a.at ≡ value_digits = omega arith in
+    ap (λ d. d.value) c.read_digest.ensures ∙ rw e (value_read (take value_digits (drop a.at a.s.now)))

@@ -1,0 +1,15 @@
+-- `tree::log_tree::Cursor::from` meets its contract: the position is read in the first entry line,
+-- where there is one.
+use borrow.Author.Rules.{rules}
+use Rattle.tree.proofs.CursorLaws.{cursor-made, cursor-none}
+use Rattle.tree.proofs.log_tree.WalkCursor.from.Goals as goal
+
+pub returns-then-at-text : goal.returns-then-at-text
+returns-then-at-text c =
+    let a = c.args in
+    cursor-made a.text.now a.start a.node _ c.entry_from-at.ensures _ c.if-at-text.true c.position_at-position.ensures
+
+pub returns : goal.returns
+returns c =
+    let a = c.args in
+    cursor-none a.text.now a.start a.node _ c.entry_from-at.ensures c.if-at-text.false

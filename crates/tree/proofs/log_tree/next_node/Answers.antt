@@ -1,0 +1,11 @@
+-- `tree::log_tree::next_node` meets its contract: the value of the next node, and one node more.
+use borrow.Author.Rules.{rules}
+use Rattle.tree.specs.LogText.{nodes_in}
+use Rattle.tree.proofs.WalkedLaws.{node_made}
+use Rattle.tree.proofs.log_tree.next_node.Goals as goal
+
+pub past_node-requires : goal.past_node-requires
+past_node-requires c = c.requires
+
+pub returns : goal.returns
+returns c = node_made (nodes_in c.args.nodes.now) c.args.cursor _ _ c.node_at-value.ensures c.past_node.ensures

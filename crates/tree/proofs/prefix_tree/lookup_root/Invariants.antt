@@ -1,0 +1,22 @@
+-- `tree::prefix_tree::lookup_root` meets its contract: from the siblings that are left the value
+-- leads to the root.
+use mathlib.Core.Path.{◌≡◌, sym, ◌∙◌, ap}
+use Prim.Native.Nat.{◌≤◌}
+use native.Mathlib.Omega.{arith}
+use lib.ListN.{length, take}
+use borrow.Author.Rules.{rules}
+use Rattle.tree.specs.LogText.{values_in}
+use Rattle.tree.specs.PrefixTree.{bits, value_above, lookup_root}
+use Rattle.tree.specs.Lookups.{output_bits}
+use Rattle.tree.proofs.BitLaws.{length_bits}
+use Rattle.tree.proofs.ClimbLaws.{above_none, climb_start, climb_step}
+use Rattle.tree.proofs.prefix_tree.lookup_root.Given as goal
+
+abbrev pub invariant-loop-depth : goal.invariant-loop-depth
+invariant-loop-depth l =
+    (l.depth ≤ output_bits)
+    × (l.depth ≤ length (values_in l.siblings))
+    × (value_above (take l.depth (bits l.output)) (take l.depth (values_in l.siblings)) l.value ≡ value_above (bits l.output) (values_in l.siblings) l.initial.value)
+
+abbrev pub decreases-loop-depth : goal.decreases-loop-depth
+decreases-loop-depth l = l.depth
