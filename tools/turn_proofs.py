@@ -36,7 +36,7 @@ def split_decls(text):
             pending.append(line)
         elif not line.strip():
             continue
-        elif line[0] not in " \t":
+        elif line[0] not in " \t)]}":
             m = re.match(r"(?:(?:abbrev|unfoldable|pub|private) )*(\S+)", line)
             name = m.group(1)
             if line.startswith("unfolding") or line.startswith("infix") or (cur and cur["name"] == name and not re.match(r"^(?:(?:abbrev|unfoldable|pub|private) )*\S+ :( |$)", line)):
@@ -106,6 +106,7 @@ def clause(names, digits):
 class Fn:
     def __init__(self, data, own=""):
         self.own = own
+        self.cycle = False
         self.d = data
         self.parent = {p[0]: p[1] for p in data["places"]}
         self.field = {p[0]: p[2] for p in data["places"]}
@@ -168,8 +169,15 @@ def field(fn, place, f, rest):
     new = fn.field[place][1]
     names = fn.d["params"].get(fn.callee.get(place) or "", [])
     if rest and rest[0] in ("new", "auto", "args") and len(rest) > 1 and rest[1].isdigit() and names:
-        k = int(rest[1])
-        rest = [rest[0], names[k] if k < len(names) else rest[1]] + rest[2:]
+        k, left = 0, rest[1:]
+        if int(left[0]) > 1:
+            k, left = int(left[0]), left[1:]
+        else:
+            while left and left[0] == "1" and k < len(names) - 1:
+                k, left = k + 1, left[1:]
+            if left and left[0] == "0" and k < len(names) - 1:
+                left = left[1:]
+        rest = [rest[0], names[k] if k < len(names) else str(k)] + left
     rest = [r.replace("-", "_") for r in rest]
     swap = dict(map(tuple, fn.extra.get(place, [])))
     if rest and rest[0] in swap and rest[0] in ("true", "false"):
@@ -198,6 +206,11 @@ def walk(fn, goal, place, parts, log):
     f = {"pre": "requires", "well-formed": "well_formed"}.get(f, f)
     if f in ("requires", "args", "ranges", "utf8", "well_formed"):
         rest = [r.replace("-", "_") for r in rest]
+        if f == "requires" and fn.cycle:
+            if rest[:1] == ["0"]:
+                return "text", ".".join(["c", "decreases"] + rest[1:])
+            if rest[:1] == ["1"]:
+                rest = rest[1:]
         if f == "requires" and fn.own in CONTRACTS:
             rest = clause(CONTRACTS[fn.own][0], rest)
         if rest and f in ("args", "ranges"):
@@ -246,7 +259,7 @@ def turn(fn, goal, body, env, log, helpers):
     out, pos = [], 0
     # lets that bind places are dropped; words that are paths are turned
     token = re.compile(r"let (?:\(?)([\w'₀-₉-]+)(?:\)?) =\s+(" + WORD + r") in[ \t]*\n?[ \t]*|" + r"(?<![\w.'₀-₉-])(?!let \()([A-Za-z][\w'₀-₉-]*)((?:\.[\w'₀-₉-]+)*)|let (\([^=\n]*\)) =")
-    alias, steps = set(), {}
+    alias, steps, asks, given = set(), {}, set(), {}
     def sub(text):
         res, i = [], 0
         for m in token.finditer(text):
@@ -262,6 +275,12 @@ def turn(fn, goal, body, env, log, helpers):
                         i = m.end()
                         continue
                     env.pop(m.group(1), None)
+                    (asks.add if val == "c.requires" else asks.discard)(m.group(1))
+                    if parts[-1] == "given" and val.count(".") == 2:
+                        given[m.group(1)] = (env[parts[0]], parts[1:])
+                        res.append(text[i:m.start()])
+                        i = m.end()
+                        continue
                     (alias.add if val == "c.args" else alias.discard)(m.group(1))
                     at = next((q for q, f in fn.field.items() if "c." + f[1] == val and on_way(fn, goal, q)), None)
                     if at:
@@ -275,12 +294,22 @@ def turn(fn, goal, body, env, log, helpers):
                 continue
             if m.group(5):
                 for n in re.findall(r"[\w'-]+", m.group(5)):
-                    env.pop(n, None), steps.pop(n, None), alias.discard(n)
+                    env.pop(n, None), steps.pop(n, None), given.pop(n, None), alias.discard(n), asks.discard(n)
                 continue
             if m.group(3) in steps and m.group(4):
                 parts = m.group(4).split(".")[1:]
                 val = field(fn, steps[m.group(3)], parts[0], parts)[1]
                 res.append(text[i:m.start()] + m.group(3) + val[len("c." + fn.field[steps[m.group(3)]][1]):])
+                i = m.end()
+                continue
+            if m.group(3) in given:
+                place, way = given[m.group(3)]
+                val = walk(fn, goal, place, way + m.group(4).split(".")[1:], log)[1]
+                res.append(text[i:m.start()] + val)
+                i = m.end()
+                continue
+            if m.group(3) in asks and m.group(4) and fn.own in CONTRACTS:
+                res.append(text[i:m.start()] + ".".join([m.group(3)] + clause(CONTRACTS[fn.own][0], m.group(4).split(".")[1:])))
                 i = m.end()
                 continue
             if m.group(3) in alias and m.group(4):
@@ -425,11 +454,23 @@ def main():
         key = "Rattle-" + crate + "-proofs." + rel.replace("/", ".") + ".Lts"
         log = []
         text = open(os.path.join(folder, "Proof.antt"), encoding="utf-8").read()
-        if key not in names or "tie.close" not in text:
+        cycle = os.path.basename(rel)[1:] if os.path.basename(rel).startswith("+") else ""
+        if cycle:
+            key += "-" + cycle
+        if key not in names or ("tie.close" not in text and not cycle):
             print(f"{rel}: by hand ({'no names' if key not in names else 'no tie'})")
             continue
         fn = Fn(names[key], "::".join([crate] + rel.replace("+", "").split("/")))
+        fn.cycle = bool(cycle)
+        cycle = cycle.replace("_", "[-_]")
         head, decls = split_decls(text)
+        if cycle:
+            for d in decls:
+                d["lines"][0] = re.sub(r"^" + cycle + r"-(\S+) : \(t : ℕ\) → \S+-lts\.Need-(\S+).*", r"\1 : tie.Need-\2", d["lines"][0])
+                d["lines"][0] = re.sub(r"^(\S+) : \(t : ℕ\) → tie", r"\1 : tie", d["lines"][0])
+                d["lines"] = d["lines"][:1] + [re.sub(r"^" + cycle + r"-(?=\S+ t c)", "", l) for l in d["lines"][1:]]
+                d["name"] = re.sub(r"^" + cycle + "-", "", d["name"]) if d["lines"][0].startswith(re.sub(r"^" + cycle + "-", "", d["name"]) + " : tie.Need") else d["name"]
+            decls = [d for d in decls if not re.match(r"(μ-|claims|" + cycle + r"-(at|below)$|\+)", d["name"])]
         notes = [l for l in head if l.startswith("--")]
         uses, cur = [], None
         for l in head:
@@ -437,7 +478,7 @@ def main():
                 uses.append(l)
             elif l.startswith(" ") and uses:
                 uses[-1] += "\n" + l
-        uses = [u for u in uses if ".Tie as tie" not in u and "Statement.{statement}" not in u]
+        uses = [u for u in uses if not re.search(r"\.Tie as tie|\{statement\}|\.Tie\.\{close\}|\.Reads as |\.Kinds as |\.Lts-\S+ as |use borrow\.Fn\.", u)]
         helpers, answers, invs, locals_ = {}, [], [], []
         loops = 0
         stem = {}
@@ -459,8 +500,8 @@ def main():
                 if r:
                     invs.append(("\n".join(d["notes"]) + "\n" if d["notes"] else "") + r)
                 continue
-            m = re.search(r": tie\.Need-(\S+)", whole)
-            if m and re.match(r"^\S+ : tie\.Need", whole):
+            m = re.search(r":\s+tie\.Need-(\S+)", whole)
+            if m and re.match(r"^\S+ :\s+tie\.Need", whole):
                 cands = [n, m.group(1)]
                 cands += [c.replace("overflow-", "").replace("overflow_", "") for c in cands]
                 ren = []
@@ -485,6 +526,8 @@ def main():
                 args = mm.group(1).split()
                 rhs = body[mm.end():].strip("\n")
                 if rhs.strip() in TRIVIAL:
+                    continue
+                if not hit and re.match(r"same-length", norm(n)):
                     continue
                 if not hit:
                     log.append(f"no goal for {n} ({m.group(1)})")

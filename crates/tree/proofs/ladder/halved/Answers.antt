@@ -13,9 +13,9 @@ loop-high-init c =
     record {
       fuel = c.args.climb.high;
       enough = omega arith;
-      order = p.1.1.1.1;
+      order = p.length_in_bounds.1;
       small = omega arith;
-      filling = record { stored = p.1.0; left = p.1.1.0; within = p.1.1.1.0 };
+      filling = record { stored = p.versions_value; left = p.version_value; within = p.length_in_bounds.0 };
     }
 
 pub overflow_sub-high : goal.overflow_sub-high

@@ -12,14 +12,14 @@ unfolding known_in
 spine-top-requires c =
     let text = c.args.text.now in
     let h = sym c.walkable.ensures ∙ c.if-walkable.true in
-    record { tail = head-ready text _ _ _ _ h c.from-cursor.ensures; kept_len = (c.spine-arg-1.given.0, refl, head-room text _ _ _ _ h c.from-cursor.ensures) }
+    record { tail = head-ready text _ _ _ _ h c.from-cursor.ensures; kept_len = (c.spine-arg-1.given, refl, head-room text _ _ _ _ h c.from-cursor.ensures) }
 
 pub returns-then-walkable : goal.returns-then-walkable
 unfolding known_in
 returns-then-walkable c =
     let r = c.spine-top in
     let h = walkable_values _ _ _ _ _ ∙ sym c.walkable.ensures ∙ c.if-walkable.true in
-    record { result_after = head-made c.args.text.now _ _ _ _ h c.from-cursor.ensures (nodes_in c.args.nodes.now) _ _ r.ensures.value r.ensures.filled; values_len = r.auto.nodes.1.1.1.1.1.1.0 }
+    record { result_after = head-made c.args.text.now _ _ _ _ h c.from-cursor.ensures (nodes_in c.args.nodes.now) _ _ r.ensures.value r.ensures.filled; values_len = r.auto.block }
 
 pub returns : goal.returns
 unfolding known_in

@@ -15,8 +15,7 @@ returns-then-text-at c = let a = c.args in sym (number_none _ (span-end tab a.te
 pub returns-in-Value : goal.returns-in-Value
 returns-in-Value c =
     let a = c.args in
-    let n = c.n-1.given in
-    sym (number_between a.text.now a.at c.span-stop.result (some n.0.0) c.span-stop.ensures.value (ap number_of (sym n.1) ∙ c.read_number.ensures))
+    sym (number_between a.text.now a.at c.span-stop.result (some c.in-Value.n) c.span-stop.ensures.value (ap number_of (sym c.in-Value.is) ∙ c.read_number.ensures))
 
 pub returns-in-Unread : goal.returns-in-Unread
 returns-in-Unread c =

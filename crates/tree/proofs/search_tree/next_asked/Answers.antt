@@ -9,10 +9,6 @@ use Rattle.tree.proofs.AskedLaws.{asked_start, asked_step}
 use borrow.Author.Rules.{rules}
 use Rattle.tree.proofs.search_tree.next_asked.Goals as goal
 
-shared-slice-read-next-right-ancestor :
-    tie.Need-shared-slice-read-next-right-ancestor invariant-loop decreases-loop
-shared-slice-read-next-right-ancestor c = search rules
-
 pub loop-i-init : goal.loop-i-init
 loop-i-init c =
     let a = c.args in

@@ -45,9 +45,6 @@ overflow_add-from c =
       rw c.next_on_frontier-position.ensures (storing-more n0 turn0.positions turn0.from turn0.i turn0.invariant.0 w0),
     ) in bounds0), c.ranges.tree_size.fits)
 
-pub XXadd-i : goal.XXadd-i
-XXadd-i c = omega (arith, bounds c)
-
 pub loop-i-smaller : goal.loop-i-smaller
 loop-i-smaller c = omega arith
 
