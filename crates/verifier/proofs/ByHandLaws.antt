@@ -9,7 +9,7 @@
 use mathlib.Core.List.{List, [], ◌∷◌}
 use Prim.Native.Nat.{ℕ}
 use seplogic.Ra.Ura.{Ura}
-use mir.Syntax.{Name, Place, Opd as Operand, Body, call, seq}
+use mir.Syntax.{Callee, Place, Opd as Operand, Body, call, seq}
 use mir.Val.{Val}
 use base.Logic.{ex_e, snd∗, id⊢}
 use base.Fml.{Lft, Share}
@@ -68,12 +68,12 @@ module _ (n : ℕ) (ps : List (Slot n)) (ks : Kepts ps) (R : Lfts n → RattleTy
 
         -- once it has returned there are the answer, the tokens, and what is said
         pub calls :
-            {K : Type 0} {Γ : List (Item 𝓤)} {E : Env 𝓤 H} {C : Calls 𝓤 H} {Λ : Loops 𝓤 H} {p : Exits 𝓤 H} {f : Name} {xs : List Operand} {to : Place} {next : Body}
+            {K : Type 0} {Γ : List (Item 𝓤)} {E : Env 𝓤 H} {C : Calls 𝓤 H} {Λ : Loops 𝓤 H} {p : Exits 𝓤 H} {f : Callee} {xs : List Operand} {to : Place} {next : Body}
             → K → FmC 𝓤 H 𝓛.laws C → Triple 𝓤 (C f) Call → Opds K 𝓛 (raw (Call.pre at) ∷ Γ) E xs (Call.args at)
-            → ((r : (R κs).Denot) (u : Val) → Says κs a r → Seq K 𝓛 (‵ ((R κs).own r (u ∷ [])) ∷ Tokens 𝓛 n κs qs ∷ Γ) (lands C Λ E to u next p))
+            → ((r : (R κs).Denot) (u : Val) → Says κs a r → Seq K 𝓛 (‵ ((R κs).own_val r (u ∷ [])) ∷ Tokens 𝓛 n κs qs ∷ Γ) (lands C Λ E to u next p))
             → Seq K 𝓛 (raw (Call.pre at) ∷ Γ) (runs C Λ E (seq (call f xs to) next) p)
         calls {K} t fm known os then =
             calls_at t fm Call known at os (λ u.
-            use1 𝓛 (later (some (λ (r : (R κs).Denot). (Tokens 𝓛 n κs qs ⊛ ‵ ((R κs).own r (u ∷ []))) ⊛ raw (ensured 𝓛 ended clauses κs a tt r)))) (id⊢ 𝓤 _) $ await t tt $ pick t (λ r.
+            use1 𝓛 (later (some (λ (r : (R κs).Denot). (Tokens 𝓛 n κs qs ⊛ ‵ ((R κs).own_val r (u ∷ []))) ⊛ raw (ensured 𝓛 ended clauses κs a tt r)))) (id⊢ 𝓤 _) $ await t tt $ pick t (λ r.
             split t $ move t (1 ∷ []) $ use1 𝓛 (raw (fact 𝓤 (Says κs a r))) (ex_e 𝓤 _ (λ ws. snd∗ 𝓤 (sem 𝓛 (lasts ended κs a ws)) (fact 𝓤 (Says κs a r)))) $
             heard t (Says κs a r) (λ e. split t $ move t (1 ∷ []) $ then r u e)))

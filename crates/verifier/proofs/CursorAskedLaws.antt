@@ -4,7 +4,7 @@ use mathlib.Core.Path.{refl}
 use mathlib.Core.List.{List, [], ◌∷◌}
 use Prim.Native.Nat.{ℕ, ◌<◌, ◌^◌}
 use seplogic.Ra.Ura.{Ura}
-use mir.Syntax.{Name, Ty, Fn, local, value_local, named, erased, imm, w8, w64, ty_int, ty_ref, place, field}
+use mir.Syntax.{Callee, Ty, Fn, local, value_local, named, erased, imm, w8, w64, ty_int, ty_ref, place, field}
 use mir.Syntax.{copy, rv_opd, aggregate, assign, call, seq, return}
 use mir.Val.{Val, WT, has_ty, vint}
 use base.Logic.{ent, sep}
@@ -39,11 +39,13 @@ use Rattle.verifier.proofs.ReaderTakenLaws.{Contracted, Entry, Post, begins, exi
 use Rattle.verifier.proofs.HeldLaws.{Held, text_val, Text, held-twice, held-text}
 
 -- the code of such a function, by the function called and the type of its answer
-abbrev pub apart : Name → Ty → Fn
+abbrev pub apart : Callee → Ty → Fn
 apart f ty =
     record {
       lifetimes = 1;
       outlives = [];
+      ty_params = [];
+      givens = 0;
       params = 1;
       locals =
           local ty value_local
@@ -101,7 +103,7 @@ module _ (R : RattleType) (Says : Bytes → ℕ → R.Denot → Type 0) where
           owned ! C.the_row (Is C.the_row) (LL.makes C.the_type C'.the_plain 𝓛) cursor _ ((vint w64 d.at ∷ [], tt), (refl, ((refl, fits), tt))) $ fjoin ! $ move ! (2 ∷ 0 ∷ []) $
           use2 𝓛 (raw (CursorCall.pre asked)) (qed 𝓛 (Token 𝓛 κ q ∷ ‵ (owns (C.the_row ∷ ShrSlice (named 0) κ u8 ∷ []) (cursor, (d.text, tt)) handed) ∷ []) ∵ join ! $ frame ! $ done !) $ frame ! $ done !
 
-      module _ (ty : Ty) (typed : (r : R.Denot) (u : Val) → Is R r (u ∷ []) → Holds (has_ty ty u) × WT u) (C : Calls 𝓤 H) (Λ : Loops 𝓤 H) (fm : FmC 𝓤 H 𝓛.laws C) (f : Name) (known : Triple 𝓤 (C f) CursorCall) where
+      module _ (ty : Ty) (typed : (r : R.Denot) (u : Val) → Is R r (u ∷ []) → Holds (has_ty ty u) × WT u) (C : Calls 𝓤 H) (Λ : Loops 𝓤 H) (fm : FmC 𝓤 H 𝓛.laws C) (f : Callee) (known : Triple 𝓤 (C f) CursorCall) where
         follow : Holds (has_ty (T'.mir (named 0)) (T'.lowered d)) × WT (T'.lowered d) → ent 𝓤 (Entry R Same 𝓛 κ q d) (WpFn 𝓤 H C Λ (apart f ty) (T'.lowered d ∷ []) (Post R Same 𝓛 κ q d))
         follow wt =
             qed 𝓛 (raw (Entry R Same 𝓛 κ q d) ∷ []) ∵ enter ! C Λ (apart f ty) (T'.lowered d ∷ []) _ $
@@ -120,6 +122,6 @@ module _ (R : RattleType) (Says : Bytes → ℕ → R.Denot → Type 0) where
 
     -- where the cursor's function meets its contract, such a function does
     pub apart-meets :
-        (ty : Ty) → ((r : R.Denot) (u : Val) → Is R r (u ∷ []) → Holds (has_ty ty u) × WT u) → (f : Name) (𝓣 : Tables 𝓤 H)
+        (ty : Ty) → ((r : R.Denot) (u : Val) → Is R r (u ∷ []) → Holds (has_ty ty u) × WT u) → (f : Callee) (𝓣 : Tables 𝓤 H)
         → Triple 𝓤 (𝓣.C f) CursorCall → Triple 𝓤 (WpFn 𝓤 H 𝓣.C 𝓣.Λ (apart f ty)) (Contracted R Same 𝓛)
     apart-meets ty typed f 𝓣 known = meets R Same 𝓛 (apart f ty) 𝓣 (λ κ q d. follow κ q d ty typed 𝓣.C 𝓣.Λ (fm_of 𝓤 H 𝓛.laws 𝓣) f known)

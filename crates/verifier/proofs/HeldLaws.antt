@@ -5,7 +5,7 @@ use mathlib.Core.List.{List, [], ◌∷◌}
 use Prim.Native.Nat.{ℕ}
 use lib.ListN.{length}
 use seplogic.Ra.Ura.{Ura}
-use mir.Syntax.{named, w64, copy}
+use mir.Syntax.{named, w8, w64, copy}
 use mir.Val.{Val, vstruct, of_list}
 use base.Logic.{ent, sep}
 use base.Fml.{Lft, Fml}
@@ -16,7 +16,7 @@ use denote.RattleType.{RattleType}
 use denote.Signature.{named_lft}
 use denote.Laws.{Is}
 use denote.Steps.{nothing, owned}
-use denote.Plain.{uint_Makes}
+use denote.Plain.{uint_Makes, uint_row_laws}
 use denote.Builtin.{u8, usize}
 use denote.Ref.{Bor}
 use denote.Slice.{slice_val, ShrSlice, shr_slice_copy}
@@ -34,7 +34,7 @@ abbrev pub held : Lfts 1 → RattleType
 held κs = T.the_row (named_lft 1 0 tt κs)
 
 abbrev pub Held : Lft → Reader → Val → Fml
-Held κ d v = (held (κ, tt)).own d (v ∷ [])
+Held κ d v = (held (κ, tt)).own_val d (v ∷ [])
 
 -- a text as the machine has it, and what it owns
 abbrev pub text_val : Bor Bytes → Val
@@ -46,7 +46,7 @@ Text κ s = (ShrSlice (named 0) κ u8).own_val s (text_val s ∷ [])
 module _ {M : Type 1} {𝓤 : Ura M} (𝓛 : Logic 𝓤) (κ : Lft) where
   -- both can be copied
   pub text-twice : (s : Bor Bytes) → ent 𝓤 (sem 𝓛 (Text κ s)) (sep 𝓤 (sem 𝓛 (Text κ s)) (sem 𝓛 (Text κ s)))
-  text-twice s = (shr_slice_copy 𝓛 (named 0) κ u8).twice s (text_val s ∷ [])
+  text-twice s = (shr_slice_copy 𝓛 (named 0) κ u8 (uint_row_laws w8)).twice s (text_val s ∷ [])
 
   pub held-twice : (d : Reader) (v : Val) → ent 𝓤 (sem 𝓛 (Held κ d v)) (sep 𝓤 (sem 𝓛 (Held κ d v)) (sem 𝓛 (Held κ d v)))
   held-twice d v = let α = named_lft 1 0 tt (κ, tt) in (LL.copy (T.the_type α) (T'.the_copy α) 𝓛).twice d (v ∷ [])

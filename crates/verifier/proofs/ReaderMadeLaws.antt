@@ -74,9 +74,9 @@ module _ (R : Lfts 1 → RattleType) (Says : (κs : Lfts 1) → Bor Bytes → �
         move ! (1 ∷ []) $ fsplit ! $ move ! (1 ∷ []) $ drop ! $ frame ! $ done !
 
     -- at exit: the answer, the token, and what the text owns
-    pub exits : n < 2 ^ 64 → (r : (R (κ, tt)).Denot) (u : Val) → Says (κ, tt) s n r → ent 𝓤 (⋆ 𝓛 (‵ ((R (κ, tt)).own r (u ∷ [])) ∷ Token 𝓛 κ q ∷ ‵ (Text κ s) ∷ [])) (Post u)
+    pub exits : n < 2 ^ 64 → (r : (R (κ, tt)).Denot) (u : Val) → Says (κ, tt) s n r → ent 𝓤 (⋆ 𝓛 (‵ ((R (κ, tt)).own_val r (u ∷ [])) ∷ Token 𝓛 κ q ∷ ‵ (Text κ s) ∷ [])) (Post u)
     exits fits r u e =
-        qed 𝓛 (‵ ((R (κ, tt)).own r (u ∷ [])) ∷ Token 𝓛 κ q ∷ ‵ (Text κ s) ∷ []) ∵
+        qed 𝓛 (‵ ((R (κ, tt)).own_val r (u ∷ [])) ∷ Token 𝓛 κ q ∷ ‵ (Text κ s) ∷ []) ∵
         suffices ! _ (ends_at 𝓛 (ended 1 taken kept R) stayed said asked u r (tt, (tt, tt)) (tt, (tt, tt))) $ says ! e $
         move ! (1 ∷ []) $ frame ! $ nothing ! $ owned ! usize (Is usize) (uint_Makes 𝓛 w64) n _ (refl, fits) $ fjoin ! $ move ! (2 ∷ 0 ∷ []) $ fjoin ! $ frame ! $ done !
 

@@ -3,7 +3,7 @@
 use mathlib.Core.Path.{refl}
 use mathlib.Core.List.{List, [], ◌∷◌}
 use seplogic.Ra.Ura.{Ura}
-use mir.Syntax.{Name, Fn, named, Place, Opd as Operand, Body, call, seq}
+use mir.Syntax.{Callee, Fn, named, Place, Opd as Operand, Body, call, seq}
 use mir.Val.{Val, WT, has_ty}
 use base.Logic.{SProp, ent, sep, emp, via, fst∗}
 use base.Fml.{Lft, Share}
@@ -69,9 +69,9 @@ module _ (R : RattleType) (Says : Reader → R.Denot → Type 0) {M : Type 1} {�
         move ! (1 ∷ []) $ fsplit ! $ move ! (1 ∷ []) $ drop ! $ frame ! $ done !
 
     -- at exit: the answer, the token, and what the reader owns
-    pub exits : (r : R.Denot) (u : Val) → Says d r → ent 𝓤 (⋆ 𝓛 (‵ (R.own r (u ∷ [])) ∷ Token 𝓛 κ q ∷ ‵ (Held κ d (T'.lowered d)) ∷ [])) (Post u)
+    pub exits : (r : R.Denot) (u : Val) → Says d r → ent 𝓤 (⋆ 𝓛 (‵ (R.own_val r (u ∷ [])) ∷ Token 𝓛 κ q ∷ ‵ (Held κ d (T'.lowered d)) ∷ [])) (Post u)
     exits r u e =
-        qed 𝓛 (‵ (R.own r (u ∷ [])) ∷ Token 𝓛 κ q ∷ ‵ (Held κ d (T'.lowered d)) ∷ []) ∵
+        qed 𝓛 (‵ (R.own_val r (u ∷ [])) ∷ Token 𝓛 κ q ∷ ‵ (Held κ d (T'.lowered d)) ∷ []) ∵
         suffices ! _ (ends_at 𝓛 (ended 1 taken kept (λ κs. R)) stayed said (passed (T'.lowered d)) u r (tt, tt) (tt, tt)) $ says ! e $
         move ! (1 ∷ []) $ frame ! $ nothing ! $ move ! (2 ∷ 0 ∷ []) $ fjoin ! $ frame ! $ done !
 
@@ -83,7 +83,7 @@ module _ (R : RattleType) (Says : Reader → R.Denot → Type 0) {M : Type 1} {�
 
     -- so a caller has reader and token as before, and an answer with what is said of it
     pub asks :
-        {K : Type 0} {Γ : List (Item 𝓤)} {E : Env 𝓤 H} {C : Calls 𝓤 H} {Λ : Loops 𝓤 H} {p : Exits 𝓤 H} {f : Name} {xs : List Operand} {to : Place} {next : Body}
+        {K : Type 0} {Γ : List (Item 𝓤)} {E : Env 𝓤 H} {C : Calls 𝓤 H} {Λ : Loops 𝓤 H} {p : Exits 𝓤 H} {f : Callee} {xs : List Operand} {to : Place} {next : Body}
         → K → FmC 𝓤 H 𝓛.laws C → Triple 𝓤 (C f) Contracted → (v : Val) → Opds K 𝓛 (raw (Contracted.pre (passed v)) ∷ ‵ (Held κ d v) ∷ Γ) E xs (v ∷ [])
         → ((r : R.Denot) (u : Val) → Says d r → Is R r (u ∷ []) → Seq K 𝓛 (‵ (Held κ d v) ∷ Token 𝓛 κ q ∷ Γ) (lands C Λ E to u next p))
         → Seq K 𝓛 (‵ (Held κ d v) ∷ Token 𝓛 κ q ∷ Γ) (runs C Λ E (seq (call f xs to) next) p)
