@@ -50,6 +50,9 @@ def split_decls(text):
     return head, decls
 
 
+opened, used = {}, set()
+
+
 def contracts():
     """The names of each function's clauses, from the sources: path -> (requires, ensures)."""
     out = {}
@@ -101,6 +104,35 @@ def clause(names, digits):
             return digits
         left = left[1:]
     return [names[j]] + left
+
+
+def tupled(path, names):
+    """A record of clauses as the nested pairs that it was."""
+    if not names or len(names) < 2 or names[0] is None:
+        return path
+    out = f"{path}.{names[-1]}"
+    for n in reversed(names[:-1]):
+        out = f"({path}.{n}, {out})"
+    return out
+
+
+def names_of(fn, path):
+    """The clauses behind a path such as c.requires, c.f.ensures or c.in-V.ensures."""
+    if path == "c.requires":
+        return CONTRACTS.get(fn.own, ([], []))[0]
+    if not path.endswith(".ensures") or path.count(".") != 2:
+        return []
+    step = path.split(".")[1]
+    for place, (old, new) in fn.field.items():
+        if new == step and fn.callee.get(place):
+            return CONTRACTS.get(fn.callee[place], ([], []))[1]
+    for place, arm in fn.arm.items():
+        if arm and arm[0] == step:
+            up = place
+            while up and fn.callee.get(up) is None:
+                up = fn.parent.get(up)
+            return CONTRACTS.get(fn.callee.get(up) or "", ([], []))[1]
+    return []
 
 
 class Fn:
@@ -234,7 +266,7 @@ def turn(fn, goal, body, env, log, helpers):
     """Turns a body: env maps a variable to a place."""
     env = dict(env)
     # helpers applied to a place
-    for _ in range(8):
+    for _ in range(400):
         changed = False
         for h, (kind, param, hbody, htype) in helpers.items():
             path = r"[A-Za-z][\w.'₀-₉-]*"
@@ -246,12 +278,15 @@ def turn(fn, goal, body, env, log, helpers):
             put = lambda s: re.sub(r"(?<![\w.'-])" + re.escape(param) + r"(?![\w'-])", arg, s).strip()
             for n in set(re.findall(r"let ([A-Za-z]\w*'*) [=:]", hbody)):
                 hbody = re.sub(r"(?<![\w.'-])" + re.escape(n) + r"(?![\w'-])", n + "0", hbody)
+            for n in set(re.findall(r"let ([A-Za-z]\w*'*) [=:]", htype)):
+                htype = re.sub(r"(?<![\w.'-])" + re.escape(n) + r"(?![\w'-])", n + "1", htype)
             inner = put(hbody)
             if kind == "place":
                 rep = inner if re.match(r"^[\w.'₀-₉-]+$", inner) else "(" + inner + ")"
             else:
                 rep = f"(let {h}0 : ({put(htype)}) = {inner} in {h}0)" if htype else "(" + inner + ")"
             body = body[: m.start()] + rep + body[m.end():]
+            used.add(h)
             changed = True
             break
         if not changed:
@@ -259,7 +294,7 @@ def turn(fn, goal, body, env, log, helpers):
     out, pos = [], 0
     # lets that bind places are dropped; words that are paths are turned
     token = re.compile(r"let (?:\(?)([\w'₀-₉-]+)(?:\)?) =\s+(" + WORD + r") in[ \t]*\n?[ \t]*|" + r"(?<![\w.'₀-₉-])(?!let \()([A-Za-z][\w'₀-₉-]*)((?:\.[\w'₀-₉-]+)*)|let (\([^=\n]*\)) =")
-    alias, steps, asks, given = set(), {}, set(), {}
+    alias, steps, recs, given = set(), {}, {}, {}
     def sub(text):
         res, i = [], 0
         for m in token.finditer(text):
@@ -271,12 +306,17 @@ def turn(fn, goal, body, env, log, helpers):
                     kind, val = walk(fn, goal, env[parts[0]], parts[1:], log)
                     if kind == "place":
                         env[m.group(1)] = val
+                        for d in (steps, recs, given):
+                            d.pop(m.group(1), None)
+                        alias.discard(m.group(1))
                         res.append(text[i:m.start()])
                         i = m.end()
                         continue
                     env.pop(m.group(1), None)
-                    (asks.add if val == "c.requires" else asks.discard)(m.group(1))
-                    if parts[-1] == "given" and val.count(".") == 2:
+                    recs.pop(m.group(1), None)
+                    if len(names_of(fn, val)) > 1:
+                        recs[m.group(1)] = names_of(fn, val)
+                    if ".given" in val:
                         given[m.group(1)] = (env[parts[0]], parts[1:])
                         res.append(text[i:m.start()])
                         i = m.end()
@@ -294,10 +334,14 @@ def turn(fn, goal, body, env, log, helpers):
                 continue
             if m.group(5):
                 for n in re.findall(r"[\w'-]+", m.group(5)):
-                    env.pop(n, None), steps.pop(n, None), given.pop(n, None), alias.discard(n), asks.discard(n)
+                    env.pop(n, None), steps.pop(n, None), given.pop(n, None), recs.pop(n, None), alias.discard(n)
                 continue
             if m.group(3) in steps and m.group(4):
                 parts = m.group(4).split(".")[1:]
+                if parts[0] == "before":
+                    res.append(text[i:m.start()] + walk(fn, goal, steps[m.group(3)], parts, log)[1])
+                    i = m.end()
+                    continue
                 val = field(fn, steps[m.group(3)], parts[0], parts)[1]
                 res.append(text[i:m.start()] + m.group(3) + val[len("c." + fn.field[steps[m.group(3)]][1]):])
                 i = m.end()
@@ -308,8 +352,12 @@ def turn(fn, goal, body, env, log, helpers):
                 res.append(text[i:m.start()] + val)
                 i = m.end()
                 continue
-            if m.group(3) in asks and m.group(4) and fn.own in CONTRACTS:
-                res.append(text[i:m.start()] + ".".join([m.group(3)] + clause(CONTRACTS[fn.own][0], m.group(4).split(".")[1:])))
+            if m.group(3) in recs:
+                if m.group(4):
+                    val = ".".join([m.group(3)] + clause(recs[m.group(3)], m.group(4).split(".")[1:]))
+                else:
+                    val = tupled(m.group(3), recs[m.group(3)])
+                res.append(text[i:m.start()] + val)
                 i = m.end()
                 continue
             if m.group(3) in alias and m.group(4):
@@ -323,6 +371,8 @@ def turn(fn, goal, body, env, log, helpers):
                 if kind == "place":
                     log.append(f"place {val} as a value")
                     val = "XX" + m.group(0)
+                else:
+                    val = tupled(val, names_of(fn, val))
                 res.append(text[i:m.start()] + val)
                 i = m.end()
         res.append(text[i:])
@@ -342,7 +392,7 @@ def cut(text):
             if i != len(text) - 1:
                 return None
             cuts.append(text[last:i])
-            return [c.strip() for c in cuts]
+            return [c.strip() for c in cuts if c.strip()]
         if depth == 1 and ch == ",":
             cuts.append(text[last:i])
             last = i + 1
@@ -380,6 +430,13 @@ def as_record(body, names, log):
             parts = parts[:-1] + cut(parts[-1])
         if parts and len(parts) == len(names):
             return text[:i] + "(record { " + "; ".join(f"{n} = {p}" for n, p in zip(names, parts)) + " })"
+    if not parts or len(parts) == 1:
+        out, way = [], "it"
+        for n in names[:-1]:
+            out.append(f"{n} = {way}.0")
+            way += ".1"
+        out.append(f"{names[-1]} = {way}")
+        return body[:at] + "let it = " + end + " in\n    record { " + "; ".join(out) + " }"
     log.append("clauses " + " ".join(names) + " not told apart")
     return body
 
@@ -480,6 +537,7 @@ def main():
                 uses[-1] += "\n" + l
         uses = [u for u in uses if not re.search(r"\.Tie as tie|\{statement\}|\.Tie\.\{close\}|\.Reads as |\.Kinds as |\.Lts-\S+ as |use borrow\.Fn\.", u)]
         helpers, answers, invs, locals_ = {}, [], [], []
+        opened.clear()
         loops = 0
         stem = {}
         for d in decls:
@@ -550,6 +608,7 @@ def main():
                     if ty and hp.group(1) != mm.group(1).split()[0]:
                         ty = re.sub(r"(?<![\w.'-])" + re.escape(hp.group(1)) + r"(?![\w'-])", mm.group(1).split()[0], ty)
                     helpers[n] = ("place" if isplace else "term", mm.group(1).split()[0], rhs, ty)
+                    opened[n] = [w for l in d["lines"][1:k] if l.startswith("unfolding") for w in l.split()[1:]]
                 else:
                     log.append("helper " + n)
                     locals_.append(whole)
@@ -569,7 +628,11 @@ def main():
             env = {var: place} if place else {}
             for lp in fn.d["places"]:
                 pass
+            used.clear()
             body = turn(fn, place, rhs, env, log, helpers) if place else rhs
+            words = [w for l in unf for w in l.split()[1:]]
+            words += [w for h in sorted(used) for w in opened.get(h, []) if w not in words]
+            unf = ["unfolding " + " ".join(dict.fromkeys(words))] if words else []
             body = re.sub(r"\(not-(true|false) _ (c\.[\w-]+)\.(true|false)-raw\)", r"\2.\3", body)
             body = re.sub(r"not-(true|false) _ (c\.[\w-]+)\.(true|false)-raw", r"\2.\3", body)
             body = unpaired(fn, body, log)

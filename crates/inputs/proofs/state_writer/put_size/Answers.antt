@@ -1,0 +1,31 @@
+-- `inputs::state_writer::put_size` meets its contract: the word and the two numbers, the label, a
+-- newline, each after what is written before it.
+-- the word and the numbers, the label's field
+use mathlib.Core.List.{[], ◌∷◌, ◌++◌}
+use Prim.Native.Nat.{◌+◌, ◌≤◌}
+use lib.ListN.{length}
+use borrow.Author.Rules.{rules}
+use Rattle.lists.specs.Lists.{Bytes}
+use Rattle.lines.specs.Number.{ascii, decimal}
+use Rattle.lines.specs.Hex.{hex_field}
+use Rattle.lines.specs.Line.{tab, newline}
+use Rattle.inputs.proofs.StateWriterLaws.{room_first, room-then, wrote_then, size_pieces}
+use Rattle.inputs.proofs.state_writer.put_size.Goals as goal
+
+pub put_numbers-label_at-requires : goal.put_numbers-label_at-requires
+unfolding ascii
+put_numbers-label_at-requires c = room_first (ascii "size" ++ (tab ∷ decimal c.args.size) ++ (tab ∷ decimal c.args.timestamp)) (tab ∷ hex_field c.args.label.now) _ _ (let room-two0 : (c.args.at + length ((ascii "size" ++ (tab ∷ decimal c.args.size) ++ (tab ∷ decimal c.args.timestamp)) ++ (tab ∷ hex_field c.args.label.now)) ≤ length c.args.out.now) = room_first ((ascii "size" ++ (tab ∷ decimal c.args.size) ++ (tab ∷ decimal c.args.timestamp)) ++ (tab ∷ hex_field c.args.label.now)) (newline ∷ []) _ _ (let room0 : (c.args.at + length ((ascii "size" ++ (tab ∷ decimal c.args.size) ++ (tab ∷ decimal c.args.timestamp)) ++ (tab ∷ hex_field c.args.label.now) ++ newline ∷ []) ≤ length c.args.out.now) = rw (size_pieces c.args.size c.args.timestamp c.args.label.now) at c.requires in room0) in room-two0)
+
+pub put_field-end-requires : goal.put_field-end-requires
+unfolding ascii
+put_field-end-requires c = room-then (tab ∷ hex_field c.args.label.now) c.put_numbers-label_at.ensures (let room-two0 : (c.args.at + length ((ascii "size" ++ (tab ∷ decimal c.args.size) ++ (tab ∷ decimal c.args.timestamp)) ++ (tab ∷ hex_field c.args.label.now)) ≤ length c.args.out.now) = room_first ((ascii "size" ++ (tab ∷ decimal c.args.size) ++ (tab ∷ decimal c.args.timestamp)) ++ (tab ∷ hex_field c.args.label.now)) (newline ∷ []) _ _ (let room0 : (c.args.at + length ((ascii "size" ++ (tab ∷ decimal c.args.size) ++ (tab ∷ decimal c.args.timestamp)) ++ (tab ∷ hex_field c.args.label.now) ++ newline ∷ []) ≤ length c.args.out.now) = rw (size_pieces c.args.size c.args.timestamp c.args.label.now) at c.requires in room0) in room-two0)
+
+pub put_all-requires : goal.put_all-requires
+unfolding ascii
+put_all-requires c = room-then (newline ∷ []) (wrote_then (tab ∷ hex_field c.args.label.now) c.put_numbers-label_at.ensures c.put_field-end.ensures) (let room0 : (c.args.at + length ((ascii "size" ++ (tab ∷ decimal c.args.size) ++ (tab ∷ decimal c.args.timestamp)) ++ (tab ∷ hex_field c.args.label.now) ++ newline ∷ []) ≤ length c.args.out.now) = rw (size_pieces c.args.size c.args.timestamp c.args.label.now) at c.requires in room0)
+
+pub returns : goal.returns
+unfolding ascii
+returns c =
+    let two = wrote_then (tab ∷ hex_field c.args.label.now) c.put_numbers-label_at.ensures c.put_field-end.ensures in
+    rw (size_pieces c.args.size c.args.timestamp c.args.label.now) (wrote_then (newline ∷ []) two c.put_all.ensures)
