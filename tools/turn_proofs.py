@@ -287,6 +287,8 @@ def turn(fn, goal, body, env, log, helpers):
                 rep = f"(let {h}0 : ({put(htype)}) = {inner} in {h}0)" if htype else "(" + inner + ")"
             body = body[: m.start()] + rep + body[m.end():]
             used.add(h)
+            body = re.sub(r"\(([A-Za-z][\w'₀-₉]*(?:\.before)*)\)(?=\.)", r"\1", body)
+            body = re.sub(r"= \(([A-Za-z][\w'₀-₉]*(?:\.before)*)\) in", r"= \1 in", body)
             changed = True
             break
         if not changed:
@@ -335,6 +337,13 @@ def turn(fn, goal, body, env, log, helpers):
             if m.group(5):
                 for n in re.findall(r"[\w'-]+", m.group(5)):
                     env.pop(n, None), steps.pop(n, None), given.pop(n, None), recs.pop(n, None), alias.discard(n)
+                m2 = re.compile(r"\s+(" + WORD + r") in(?!\w)").match(text, m.end())
+                if m2 and m2.group(1).split(".")[0] in env:
+                    parts = m2.group(1).split(".")
+                    kind, val = walk(fn, goal, env[parts[0]], parts[1:], log)
+                    if kind == "text" and len(names_of(fn, val)) > 1:
+                        res.append(text[i:m.start()] + m.group(0) + " " + val + " in")
+                        i = m2.end()
                 continue
             if m.group(3) in steps and m.group(4):
                 parts = m.group(4).split(".")[1:]
@@ -589,7 +598,6 @@ def main():
                     continue
                 if not hit:
                     log.append(f"no goal for {n} ({m.group(1)})")
-                    answers.append((None, n, d["notes"], unf, rhs, args))
                     continue
                 answers.append((hit, n, d["notes"], unf, rhs, args))
                 continue

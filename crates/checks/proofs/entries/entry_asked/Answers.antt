@@ -1,0 +1,28 @@
+-- `checks::entries::entry_asked` meets its contract: the lookups are as the kind asks.
+use lib.ListN.{drop}
+use Rattle.inputs.specs.Response.{loose_in}
+use Rattle.checks.proofs.EntryAskedLaws.{search-asked, monitoring-asked, search_marks}
+use Rattle.checks.proofs.EntryAskedLaws.{monitoring_marks}
+use borrow.Author.Rules.{rules}
+use Rattle.checks.proofs.entries.entry_asked.Goals as goal
+
+pub returns-in-Search : goal.returns-in-Search
+returns-in-Search c =
+    let k = c.in-Search.is in
+    let a = c.args in
+    let ls = loose_in (drop a.from a.entries.now) in
+    let begin = c.lookups_shown-lookups.ensures.begin in
+    let count = c.lookups_shown-lookups.ensures.count in
+    let next = c.lookups_shown-lookups.ensures.next in
+    let asked = search-asked _ _ a.tree_size a.positions.now a.versions.now a.position k ls in
+    record { asked = asked _ _ begin count; next = next; marks = search_marks _ _ _ _ _ k _ }
+
+pub returns-in-Monitor : goal.returns-in-Monitor
+returns-in-Monitor c =
+    let k = c.in-Monitor.is in
+    let a = c.args in
+    let ls = loose_in (drop a.from a.entries.now) in
+    let asked = c.monitored_entry.ensures.asked in
+    let next = c.monitored_entry.ensures.next in
+    let marks = c.monitored_entry.ensures.marks in
+    record { asked = monitoring-asked _ a.ladder.now _ _ _ _ k ls _ asked; next = next; marks = monitoring_marks _ _ _ _ _ k _ _ marks }

@@ -1,0 +1,57 @@
+-- `checks::lookups::entries_judged` meets its contract: the entries before the offset are judged.
+use mathlib.Core.Path.{refl, subst}
+use Prim.Native.Nat.{◌-◌}
+use native.Mathlib.Omega.{arith}
+use lib.ListN.{length}
+use Rattle.checks.specs.declared.sections.NextEntry.{NextEntry}
+use Rattle.checks.specs.declared.sections.NextEntry.TheVariants.{Entry as EntryAt}
+use Rattle.checks.specs.Sections.{IsNextEntry}
+use Rattle.checks.proofs.ResultsLaws.{EntriesJudged, judged-none, judged-next, judged-all}
+use borrow.Author.Rules.{rules}
+use Rattle.checks.proofs.lookups.entries_judged.Goals as goal
+
+pub loop-first-init : goal.loop-first-init
+loop-first-init c =
+    let p = c.requires in
+    judged-none _ _ _ _ _ _ _ c.start-results.ensures p.lines p.loose
+
+pub next_entry-requires : goal.next_entry-requires
+next_entry-requires c = record { lines = c.loop-first.invariant.lines; loose = c.loop-first.invariant.loose; within = c.loop-first.invariant.within }
+
+pub overflow_add-at : goal.overflow_add-at
+overflow_add-at c =
+    let h = (let here0 : (IsNextEntry c.args.entries.now c.loop-first.at (EntryAt c.in-Entry.first)) = subst (λ (n : NextEntry). IsNextEntry c.args.entries.now c.loop-first.at n)
+    c.in-Entry.is c.next_entry.ensures in here0) in omega (arith, h.4, h.5)
+
+pub overflow_add-at-in-Entry : goal.overflow_add-at-in-Entry
+overflow_add-at-in-Entry c =
+    let h = (let here0 : (IsNextEntry c.args.entries.now c.loop-first.at (EntryAt c.in-Entry.first)) = subst (λ (n : NextEntry). IsNextEntry c.args.entries.now c.loop-first.at n)
+    c.in-Entry.is c.next_entry.ensures in here0) in omega (arith, h.4, h.5)
+
+pub lookups_judged-summed-requires : goal.lookups_judged-summed-requires
+lookups_judged-summed-requires c =
+    let h = (let here0 : (IsNextEntry c.args.entries.now c.loop-first.at (EntryAt c.in-Entry.first)) = subst (λ (n : NextEntry). IsNextEntry c.args.entries.now c.loop-first.at n)
+    c.in-Entry.is c.next_entry.ensures in here0) in
+    (h.3, (h.5, c.requires.1.1))
+
+pub loop-first-smaller : goal.loop-first-smaller
+loop-first-smaller c =
+    let h = (let here0 : (IsNextEntry c.args.entries.now c.loop-first.at (EntryAt c.in-Entry.first)) = subst (λ (n : NextEntry). IsNextEntry c.args.entries.now c.loop-first.at n)
+    c.in-Entry.is c.next_entry.ensures in here0) in
+    let after = c.lookups_judged-summed.ensures.next in
+    omega (arith, h.4, after.forward, after.within)
+
+pub loop-first-preserved : goal.loop-first-preserved
+loop-first-preserved c =
+    let summary = c.lookups_judged-summed.ensures.summary in
+    let after = c.lookups_judged-summed.ensures.next in
+    judged-next _ _ _ _ _ _ _ _ c.loop-first.invariant _ _ _ _ _ _ _ (let here0 : (IsNextEntry c.args.entries.now c.loop-first.at (EntryAt c.in-Entry.first)) = subst (λ (n : NextEntry). IsNextEntry c.args.entries.now c.loop-first.at n)
+    c.in-Entry.is c.next_entry.ensures in here0)
+    c.prefix_root_at-root.ensures
+    c.position_at-position.ensures refl summary after c.next-results.ensures
+
+pub returns-in-Unread : goal.returns-in-Unread
+returns-in-Unread c =
+    judged-all _ _ _ _ _ _ _ _ c.loop-first.invariant
+    (subst (λ (r : NextEntry). IsNextEntry c.args.entries.now c.loop-first.at r)
+    c.in-Unread.is c.next_entry.ensures)

@@ -1,0 +1,52 @@
+-- `checks::lookups::lookup_passes` meets its contract: each way of trying a lookup is with the
+-- output and the commitment that the rules name.
+-- from the record that was found back to where the function begins
+use mathlib.Core.Logic.{⊎_elim}
+use Prim.Native.Nat.{◌<◌}
+use native.Mathlib.Omega.{arith}
+use borrow.Author.Rules.{rules}
+use Rattle.inputs.proofs.VrfOutputLaws.{found_below}
+use Rattle.checks.specs.Steps.{records_capacity}
+use Rattle.checks.proofs.TriedLookupLaws.{passes-absent, passes-untried, passes-target, passes-below}
+use Rattle.checks.proofs.TriedLookupLaws.{passes-monitored}
+use Rattle.checks.proofs.lookups.lookup_passes.Goals as goal
+
+pub returns-then-sought-version : goal.returns-then-sought-version
+returns-then-sought-version c =
+    let p = c.requires in
+    passes-untried _ _ _ _ _ _ _ _ _ p.version c.find_output-found.ensures.rising p.included c.in-Search.is
+    c.if-included.true c.if-sought-version.true
+
+pub returns-then-version-sought : goal.returns-then-version-sought
+returns-then-version-sought c =
+    let p = c.requires in
+    passes-target _ _ _ _ _ _ _ _ _ p.version c.find_output-found.ensures.rising p.included c.in-Search.is
+    c.if-version-sought.true _ c.lookup_reaches.ensures
+
+pub offset_bounds-offsets-index : goal.offset_bounds-offsets-index
+offset_bounds-offsets-index c =
+    omega (arith, (let within0 : (c.find_output-found.result.index < records_capacity) = let short0 = c.requires.outputs in
+    found_below _ _ records_capacity _ (omega arith) (omega (arith, short0)) c.find_output-found.ensures.any in within0))
+
+pub bounds-offsets-index : goal.bounds-offsets-index
+bounds-offsets-index c =
+    omega (arith, (let within0 : (c.find_output-found.result.index < records_capacity) = let short0 = c.requires.outputs in
+    found_below _ _ records_capacity _ (omega arith) (omega (arith, short0)) c.find_output-found.ensures.any in within0), c.requires.room)
+
+pub returns-then-included : goal.returns-then-included
+returns-then-included c =
+    let p = c.requires in
+    ⊎_elim
+    (λ (_, told, _, above, _, other).
+    passes-below _ _ _ _ _ _ _ _ _ p.version c.find_output-found.ensures.rising p.included _ _ c.value_at-commitment.ensures
+    c.lookup_reaches-then-included.ensures told.given.1 (omega (arith, above.left, other.left)))
+    (λ (_, told).
+    passes-monitored _ _ _ _ _ _ _ _ _ p.version c.find_output-found.ensures.rising p.included _ _ c.value_at-commitment.ensures
+    c.lookup_reaches-then-included.ensures told.given.1)
+    c.match-kind.branch
+
+pub returns : goal.returns
+returns c =
+    let p = c.requires in
+    passes-absent _ _ _ _ _ _ _ _ _ p.version c.find_output-found.ensures.rising p.included c.if-included.false _ _
+    c.lookup_reaches-2.ensures

@@ -1,0 +1,22 @@
+-- `checks::map::moved_pairs` meets its contract: the pairs from an index on are moved, and there is
+-- always room for the one before them.
+-- the map that is moved
+use mathlib.Core.Path.{◌≡◌, subst}
+use mathlib.Core.Logic.{⊎_elim}
+use mathlib.Core.List.{List}
+use Prim.Native.Nat.{ℕ, ◌-◌, ◌≤◌, max}
+use native.Mathlib.Omega.{arith}
+use lib.ListN.{get_or}
+use Rattle.rules.specs.Limits.{map_limit}
+use Rattle.inputs.specs.declared.state.MonitoringMap.{MonitoringMap}
+use Rattle.checks.specs.Map.{IsMap, HoldsAll}
+use Rattle.checks.proofs.MovedPairLaws.{moved_from, moved_none, moved-map, moved-next}
+use borrow.Author.Rules.{rules}
+use Rattle.checks.proofs.map.moved_pairs.Given as goal
+
+abbrev pub invariant-loop-i : goal.invariant-loop-i
+invariant-loop-i l =
+    (l.i ≤ l.initial.i) × (l.initial.i ≤ map_limit) × HoldsAll (moved_from l.tree_size (old l.positions l.versions l.initial.i) l.i) l.moved
+
+abbrev pub decreases-loop-i : goal.decreases-loop-i
+decreases-loop-i l = l.i

@@ -1,0 +1,21 @@
+-- `checks::map::version_there` meets its contract: the pairs passed so far stand elsewhere.
+use mathlib.Core.Path.{◌≡◌, refl}
+use Prim.Native.Nat.{◌-◌, ◌≤◌}
+use native.Mathlib.Omega.{arith}
+use Rattle.rules.specs.Limits.{map_limit}
+use Rattle.checks.specs.Map.{pairs_in, version_at}
+use Rattle.checks.proofs.MovedPairLaws.{pairs_from, version-found, version-passed, version-none}
+use borrow.Author.Rules.{rules}
+use Rattle.checks.proofs.map.version_there.Goals as goal
+
+pub loop-i-init : goal.loop-i-init
+loop-i-init c = (omega arith, c.requires.few, refl)
+
+pub returns-then-positions-i : goal.returns-then-positions-i
+returns-then-positions-i c = version-found _ _ _ c.loop-i.invariant.2 c.requires (omega arith) c.if-positions-i.true
+
+pub loop-i-preserved : goal.loop-i-preserved
+loop-i-preserved c = (omega arith, c.loop-i.invariant.1, version-passed _ _ _ c.loop-i.invariant.2 c.requires (omega arith) c.if-positions-i.false)
+
+pub returns : goal.returns
+returns c = version-none c.args.map _ c.loop-i.i c.loop-i.invariant.2 (omega arith)

@@ -1,0 +1,22 @@
+-- `checks::map::with_pair` meets its contract: the pair is carried from index to index, and where
+-- it is stored, the one that stood there is carried on.
+use mathlib.Core.Bool.{false≢true}
+use mathlib.Core.Logic.{⊎_elim}
+use Prim.Native.Nat.{◌+◌, ◌-◌, ◌≤◌}
+use native.Mathlib.Omega.{arith}
+use Rattle.rules.specs.Limits.{map_limit}
+use Rattle.checks.specs.Map.{pairs_in, put_version}
+use Rattle.checks.proofs.PairPutLaws.{Carrying, carrying_start, carried-over, carried-past}
+use Rattle.checks.proofs.PairPutLaws.{carried-stored}
+use Rattle.checks.proofs.PairPutLaws.{carried-beyond, carried-last}
+use borrow.Author.Rules.{rules}
+use Rattle.checks.proofs.map.with_pair.Given as goal
+
+abbrev pub invariant-loop-i : goal.invariant-loop-i
+invariant-loop-i l =
+    (l.i ≤ l.count) × (l.count ≤ map_limit)
+    × Carrying (put_version l.position l.version (pairs_in l.map)) l.count l.positions l.versions l.carried l.carried_version l.i
+
+abbrev pub decreases-loop-i : goal.decreases-loop-i
+decreases-loop-i l =
+    l.count - l.i

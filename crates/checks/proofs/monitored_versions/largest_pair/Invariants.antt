@@ -1,0 +1,16 @@
+-- `checks::monitored_versions::largest_pair` meets its contract: `above` is one more than the
+-- largest version of the pairs from i on, that of `pair`.
+use Prim.Native.Nat.{◌-◌, ◌≤◌}
+use mathlib.Core.Path.{◌≡◌}
+use native.Mathlib.Omega.{arith}
+use lib.ListN.{length}
+use Rattle.checks.proofs.MonitoredVersionLaws.{Found, found-start, found-past, found_below}
+use Rattle.checks.proofs.MonitoredVersionLaws.{found-above, found_none, found_some}
+use borrow.Author.Rules.{rules}
+use Rattle.checks.proofs.monitored_versions.largest_pair.Given as goal
+
+abbrev pub invariant-loop-i : goal.invariant-loop-i
+invariant-loop-i l = (l.i ≤ length l.positions) × Found l.tree_size l.positions l.versions l.entry l.i l.pair l.above
+
+abbrev pub decreases-loop-i : goal.decreases-loop-i
+decreases-loop-i l = l.i

@@ -1,0 +1,30 @@
+-- `checks::monitoring::step_on` meets its contract: the next versions of the pairs before i have
+-- been moved, those from i on are as before.
+use mathlib.Core.Path.{refl, sym, ◌∙◌}
+use mathlib.Core.Logic.{⊎_elim}
+use Prim.Native.Nat.{◌-◌, ◌≤◌}
+use native.Mathlib.Omega.{arith}
+use lib.ListN.{length}
+use Rattle.inputs.proofs.PairLaws.{version_within}
+use Rattle.checks.proofs.NextVersionLaws.{Moved, moved_on, moved_not, moved_all}
+use borrow.Author.Rules.{rules}
+use Rattle.checks.proofs.monitoring.step_on.Goals as goal
+
+pub loop-i-init : goal.loop-i-init
+loop-i-init c = (omega arith, (c.requires.pairs, refl))
+
+pub next_not_above-requires : goal.next_not_above-requires
+next_not_above-requires c = version_within c.args.versions.now c.loop-i.i c.requires.versions (omega arith)
+
+pub loop-i-preserved : goal.loop-i-preserved
+loop-i-preserved c =
+    let l = c.loop-i in
+    let on =
+    ⊎_elim
+    (λ w. moved_on _ _ _ l.next l.i _ c.if-next-i.next l.invariant.1 (omega arith) w.0.taken w.2.ensures w.3)
+    (λ w. moved_not _ _ _ l.next l.i c.if-next-i.next l.invariant.1 (omega arith) (omega (arith, w.0.left)) w.1)
+    c.if-next-i.branch in
+    (omega arith, on)
+
+pub returns : goal.returns
+returns c = let l = c.loop-i in moved_all _ _ _ _ l.i l.invariant.1 (omega arith)

@@ -1,0 +1,33 @@
+-- `checks::given::try_6_to_8` meets its contract: the first of the three tests that fails gives its
+-- number.
+-- past 6, the call that was given
+use mathlib.Core.Path.{sym, ◌∙◌}
+use borrow.Author.Tests.{not-true, not-false}
+use Rattle.checks.proofs.RequestLaws.{first-foreign, first-size, first-version, first_none}
+use Rattle.checks.specs.declared.readings.Call.{Call as CallBlock}
+use borrow.Author.Rules.{rules}
+use Rattle.checks.proofs.request.try_6_to_8.Goals as goal
+
+pub returns-then-not-is_requested : goal.returns-then-not-is_requested
+returns-then-not-is_requested c =
+    let o = c.is_requested.ensures in
+    first-foreign _ _ c.args.call _ _ _ (λ d p q i l. sym c.if-not-is_requested.true ∙ o d p q i l)
+
+pub returns-then-not-size_fits : goal.returns-then-not-size_fits
+returns-then-not-size_fits c =
+    let o = c.is_requested.ensures in
+    first-size _ _ (c.args.call) _ _ _ (λ d p q i l. sym c.if-not-is_requested.false ∙ o d p q i l) (sym c.if-not-size_fits.true ∙ c.size_fits.ensures)
+
+pub returns-then-not-target_fits : goal.returns-then-not-target_fits
+returns-then-not-target_fits c =
+    let o = c.is_requested.ensures in
+    let t = c.target_fits.ensures in
+    first-version _ _ (c.args.call) _ _ _ (λ d p q i l. sym c.if-not-is_requested.false ∙ o d p q i l) (sym c.if-not-size_fits.false ∙ c.size_fits.ensures)
+    (λ d g m. sym c.if-not-target_fits.true ∙ t d g m)
+
+pub returns : goal.returns
+returns c =
+    let o = c.is_requested.ensures in
+    let t = c.target_fits.ensures in
+    first_none _ _ (c.args.call) _ _ _ (λ d p q i l. sym c.if-not-is_requested.false ∙ o d p q i l) (sym c.if-not-size_fits.false ∙ c.size_fits.ensures)
+    (λ d g m. sym c.if-not-target_fits.false ∙ t d g m)

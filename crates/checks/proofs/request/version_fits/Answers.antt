@@ -1,0 +1,27 @@
+-- `checks::given::version_fits` meets its contract: no version of the map before i is above this
+-- one, so those from i on decide.
+use mathlib.Core.Path.{◌≡◌, refl, sym, ◌∙◌}
+use mathlib.Core.Bool.{true, false}
+use Prim.Native.Nat.{ℕ, ◌-◌}
+use lib.Dec.{ltb}
+use lib.ListN.{length, drop}
+use Rattle.lists.specs.Lists.{any}
+use borrow.Author.Tests.{lt-ltb, le-ltb}
+use borrow.Author.Rules.{rules}
+use Rattle.checks.proofs.RequestLaws.{any_next, any-stops, any-ends, version-great, versions-decide}
+use Rattle.checks.proofs.request.version_fits.Goals as goal
+
+pub returns-then-version-gt-GREATEST_VERSION : goal.returns-then-version-gt-GREATEST_VERSION
+returns-then-version-gt-GREATEST_VERSION c = version-great _ _ c.if-version-gt-GREATEST_VERSION.true
+
+pub loop-i-init : goal.loop-i-init
+loop-i-init c = refl
+
+pub returns-then-version-versions : goal.returns-then-version-versions
+returns-then-version-versions c = versions-decide _ _ true c.if-version-gt-GREATEST_VERSION.false (sym c.loop-i.invariant ∙ any-stops _ _ _ c.loop-i-test.true (lt-ltb _ _ c.if-version-versions.true))
+
+pub loop-i-preserved : goal.loop-i-preserved
+loop-i-preserved c = any_next _ _ _ c.loop-i-test.true (le-ltb _ _ c.if-version-versions.false) ∙ c.loop-i.invariant
+
+pub returns : goal.returns
+returns c = versions-decide _ _ false c.if-version-gt-GREATEST_VERSION.false (sym c.loop-i.invariant ∙ any-ends _ _ _ c.loop-i-test.false)

@@ -1,0 +1,46 @@
+-- `checks::search::search_asked` meets its contract: what is asked of a search, section by section.
+-- from past the ladder back to where the function begins
+use mathlib.Core.Path.{◌≡◌, refl, ◌∙◌}
+use native.Mathlib.Omega.{arith}
+use lib.ListN.{take}
+use borrow.Author.Rules.{rules}
+use Rattle.hash.proofs.BytesLaws.{filled_front, part_count}
+use Rattle.tree.specs.Ladder.{ladder}
+use Rattle.tree.proofs.LadderFillLaws.{within_some}
+use Rattle.checks.proofs.ShapeLaws.{part_short, target_version, no_pairs, search-shape}
+use Rattle.checks.proofs.search.search_asked.Goals as goal
+
+pub slice_bounds-ladder-end : goal.slice_bounds-ladder-end
+slice_bounds-ladder-end c = (filled_front _ _ _ _ c.of-whole.ensures).1
+
+pub slice_bounds-entries_asked-end : goal.slice_bounds-entries_asked-end
+slice_bounds-entries_asked-end c = part_count _ _ (array-share-prefix-ladder XXc.before)
+
+pub entries_asked-entries-requires : goal.entries_asked-entries-requires
+entries_asked-entries-requires c =
+    let p = c.requires.possible in
+    let e = c.of.ensures in
+    let l = part_short c.args.text.now c.args.call.response.entries.part _ p.triable.short in
+    let f = p.triable.offsets.3 in
+    record { lines = rw e f.entries; loose = rw e f.none_loose; short = rw e l; many = p.largest; pairs = (no_pairs, refl) }
+
+pub slice_bounds-ladder-end-2 : goal.slice_bounds-ladder-end-2
+slice_bounds-ladder-end-2 c = array-share-prefix-ladder XXc.before.before.before.before.before.before.before
+
+pub slice_bounds-search_steps-end : goal.slice_bounds-search_steps-end
+slice_bounds-search_steps-end c = part_count _ _ (array-share-prefix-ladder-2 XXc.before)
+
+pub search_steps-steps-requires : goal.search_steps-steps-requires
+search_steps-steps-requires c =
+    let p = c.requires.possible in
+    let e = c.of-2.ensures in
+    let l = part_short c.args.text.now c.args.call.response.steps.part _ p.triable.short in
+    record { lines = rw e p.triable.offsets.3.steps; short = rw e l; ladder = (let wanted0 : (take c.of-whole.result.length c.of-whole.result.versions ≡ ladder c.args.call.response.target.version) = let v0 = target_version _ _ _ c.requires.kind c.requires.possible.triable.target in
+    (filled_front _ _ _ _ c.of-whole.ensures).0 ∙ within_some c.args.call.response.target.version (omega (arith, v0)) in wanted0); outputs = p.triable.outputs; room = c.requires.room }
+
+pub returns : goal.returns
+returns c =
+    λ call i m.
+    search-shape i c.requires.kind c.of-2.ensures c.of.ensures _ _ _ (let wanted0 : (take c.of-whole.result.length c.of-whole.result.versions ≡ ladder c.args.call.response.target.version) = let v0 = target_version _ _ _ c.requires.kind c.requires.possible.triable.target in
+    (filled_front _ _ _ _ c.of-whole.ensures).0 ∙ within_some c.args.call.response.target.version (omega (arith, v0)) in wanted0)
+    c.entries_asked-entries.ensures.asked (c.search_steps-steps.ensures.asked, (c.search_steps-steps.ensures.there, c.search_steps-steps.ensures.offsets)) c.entries_asked-entries.ensures.timestamps refl
