@@ -3,7 +3,9 @@
 use mathlib.Core.Path.{◌≡◌, refl, sym, ◌∙◌}
 use Prim.Native.Nat.{◌-◌, ◌<◌}
 use native.Mathlib.Omega.{arith}
-use lib.ListN.{length}
+use mathlib.Core.List.{[]}
+use lib.ListN.{length, drop}
+use Rattle.inputs.specs.Response.{entries_in}
 use Rattle.checks.specs.declared.sections.NextEntry.TheVariants.{Entry as EntryAt}
 use Rattle.checks.specs.Sections.{IsNextEntry}
 use Rattle.checks.proofs.EntryLaws.{entry_found, entry_missing}
@@ -33,7 +35,8 @@ next_entry-requires c = let f = c.loop-kind.invariant.1 in record { lines = f.li
 
 pub returns-in_default : goal.returns-in_default
 returns-in_default c =
-    let e = entry_missing _ _ _ c.in_default.is c.next_entry.ensures in
+    let e : entries_in (drop c.loop-kind.at c.args.entries.now) ≡ [] =
+    entry_missing c.args.entries.now c.loop-kind.at _ c.in_default.is c.next_entry.ensures in
     let it = followed-missing _ _ _ _ _ _ _ _ _ _ _ _ c.loop-kind.invariant.1 _ c.next_asked-position.ensures
     (omega (arith, c.if-tree_size-position.false)) e _ c.not_asked.ensures in
     record { asked = it.0; timestamps = it.1.0; marks = it.1.1 }

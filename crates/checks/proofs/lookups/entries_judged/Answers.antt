@@ -32,7 +32,7 @@ pub lookups_judged-summed-requires : goal.lookups_judged-summed-requires
 lookups_judged-summed-requires c =
     let h = (let here0 : (IsNextEntry c.args.entries.now c.loop-first.at (EntryAt c.in-Entry.first)) = subst (λ (n : NextEntry). IsNextEntry c.args.entries.now c.loop-first.at n)
     c.in-Entry.is c.next_entry.ensures in here0) in
-    (h.3, (h.5, c.requires.1.1))
+    record { lines = h.3; within = h.5; short = c.requires.short; outputs = c.requires.outputs; room = c.requires.room }
 
 pub loop-first-smaller : goal.loop-first-smaller
 loop-first-smaller c =

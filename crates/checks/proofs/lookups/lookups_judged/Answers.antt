@@ -37,10 +37,10 @@ slice_bounds-next-end c =
 
 pub next-summary-requires : goal.next-summary-requires
 next-summary-requires c =
-    let (_, (_, (short, room))) = c.requires in
+    let short = c.requires.short in
     let forward = c.loop-stop.invariant.forward in
     let within = c.loop-stop.invariant.within in
-    (omega arith, room)
+    record { few = omega arith; outputs = c.requires.outputs; room = c.requires.room }
 
 pub loop-stop-smaller : goal.loop-stop-smaller
 loop-stop-smaller c =

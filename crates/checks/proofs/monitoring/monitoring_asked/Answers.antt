@@ -18,7 +18,10 @@ use Rattle.checks.proofs.ShapeLaws.{monitoring-not, monitoring-shape}
 use Rattle.checks.proofs.monitoring.monitoring_asked.Goals as goal
 
 pub slice_bounds-entries_asked-end-2 : goal.slice_bounds-entries_asked-end-2
-slice_bounds-entries_asked-end-2 c = sym (length-take-le _ _ (array-borrow-prefix-marks XXc.before))
+slice_bounds-entries_asked-end-2 c =
+    let p = c.requires.possible.pairs in
+    let n : length c.args.versions.now ≤ map_limit = omega (arith, p.alike, p.few) in
+    sym (length-take-le _ _ n)
 
 pub entries_asked-entries-requires : goal.entries_asked-entries-requires
 entries_asked-entries-requires c =
@@ -36,17 +39,18 @@ returns-then-not-entries c =
     c.entries_asked-entries.ensures.asked (not-true _ c.if-not-entries.true) c.not_asked.ensures
 
 pub slice_bounds-marks-end-2 : goal.slice_bounds-marks-end-2
-slice_bounds-marks-end-2 c = marks_within _ (c.entries_asked-entries.new.marks.0) _ c.entries_asked-entries.ensures.marks.0
+slice_bounds-marks-end-2 c = marks_within _ c.entries_asked-entries.new.marks _ c.entries_asked-entries.ensures.marks.0
 
 pub slice_bounds-monitoring_steps-end : goal.slice_bounds-monitoring_steps-end
-slice_bounds-monitoring_steps-end c = sym (length-take-le _ _ (array-borrow-prefix-marks-2 XXc.before))
+slice_bounds-monitoring_steps-end c =
+    sym (length-take-le _ _ (marks_within _ c.entries_asked-entries.new.marks _ c.entries_asked-entries.ensures.marks.0))
 
 pub monitoring_steps-steps-requires : goal.monitoring_steps-steps-requires
 monitoring_steps-steps-requires c =
     let p = c.requires.possible in
     let e = c.of-2.ensures in
     let l = part_short c.args.text.now c.args.call.response.steps.part _ p.triable.short in
-    let m = marks_again c.args.versions.now (c.entries_asked-entries.new.marks.0) _ c.entries_asked-entries.ensures.marks.0 in
+    let m = marks_again c.args.versions.now c.entries_asked-entries.new.marks _ c.entries_asked-entries.ensures.marks.0 in
     record { lines = rw e p.triable.offsets.3.steps; short = rw e l; marks = m; outputs = p.triable.outputs; room = c.requires.room }
 
 pub returns : goal.returns
@@ -57,5 +61,5 @@ returns c =
     λ call i m.
     monitoring-shape i c.requires.kind _ _ m c.requires.possible.pairs.alike c.of-2.ensures c.of.ensures _ _ _
     c.entries_asked-entries.ensures.asked _ asked
-    (ap (λ (ms : List ℕ). counted ms vs) (first_marks vs (c.entries_asked-entries.new.marks.0) _ is_marked) ∙ is_counted asked)
+    (ap (λ (ms : List ℕ). counted ms vs) (first_marks vs c.entries_asked-entries.new.marks _ is_marked) ∙ is_counted asked)
     (c.monitoring_steps-steps.ensures.asked, (c.monitoring_steps-steps.ensures.there, c.monitoring_steps-steps.ensures.offsets)) c.entries_asked-entries.ensures.timestamps

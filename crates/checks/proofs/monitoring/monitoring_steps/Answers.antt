@@ -35,13 +35,24 @@ returns-then-version-wanted c =
 
 pub note_commitment-there-requires : goal.note_commitment-there-requires
 note_commitment-there-requires c =
-    record { offset = omega (arith, (let told0 : (IsNextStep c.args.steps.now c.loop-version.at (StepAt c.in-Step.version c.in-Step.committed c.in-Step.commitment c.in-Step.next)) = subst (IsNextStep c.args.steps.now c.loop-version.at) c.in-Step.is
-    c.next_step.ensures in told0).8, c.requires.short); outputs = c.requires.outputs; room = c.loop-version.invariant.1.read.room }
+    record {
+      offset = omega (
+        arith,
+        (let told0 : (IsNextStep c.args.steps.now c.loop-version.at (StepAt c.in-Step.version c.in-Step.committed c.in-Step.commitment c.in-Step.next)) = subst (IsNextStep c.args.steps.now c.loop-version.at) c.in-Step.is
+            c.next_step.ensures in told0).8,
+        c.requires.short,
+      );
+      outputs = c.requires.outputs;
+      room = c.loop-version.invariant.1.read.room;
+    }
 
 pub overflow_add-version : goal.overflow_add-version
 overflow_add-version c =
-    omega (arith, stepping-fit (let marked0 : (AreMarks c.args.marks.now c.args.versions.now) = c.requires.marks in marked0) c.loop-version.invariant.1 (let least0 : (c.smallest_of-wanted.result ≡ smallest c.loop-version.marks) = c.smallest_of-wanted.ensures in least0) (let told0 : (IsNextStep c.args.steps.now c.loop-version.at (StepAt c.in-Step.version c.in-Step.committed c.in-Step.commitment c.in-Step.next)) = subst (IsNextStep c.args.steps.now c.loop-version.at) c.in-Step.is
-    c.next_step.ensures in told0) c.if-wanted.false c.if-version-wanted.false)
+    omega (
+      arith,
+      stepping-fit (let marked0 : (AreMarks c.args.marks.now c.args.versions.now) = c.requires.marks in marked0) c.loop-version.invariant.1 (let least0 : (c.smallest_of-wanted.result ≡ smallest c.loop-version.marks) = c.smallest_of-wanted.ensures in least0) (let told0 : (IsNextStep c.args.steps.now c.loop-version.at (StepAt c.in-Step.version c.in-Step.committed c.in-Step.commitment c.in-Step.next)) = subst (IsNextStep c.args.steps.now c.loop-version.at) c.in-Step.is
+          c.next_step.ensures in told0) c.if-wanted.false c.if-version-wanted.false,
+    )
 
 pub step_on-requires : goal.step_on-requires
 step_on-requires c = record { pairs = pairs-length (let marked0 : (AreMarks c.args.marks.now c.args.versions.now) = c.requires.marks in marked0) c.loop-version.invariant.1; versions = (let marked0 : (AreMarks c.args.marks.now c.args.versions.now) = c.requires.marks in marked0).versions }
@@ -56,10 +67,10 @@ pub loop-version-preserved : goal.loop-version-preserved
 loop-version-preserved c =
     let n = c.note_commitment-there in (
       (let told0 : (IsNextStep c.args.steps.now c.loop-version.at (StepAt c.in-Step.version c.in-Step.committed c.in-Step.commitment c.in-Step.next)) = subst (IsNextStep c.args.steps.now c.loop-version.at) c.in-Step.is
-    c.next_step.ensures in told0).7,
+          c.next_step.ensures in told0).7,
       stepping-next (let marked0 : (AreMarks c.args.marks.now c.args.versions.now) = c.requires.marks in marked0) c.loop-version.invariant.1 (let least0 : (c.smallest_of-wanted.result ≡ smallest c.loop-version.marks) = c.smallest_of-wanted.ensures in least0) (let told0 : (IsNextStep c.args.steps.now c.loop-version.at (StepAt c.in-Step.version c.in-Step.committed c.in-Step.commitment c.in-Step.next)) = subst (IsNextStep c.args.steps.now c.loop-version.at) c.in-Step.is
-    c.next_step.ensures in told0) c.if-wanted.false c.if-version-wanted.false
-          c.requires.outputs n.ensures n.auto.offsets.0 c.step_on.ensures,
+          c.next_step.ensures in told0) c.if-wanted.false c.if-version-wanted.false
+          c.requires.outputs n.ensures n.auto.offsets c.step_on.ensures,
     )
 
 pub returns-in-Unread : goal.returns-in-Unread

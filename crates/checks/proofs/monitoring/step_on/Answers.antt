@@ -1,14 +1,14 @@
 -- `checks::monitoring::step_on` meets its contract: the next versions of the pairs before i have
 -- been moved, those from i on are as before.
 use mathlib.Core.Path.{refl, sym, ◌∙◌}
-use mathlib.Core.Logic.{⊎_elim}
-use Prim.Native.Nat.{◌-◌, ◌≤◌}
+use Prim.Native.Nat.{◌+◌, ◌-◌, ◌≤◌}
 use native.Mathlib.Omega.{arith}
 use lib.ListN.{length}
 use Rattle.inputs.proofs.PairLaws.{version_within}
 use Rattle.checks.proofs.NextVersionLaws.{Moved, moved_on, moved_not, moved_all}
 use borrow.Author.Rules.{rules}
 use Rattle.checks.proofs.monitoring.step_on.Goals as goal
+use Rattle.checks.proofs.monitoring.step_on.Goals.{then-next-i, else-next-i}
 
 pub loop-i-init : goal.loop-i-init
 loop-i-init c = (omega arith, (c.requires.pairs, refl))
@@ -19,11 +19,11 @@ next_not_above-requires c = version_within c.args.versions.now c.loop-i.i c.requ
 pub loop-i-preserved : goal.loop-i-preserved
 loop-i-preserved c =
     let l = c.loop-i in
-    let on =
-    ⊎_elim
-    (λ w. moved_on _ _ _ l.next l.i _ c.if-next-i.next l.invariant.1 (omega arith) w.0.taken w.2.ensures w.3)
-    (λ w. moved_not _ _ _ l.next l.i c.if-next-i.next l.invariant.1 (omega arith) (omega (arith, w.0.left)) w.1)
-    c.if-next-i.branch in
+    let on : Moved c.args.versions.now c.args.next.now c.args.from c.if-next-i.next (l.i + 1) =
+    elim c.if-next-i.branch [
+      | then-next-i w ↦ moved_on _ _ _ l.next l.i _ _ l.invariant.1 (omega arith) w.if-next-i.true w.next_not_above.ensures w.next-is
+      | else-next-i w ↦ moved_not _ _ _ l.next l.i _ l.invariant.1 (omega arith) w.if-next-i.false w.next-is
+    ] in
     (omega arith, on)
 
 pub returns : goal.returns

@@ -14,7 +14,7 @@ pub slice_bounds-ladder-end : goal.slice_bounds-ladder-end
 slice_bounds-ladder-end c = (filled_front _ _ _ _ c.of-whole.ensures).1
 
 pub slice_bounds-entries_asked-end : goal.slice_bounds-entries_asked-end
-slice_bounds-entries_asked-end c = part_count _ _ (array-share-prefix-ladder XXc.before)
+slice_bounds-entries_asked-end c = part_count _ _ (filled_front _ _ _ _ c.of-whole.ensures).1
 
 pub entries_asked-entries-requires : goal.entries_asked-entries-requires
 entries_asked-entries-requires c =
@@ -25,18 +25,24 @@ entries_asked-entries-requires c =
     record { lines = rw e f.entries; loose = rw e f.none_loose; short = rw e l; many = p.largest; pairs = (no_pairs, refl) }
 
 pub slice_bounds-ladder-end-2 : goal.slice_bounds-ladder-end-2
-slice_bounds-ladder-end-2 c = array-share-prefix-ladder XXc.before.before.before.before.before.before.before
+slice_bounds-ladder-end-2 c = (filled_front _ _ _ _ c.of-whole.ensures).1
 
 pub slice_bounds-search_steps-end : goal.slice_bounds-search_steps-end
-slice_bounds-search_steps-end c = part_count _ _ (array-share-prefix-ladder-2 XXc.before)
+slice_bounds-search_steps-end c = part_count _ _ (filled_front _ _ _ _ c.of-whole.ensures).1
 
 pub search_steps-steps-requires : goal.search_steps-steps-requires
 search_steps-steps-requires c =
     let p = c.requires.possible in
     let e = c.of-2.ensures in
     let l = part_short c.args.text.now c.args.call.response.steps.part _ p.triable.short in
-    record { lines = rw e p.triable.offsets.3.steps; short = rw e l; ladder = (let wanted0 : (take c.of-whole.result.length c.of-whole.result.versions ≡ ladder c.args.call.response.target.version) = let v0 = target_version _ _ _ c.requires.kind c.requires.possible.triable.target in
-    (filled_front _ _ _ _ c.of-whole.ensures).0 ∙ within_some c.args.call.response.target.version (omega (arith, v0)) in wanted0); outputs = p.triable.outputs; room = c.requires.room }
+    record {
+      lines = rw e p.triable.offsets.3.steps;
+      short = rw e l;
+      ladder = (let wanted0 : (take c.of-whole.result.length c.of-whole.result.versions ≡ ladder c.args.call.response.target.version) = let v0 = target_version _ _ _ c.requires.kind c.requires.possible.triable.target in
+          (filled_front _ _ _ _ c.of-whole.ensures).0 ∙ within_some c.args.call.response.target.version (omega (arith, v0)) in wanted0);
+      outputs = p.triable.outputs;
+      room = c.requires.room;
+    }
 
 pub returns : goal.returns
 returns c =

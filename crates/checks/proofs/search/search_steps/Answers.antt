@@ -32,18 +32,26 @@ returns-then-shown-wanted c =
 
 pub note_commitment-there-requires : goal.note_commitment-there-requires
 note_commitment-there-requires c =
-    record { offset = omega (arith, (let told0 : (IsNextStep c.args.steps.now c.loop-i.at (StepAt c.in-Step.shown c.in-Step.committed c.in-Step.commitment c.in-Step.next)) = subst (IsNextStep c.args.steps.now c.loop-i.at) c.in-Step.is
-    c.next_step.ensures in told0).8, c.requires.short); outputs = c.requires.outputs; room = c.loop-i.invariant.2.room }
+    record {
+      offset = omega (
+        arith,
+        (let told0 : (IsNextStep c.args.steps.now c.loop-i.at (StepAt c.in-Step.shown c.in-Step.committed c.in-Step.commitment c.in-Step.next)) = subst (IsNextStep c.args.steps.now c.loop-i.at) c.in-Step.is
+            c.next_step.ensures in told0).8,
+        c.requires.short,
+      );
+      outputs = c.requires.outputs;
+      room = c.loop-i.invariant.2.room;
+    }
 
 pub loop-i-preserved : goal.loop-i-preserved
 loop-i-preserved c =
     let n = c.note_commitment-there in (
       (let told0 : (IsNextStep c.args.steps.now c.loop-i.at (StepAt c.in-Step.shown c.in-Step.committed c.in-Step.commitment c.in-Step.next)) = subst (IsNextStep c.args.steps.now c.loop-i.at) c.in-Step.is
-    c.next_step.ensures in told0).7,
+          c.next_step.ensures in told0).7,
       omega arith,
       ladder-next _ c.args.wanted.now c.loop-i.i c.loop-i.invariant.2 (let told0 : (IsNextStep c.args.steps.now c.loop-i.at (StepAt c.in-Step.shown c.in-Step.committed c.in-Step.commitment c.in-Step.next)) = subst (IsNextStep c.args.steps.now c.loop-i.at) c.in-Step.is
-    c.next_step.ensures in told0) (omega arith) c.if-shown-wanted.false
-          c.requires.outputs n.ensures n.auto.offsets.0,
+          c.next_step.ensures in told0) (omega arith) c.if-shown-wanted.false
+          c.requires.outputs n.ensures n.auto.offsets,
     )
 
 pub returns : goal.returns
