@@ -1,7 +1,6 @@
 -- `checks::map::with_pair` meets its contract: the pair is carried from index to index, and where
 -- it is stored, the one that stood there is carried on.
 use mathlib.Core.Bool.{false≢true}
-use mathlib.Core.Logic.{⊎_elim}
 use Prim.Native.Nat.{◌+◌, ◌-◌, ◌≤◌}
 use native.Mathlib.Omega.{arith}
 use Rattle.rules.specs.Limits.{map_limit}

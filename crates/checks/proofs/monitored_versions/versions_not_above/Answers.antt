@@ -1,6 +1,5 @@
 -- `checks::monitored_versions::versions_not_above` meets its contract: of the ladder's first i
 -- versions those not above the version are stored.
-use mathlib.Core.Logic.{⊎_elim}
 use Prim.Native.Nat.{◌+◌, ◌-◌, ◌<◌, ◌≤◌}
 use native.Mathlib.Omega.{arith}
 use Rattle.tree.specs.Ladder.{ladder_capacity}
@@ -8,6 +7,7 @@ use Rattle.checks.proofs.MonitoredVersionLaws.{Storing, storing_start, storing-p
 use Rattle.checks.proofs.MonitoredVersionLaws.{storing-next, storing-end, whole-fits}
 use borrow.Author.Rules.{rules}
 use Rattle.checks.proofs.monitored_versions.versions_not_above.Goals as goal
+use Rattle.checks.proofs.monitored_versions.versions_not_above.Goals.{then-all-i, else-all-i}
 
 pub loop-i-init : goal.loop-i-init
 loop-i-init c =
@@ -41,12 +41,11 @@ loop-i-preserved c =
     let o = c.of-whole in
     let v = c.args.version in
     let on : Storing v c.if-all-i.versions c.if-all-i.length (l.i + 1) =
-    ⊎_elim
-    (λ w. rw (w.1, w.2)
-    (storing-next _ c.requires _ _ o.ensures.0 o.ensures.1 _ _ _ l.invariant.2 c.loop-i-test.true w.0.taken))
-    (λ w. rw (w.1, w.2)
-    (storing-past _ c.requires _ _ o.ensures.0 o.ensures.1 _ _ _ l.invariant.2 c.loop-i-test.true w.0.left))
-    c.if-all-i.branch in
+    elim c.if-all-i.branch
+    [ then-all-i w ↦ rw (w.versions-is, w.length-is)
+      (storing-next _ c.requires _ _ o.ensures.0 o.ensures.1 _ _ _ l.invariant.2 c.loop-i-test.true w.if-all-i.true)
+    | else-all-i w ↦ rw (w.versions-is, w.length-is)
+      (storing-past _ c.requires _ _ o.ensures.0 o.ensures.1 _ _ _ l.invariant.2 c.loop-i-test.true w.if-all-i.false) ] in
     (omega arith, l.invariant.1, on)
 
 pub returns : goal.returns

@@ -1,6 +1,5 @@
 -- `checks::monitored_versions::versions_not_above` meets its contract: of the ladder's first i
 -- versions those not above the version are stored.
-use mathlib.Core.Logic.{⊎_elim}
 use Prim.Native.Nat.{◌+◌, ◌-◌, ◌<◌, ◌≤◌}
 use native.Mathlib.Omega.{arith}
 use Rattle.tree.specs.Ladder.{ladder_capacity}
