@@ -1,7 +1,6 @@
 -- `checks::acceptance::put_value` meets its contract: the value of a search is put, of monitoring
 -- nothing.
 use Rattle.checks.proofs.AcceptLaws.{search-put, nothing_put}
-use borrow.Author.Rules.{rules}
 use Rattle.checks.proofs.acceptance.put_value.Goals as goal
 
 pub returns-in-Search : goal.returns-in-Search

@@ -1,15 +1,11 @@
 -- `checks::map::moved_pairs` meets its contract: the pairs from an index on are moved, and there is
 -- always room for the one before them.
 use mathlib.Core.Path.{◌≡◌, subst}
-use mathlib.Core.List.{List}
-use Prim.Native.Nat.{ℕ, ◌-◌, ◌≤◌, max}
+use Prim.Native.Nat.{ℕ, ◌-◌, max}
 use native.Mathlib.Omega.{arith}
 use lib.ListN.{get_or}
-use Rattle.rules.specs.Limits.{map_limit}
-use Rattle.inputs.specs.declared.state.MonitoringMap.{MonitoringMap}
-use Rattle.checks.specs.Map.{IsMap, HoldsAll}
+use Rattle.checks.specs.Map.{HoldsAll}
 use Rattle.checks.proofs.MovedPairLaws.{moved_from, moved_none, moved-map, moved-next}
-use borrow.Author.Rules.{rules}
 use Rattle.checks.proofs.map.moved_pairs.Goals as goal
 use Rattle.checks.proofs.map.moved_pairs.Goals.{then-there-versions, else-there-versions}
 
@@ -26,9 +22,10 @@ pub loop-i-preserved : goal.loop-i-preserved
 loop-i-preserved c =
     let committed = get_or c.args.map.versions (c.loop-i.i - 1) 0 in
     let larger : c.if-there-versions.version ≡ max committed c.version_there-there.result =
-    elim c.if-there-versions.branch
-    [ then-there-versions w ↦ omega arith
-    | else-there-versions w ↦ omega arith ] in (
+    elim c.if-there-versions.branch [
+      | then-there-versions w ↦ omega arith
+      | else-there-versions w ↦ omega arith
+    ] in (
       omega arith,
       c.loop-i.invariant.1,
       moved-next _ _ c.requires c.loop-i.i c.loop-i.moved c.loop-i.invariant.2 _ _ _ _ (omega arith)

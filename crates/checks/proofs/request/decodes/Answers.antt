@@ -1,12 +1,9 @@
--- `checks::given::encodes` meets its contract: what the field encodes stands at the front of the
+-- `checks::request::decodes` meets its contract: what the field encodes stands at the front of the
 -- room, or is none or longer than the bytes.
 use mathlib.Core.Path.{◌≡◌, sym, ◌∙◌, ap}
-use mathlib.Core.Option.{some}
 use native.Mathlib.Omega.{arith}
-use lib.ListN.{length, replicate}
+use lib.ListN.{length}
 use Rattle.hash.proofs.BytesLaws.{part_count}
-use Rattle.lines.specs.Hex.{read_hex}
-use Rattle.lines.specs.Writing.{offset_after_any}
 use Rattle.lines.specs.Readings.{put_of}
 use Rattle.rules.specs.Limits.{label_limit}
 use Rattle.checks.proofs.RequestLaws.{put-within, decoded-put, decoded_unput}
