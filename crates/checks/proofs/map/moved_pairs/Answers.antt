@@ -1,36 +1,31 @@
 -- `checks::map::moved_pairs` meets its contract: the pairs from an index on are moved, and there is
 -- always room for the one before them.
--- the map that is moved
 use mathlib.Core.Path.{◌≡◌, subst}
-use mathlib.Core.Logic.{⊎_elim}
-use mathlib.Core.List.{List}
-use Prim.Native.Nat.{ℕ, ◌-◌, ◌≤◌, max}
+use Prim.Native.Nat.{ℕ, ◌-◌, max}
 use native.Mathlib.Omega.{arith}
 use lib.ListN.{get_or}
-use Rattle.rules.specs.Limits.{map_limit}
-use Rattle.inputs.specs.declared.state.MonitoringMap.{MonitoringMap}
-use Rattle.checks.specs.Map.{IsMap, HoldsAll}
+use Rattle.checks.specs.Map.{HoldsAll}
 use Rattle.checks.proofs.MovedPairLaws.{moved_from, moved_none, moved-map, moved-next}
-use borrow.Author.Rules.{rules}
 use Rattle.checks.proofs.map.moved_pairs.Goals as goal
-
-abbrev old : List ℕ → List ℕ → ℕ → MonitoringMap
-old positions versions count = record { positions = positions; versions = versions; count = count }
+use Rattle.checks.proofs.map.moved_pairs.Goals.{then-there-versions, else-there-versions}
 
 pub loop-i-init : goal.loop-i-init
 loop-i-init c = (omega arith, c.requires.few, moved_none _ _ c.requires)
 
 pub version_there-there-requires : goal.version_there-there-requires
-version_there-there-requires c = (let is-map0 : (IsMap c.loop-i.moved.map) = moved-map _ _ c.requires c.loop-i.i c.loop-i.moved c.loop-i.invariant.2 in is-map0)
+version_there-there-requires c = moved-map _ _ c.requires c.loop-i.i c.loop-i.moved c.loop-i.invariant.2
 
 pub with_pair-next-requires : goal.with_pair-next-requires
-with_pair-next-requires c = (let is-map0 : (IsMap c.loop-i.moved.map) = moved-map _ _ c.requires c.loop-i.i c.loop-i.moved c.loop-i.invariant.2 in is-map0)
+with_pair-next-requires c = moved-map _ _ c.requires c.loop-i.i c.loop-i.moved c.loop-i.invariant.2
 
 pub loop-i-preserved : goal.loop-i-preserved
 loop-i-preserved c =
     let committed = get_or c.args.map.versions (c.loop-i.i - 1) 0 in
     let larger : c.if-there-versions.version ≡ max committed c.version_there-there.result =
-    ⊎_elim (λ w. omega (arith, w.0.taken, w.1)) (λ w. omega (arith, w.0.left, w.1)) c.if-there-versions.branch in (
+    elim c.if-there-versions.branch [
+      | then-there-versions w ↦ omega arith
+      | else-there-versions w ↦ omega arith
+    ] in (
       omega arith,
       c.loop-i.invariant.1,
       moved-next _ _ c.requires c.loop-i.i c.loop-i.moved c.loop-i.invariant.2 _ _ _ _ (omega arith)

@@ -1,18 +1,16 @@
 -- `checks::map::moved_pairs` meets its contract: the pairs from an index on are moved, and there is
 -- always room for the one before them.
--- the map that is moved
-use mathlib.Core.Path.{◌≡◌, subst}
-use mathlib.Core.Logic.{⊎_elim}
 use mathlib.Core.List.{List}
-use Prim.Native.Nat.{ℕ, ◌-◌, ◌≤◌, max}
-use native.Mathlib.Omega.{arith}
-use lib.ListN.{get_or}
+use Prim.Native.Nat.{ℕ, ◌≤◌}
 use Rattle.rules.specs.Limits.{map_limit}
 use Rattle.inputs.specs.declared.state.MonitoringMap.{MonitoringMap}
-use Rattle.checks.specs.Map.{IsMap, HoldsAll}
-use Rattle.checks.proofs.MovedPairLaws.{moved_from, moved_none, moved-map, moved-next}
-use borrow.Author.Rules.{rules}
+use Rattle.checks.specs.Map.{HoldsAll}
+use Rattle.checks.proofs.MovedPairLaws.{moved_from}
 use Rattle.checks.proofs.map.moved_pairs.Given as goal
+
+-- the map that is moved
+abbrev old : List ℕ → List ℕ → ℕ → MonitoringMap
+old positions versions count = record { positions = positions; versions = versions; count = count }
 
 abbrev pub invariant-loop-i : goal.invariant-loop-i
 invariant-loop-i l =

@@ -1,16 +1,14 @@
 -- `checks::map::with_pair` meets its contract: the pair is carried from index to index, and where
 -- it is stored, the one that stood there is carried on.
 use mathlib.Core.Bool.{false≢true}
-use mathlib.Core.Logic.{⊎_elim}
-use Prim.Native.Nat.{◌+◌, ◌-◌, ◌≤◌}
+use Prim.Native.Nat.{◌+◌}
 use native.Mathlib.Omega.{arith}
-use Rattle.rules.specs.Limits.{map_limit}
 use Rattle.checks.specs.Map.{pairs_in, put_version}
 use Rattle.checks.proofs.PairPutLaws.{Carrying, carrying_start, carried-over, carried-past}
 use Rattle.checks.proofs.PairPutLaws.{carried-stored}
 use Rattle.checks.proofs.PairPutLaws.{carried-beyond, carried-last}
-use borrow.Author.Rules.{rules}
 use Rattle.checks.proofs.map.with_pair.Goals as goal
+use Rattle.checks.proofs.map.with_pair.Goals.{then-carried-there, else-carried-there}
 
 pub loop-i-init : goal.loop-i-init
 loop-i-init c = (omega arith, c.requires.few, carrying_start c.args.map c.args.position c.args.version c.requires)
@@ -25,10 +23,10 @@ loop-i-preserved c =
     let n = c.if-carried-there in
     let on : Carrying (put_version s.position s.version (pairs_in s.map)) s.map.count
     n.positions n.versions n.carried n.carried_version (l.i + 1) =
-    ⊎_elim
-    (λ w. carried-stored l.invariant.1 l.invariant.2 (omega arith) w.0.taken w.1 w.2 w.3 w.4)
-    (λ w. carried-past l.invariant.1 l.invariant.2 (omega arith) (omega (arith, w.0.left)) w.1 w.2 w.3 w.4)
-    n.branch in
+    elim n.branch [
+      | then-carried-there w ↦ carried-stored l.invariant.1 l.invariant.2 (omega arith) w.if-carried-there.true w.positions-is w.versions-is w.carried-is w.carried_version-is
+      | else-carried-there w ↦ carried-past l.invariant.1 l.invariant.2 (omega arith) (omega arith) w.positions-is w.versions-is w.carried-is w.carried_version-is
+    ] in
     (omega arith, l.invariant.1, on)
 
 pub returns-then-count-eq-PAIRS : goal.returns-then-count-eq-PAIRS

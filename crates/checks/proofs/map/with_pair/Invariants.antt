@@ -1,15 +1,9 @@
 -- `checks::map::with_pair` meets its contract: the pair is carried from index to index, and where
 -- it is stored, the one that stood there is carried on.
-use mathlib.Core.Bool.{false≢true}
-use mathlib.Core.Logic.{⊎_elim}
-use Prim.Native.Nat.{◌+◌, ◌-◌, ◌≤◌}
-use native.Mathlib.Omega.{arith}
+use Prim.Native.Nat.{◌-◌, ◌≤◌}
 use Rattle.rules.specs.Limits.{map_limit}
 use Rattle.checks.specs.Map.{pairs_in, put_version}
-use Rattle.checks.proofs.PairPutLaws.{Carrying, carrying_start, carried-over, carried-past}
-use Rattle.checks.proofs.PairPutLaws.{carried-stored}
-use Rattle.checks.proofs.PairPutLaws.{carried-beyond, carried-last}
-use borrow.Author.Rules.{rules}
+use Rattle.checks.proofs.PairPutLaws.{Carrying}
 use Rattle.checks.proofs.map.with_pair.Given as goal
 
 abbrev pub invariant-loop-i : goal.invariant-loop-i

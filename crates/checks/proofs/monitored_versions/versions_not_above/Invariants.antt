@@ -1,12 +1,8 @@
 -- `checks::monitored_versions::versions_not_above` meets its contract: of the ladder's first i
 -- versions those not above the version are stored.
-use mathlib.Core.Logic.{⊎_elim}
-use Prim.Native.Nat.{◌+◌, ◌-◌, ◌<◌, ◌≤◌}
-use native.Mathlib.Omega.{arith}
+use Prim.Native.Nat.{◌-◌, ◌≤◌}
 use Rattle.tree.specs.Ladder.{ladder_capacity}
-use Rattle.checks.proofs.MonitoredVersionLaws.{Storing, storing_start, storing-past, storing-room}
-use Rattle.checks.proofs.MonitoredVersionLaws.{storing-next, storing-end, whole-fits}
-use borrow.Author.Rules.{rules}
+use Rattle.checks.proofs.MonitoredVersionLaws.{Storing}
 use Rattle.checks.proofs.monitored_versions.versions_not_above.Given as goal
 
 abbrev pub invariant-loop-i : goal.invariant-loop-i
