@@ -1,6 +1,5 @@
 -- Laws of the layout of lines (specs/Layout.antt): where fields stand follows from the words.
 use mathlib.Core.Path.{◌≡◌, refl}
-use mathlib.Core.List.{[], ◌∷◌}
 use Prim.Native.Nat.{ℕ, ◌+◌}
 use lib.ListN.{length, get_or}
 use Rattle.lists.specs.Lists.{Bytes}

@@ -1,7 +1,7 @@
 -- Texts of lines: fields parted by one tab, each line ended by the byte 0x0A (paper 01, Response
 -- lines).
 use Rattle.std.specs.Prelude.{cond, List, [], ◌∷◌, ◌++◌, ℕ, eqb}
-use Rattle.std.proofs.Math.Option.{Option, none, Option-elim, bind as ◌>>=◌}
+use Rattle.std.proofs.Math.Option.{Option, none, Option-elim}
 use Rattle.lists.specs.Choice.{provided, ◌>>◌}
 use Rattle.lists.specs.Lists.{Bytes, all_but_last, last_or, same}
 use Rattle.lines.specs.Field.{Field, Values, read_fields, write_fields}

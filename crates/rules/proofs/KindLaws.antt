@@ -1,7 +1,6 @@
 -- What the kind of a response asks (specs/Refusals.antt, kind_rules), once its kind is known.
-use mathlib.Core.Path.{◌≡◌, refl, ap}
+use mathlib.Core.Path.{◌≡◌, ap}
 use Rattle.rules.specs.Response.{Target, Finding, searched, monitored}
-use Rattle.rules.specs.Kinds.{KindRules}
 use Rattle.rules.specs.Search.{search_rules}
 use Rattle.rules.specs.Monitoring.{monitoring_rules}
 use Rattle.rules.specs.Refusals.{Call, rules_for, kind_rules}

@@ -2,9 +2,8 @@
 -- one byte more than is allowed shows that a file is too long, and 6 applies to a request that asks
 -- for nothing.
 use mathlib.Core.Path.{◌≡◌, refl, sym, ap, ◌∙◌}
-use mathlib.Core.Logic.{inl}
 use mathlib.Core.Bool.{Bool, true, false, ◌&&◌, false≢true}
-use mathlib.Core.List.{List, [], ◌∷◌, ◌++◌}
+use mathlib.Core.List.{List, [], ◌∷◌}
 use mathlib.Core.Option.{Option, none, some, Option-elim, map, none-ne-some, bind}
 use Prim.Native.Nat.{ℕ, ◌+◌}
 use native.Mathlib.Omega.{arith}
@@ -19,7 +18,6 @@ use Rattle.lists.proofs.ListLaws.{every_cons}
 use Rattle.rules.specs.Limits.{program_response_limit, configuration_limit, signed_text_limit}
 use Rattle.rules.specs.Limits.{vrf_outputs_limit, value_limit}
 use Rattle.rules.specs.Limits.{state_text_limit, request_limit}
-use Rattle.rules.specs.State.{State}
 use Rattle.rules.specs.StateText.{read_state}
 use Rattle.rules.specs.Refusals.{Call, Judgement, refused, reading, kind_asked, foreign}
 use Rattle.rules.specs.Calls.{judge_call}

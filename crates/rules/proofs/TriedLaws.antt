@@ -9,7 +9,6 @@ use native.Mathlib.Decide.{dec_le}
 use lib.Dec.{leb, ltb}
 use lib.ListN.{length}
 use borrow.Author.Tests.{lt-leb, le-ltb, not-true, not-false}
-use Rattle.lists.specs.Choice.{choose}
 use Rattle.lists.specs.Lists.{all, same}
 use Rattle.lists.proofs.ChoiceLaws.{and_holds, choose_true, choose_false}
 use Rattle.lists.proofs.ListLaws.{all_at, same_true}
@@ -23,7 +22,7 @@ use Rattle.rules.specs.Kinds.{KindRules}
 use Rattle.rules.specs.Search.{is_included_above, result_fits, is_complete, ends_early, early_then_complete}
 use Rattle.rules.specs.Search.{search_rules}
 use Rattle.rules.specs.Monitoring.{monitoring_rules}
-use Rattle.rules.specs.Refusals.{Call, terminal, kind_rules, rules_for, lookup_holds, lookup_passes}
+use Rattle.rules.specs.Refusals.{Call, terminal, kind_rules, lookup_holds, lookup_passes}
 use Rattle.rules.specs.Refusals.{lookups_hold, lookup_fails, results_wrong}
 use Rattle.rules.proofs.KindLaws.{search-rules, monitoring-rules}
 use Rattle.rules.proofs.AcceptedLaws.{Accepted, rules-passed}

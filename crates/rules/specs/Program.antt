@@ -9,7 +9,6 @@ use Rattle.lines.specs.Line.{Form, Read, read_lines, read_line, line}
 use Rattle.rules.specs.Limits.{program_response_limit, configuration_limit, signed_text_limit}
 use Rattle.rules.specs.Limits.{vrf_outputs_limit, value_limit, identifier_length, state_text_limit}
 use Rattle.rules.specs.Limits.{request_limit, number_bound}
-use Rattle.rules.specs.State.{State}
 use Rattle.rules.specs.StateText.{read_state}
 use Rattle.rules.specs.Response.{Kind, search, monitor, Target, target_of}
 use Rattle.rules.specs.ResponseText.{kind_word}

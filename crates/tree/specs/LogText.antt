@@ -1,7 +1,7 @@
 -- Log entries and values where they stand in a text (paper 01, Response lines). Of lines that keep
 -- the rules these are the entries, nodes and siblings that the lines say; of other bytes they are
 -- some entry and some values, so that whoever reads them there has nothing to check first.
-use Rattle.std.specs.Prelude.{Bool, List, [], ◌∷◌, map, ℕ, ◌+◌, ◌-◌, ◌*◌, ◌/◌, ◌^◌, eqb, length, get_or, take, drop}
+use Rattle.std.specs.Prelude.{Bool, List, [], ◌∷◌, map, ℕ, ◌+◌, ◌-◌, ◌/◌, ◌^◌, eqb, length, get_or, take, drop}
 use Rattle.std.proofs.Math.Option
 use Rattle.lists.specs.Choice.{choose}
 use Rattle.lists.specs.Lists.{Bytes, runs}

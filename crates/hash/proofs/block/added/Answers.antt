@@ -1,6 +1,5 @@
 -- `hash::block::added` meets its contract: its eight sums are those of the definition.
 use Rattle.hash.specs.Block.{added}
-use Rattle.std.proofs.Common.{rules}
 use Rattle.hash.proofs.block.added.Goals as goal
 
 pub returns : goal.returns

@@ -1,6 +1,6 @@
 -- `hash::block::compress` meets its contract: the law of four sixteens over what each call ensures;
 -- the table is cut into four literal parts.
-use Rattle.std.proofs.Common.{refl, ◌∙◌, rules}
+use Rattle.std.proofs.Common.{refl, ◌∙◌}
 use Rattle.hash.specs.Words.{constants}
 use Rattle.hash.proofs.BlockLaws.{four_sixteens}
 use Rattle.hash.proofs.block.compress.Goals as goal

@@ -1,7 +1,6 @@
 -- `hash::block::first_words` meets its contract: the words read so far are the first ones of the
 -- block.
-use Rattle.std.proofs.Common.{◌≡◌, ◌-◌, ◌≤◌, length, take, drop, sym, refl, ◌∙◌, arith, length-set, take_all, rules}
-use Rattle.hash.specs.Block.{words}
+use Rattle.std.proofs.Common.{◌≡◌, sym, refl, ◌∙◌, arith, length-set, take_all}
 use Rattle.hash.proofs.BlockLaws.{words_zero, words_step}
 use Rattle.hash.proofs.block.first_words.Goals as goal
 

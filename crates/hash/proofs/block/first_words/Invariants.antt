@@ -1,8 +1,7 @@
 -- `hash::block::first_words` meets its contract: the words read so far are the first ones of the
 -- block.
-use Rattle.std.proofs.Common.{◌≡◌, ◌-◌, ◌≤◌, length, take, drop, sym, refl, ◌∙◌, arith, length-set, take_all, rules}
+use Rattle.std.proofs.Common.{◌≡◌, ◌≤◌, length, take, drop}
 use Rattle.hash.specs.Block.{words}
-use Rattle.hash.proofs.BlockLaws.{words_zero, words_step}
 use Rattle.hash.proofs.block.first_words.Given as goal
 
 abbrev pub invariant-loop-t : goal.invariant-loop-t

@@ -1,6 +1,5 @@
 -- `hash::block::mixed` meets its contract: the sum of four is the definition.
 use Rattle.hash.specs.Block.{mixed}
-use Rattle.std.proofs.Common.{rules}
 use Rattle.hash.proofs.block.mixed.Goals as goal
 
 pub returns : goal.returns

@@ -1,6 +1,6 @@
 -- `hash::block::next_words` meets its contract: each store is the window one word later; after
 -- sixteen all words are new.
-use Rattle.std.proofs.Common.{arith, lit<}
+use Rattle.std.proofs.Common.{arith}
 use Rattle.hash.proofs.BlockLaws.{window_zero, window_step, next_sixteen}
 use Rattle.hash.proofs.block.next_words.Goals as goal
 

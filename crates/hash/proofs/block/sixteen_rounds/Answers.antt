@@ -2,7 +2,7 @@
 -- 16 is below the length that the function requires (`.pre`, at its start).
 -- the function's start, from the places after the fourth, the eighth and the twelfth round
 use Rattle.hash.proofs.BlockLaws.{rounds_zero, rounds_step}
-use Rattle.std.proofs.Common.{arith, rules}
+use Rattle.std.proofs.Common.{arith}
 use Rattle.hash.proofs.block.sixteen_rounds.Goals as goal
 
 pub bounds-k-4 : goal.bounds-k-4

@@ -1,6 +1,6 @@
 -- `hash::bytes::bytes8` meets its contract: the eight bytes are those of the definition, and each
 -- cast fits.
-use Rattle.std.proofs.Common.{refl, rules}
+use Rattle.std.proofs.Common.{refl}
 use Rattle.hash.specs.Bytes.{big_endian}
 use Rattle.hash.proofs.bytes.bytes8.Goals as goal
 

@@ -1,6 +1,6 @@
 -- `hash::bytes::copy_at` meets its contract: the bytes copied so far are pasted.
-use Rattle.std.proofs.Common.{◌≡◌, ◌-◌, ◌≤◌, length, refl, add-one, arith, length-set, rules}
-use lib.Seq.{paste, paste-zero, paste-suc}
+use Rattle.std.proofs.Common.{◌≡◌, length, refl, add-one, arith, length-set}
+use lib.Seq.{paste-zero, paste-suc}
 use Rattle.hash.proofs.bytes.copy_at.Goals as goal
 
 pub loop-i-init : goal.loop-i-init

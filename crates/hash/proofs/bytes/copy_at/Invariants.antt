@@ -1,6 +1,6 @@
 -- `hash::bytes::copy_at` meets its contract: the bytes copied so far are pasted.
-use Rattle.std.proofs.Common.{◌≡◌, ◌-◌, ◌≤◌, length, refl, add-one, arith, length-set, rules}
-use lib.Seq.{paste, paste-zero, paste-suc}
+use Rattle.std.proofs.Common.{◌≡◌, ◌≤◌, length}
+use lib.Seq.{paste}
 use Rattle.hash.proofs.bytes.copy_at.Given as goal
 
 abbrev pub invariant-loop-i : goal.invariant-loop-i

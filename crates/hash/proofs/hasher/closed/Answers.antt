@@ -1,5 +1,5 @@
 -- `hash::hasher::closed` meets its contract: the bytes pending are fewer than a block.
-use Rattle.std.proofs.Common.{◌%◌, arith, rules}
+use Rattle.std.proofs.Common.{◌%◌, arith}
 use Rattle.hash.proofs.BytesLaws.{part_count}
 use Rattle.hash.proofs.hasher.closed.Goals as goal
 

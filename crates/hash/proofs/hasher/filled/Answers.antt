@@ -1,5 +1,5 @@
 -- `hash::hasher::filled` meets its contract: two copies right after one another into zeros.
-use Rattle.std.proofs.Common.{arith, rules}
+use Rattle.std.proofs.Common.{arith}
 use Rattle.hash.proofs.BytesLaws.{part_count}
 use Rattle.hash.proofs.HasherLaws.{filled_law}
 use Rattle.hash.proofs.hasher.filled.Goals as goal

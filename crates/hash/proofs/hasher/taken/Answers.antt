@@ -1,6 +1,6 @@
 -- `hash::hasher::taken` meets its contract: the whole blocks are hashed, and the bytes after them
 -- are kept.
-use Rattle.std.proofs.Common.{arith, rules}
+use Rattle.std.proofs.Common.{arith}
 use Rattle.hash.proofs.MessageLaws.{rest_law}
 use Rattle.hash.proofs.HasherLaws.{taken_law}
 use Rattle.hash.proofs.hasher.taken.Goals as goal

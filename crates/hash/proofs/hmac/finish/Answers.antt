@@ -1,6 +1,6 @@
 -- `hash::hmac::finish` meets its contract: the outer key and the inner digest are two parts of one
 -- message.
-use Rattle.std.proofs.Common.{ap, ◌∙◌, rules}
+use Rattle.std.proofs.Common.{ap, ◌∙◌}
 use Rattle.hash.specs.Hmac.{xored}
 use Rattle.hash.proofs.HmacLaws.{ended_law}
 use Rattle.hash.proofs.hmac.finish.Goals as goal

@@ -1,6 +1,6 @@
 -- `hash::hmac::key_block` meets its contract: one law for a key that fits a block, one for a longer
 -- key.
-use Rattle.std.proofs.Common.{arith, rules}
+use Rattle.std.proofs.Common.{arith}
 use Rattle.hash.proofs.HmacLaws.{key_short, key_long}
 use Rattle.hash.proofs.hmac.key_block.Goals as goal
 

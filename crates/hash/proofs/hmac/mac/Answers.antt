@@ -1,6 +1,5 @@
 -- `hash::hmac::mac` meets its contract: a text taken in one part.
 use Rattle.hash.proofs.HmacLaws.{hmac_parts}
-use Rattle.std.proofs.Common.{rules}
 use Rattle.hash.proofs.hmac.mac.Goals as goal
 
 pub returns : goal.returns

@@ -1,6 +1,5 @@
 -- `hash::hmac::start` meets its contract: the inner key is the first part.
 use Rattle.hash.specs.Hmac.{begun, inner_key}
-use Rattle.std.proofs.Common.{rules}
 use Rattle.hash.proofs.hmac.start.Goals as goal
 
 pub returns : goal.returns

@@ -1,6 +1,5 @@
 -- `hash::hmac::xored` meets its contract: the bytes flipped so far are those of the definition.
-use Rattle.std.proofs.Common.{◌≡◌, ◌-◌, ◌≤◌, length, take, sym, refl, ◌∙◌, arith, length-set, take_all, rules}
-use Rattle.hash.specs.Hmac.{xored}
+use Rattle.std.proofs.Common.{◌≡◌, sym, refl, ◌∙◌, arith, length-set, take_all}
 use Rattle.hash.proofs.HmacLaws.{xored_nil, xored_step}
 use Rattle.hash.proofs.hmac.xored.Goals as goal
 

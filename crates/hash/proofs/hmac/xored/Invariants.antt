@@ -1,7 +1,6 @@
 -- `hash::hmac::xored` meets its contract: the bytes flipped so far are those of the definition.
-use Rattle.std.proofs.Common.{◌≡◌, ◌-◌, ◌≤◌, length, take, sym, refl, ◌∙◌, arith, length-set, take_all, rules}
+use Rattle.std.proofs.Common.{◌≡◌, ◌≤◌, length, take}
 use Rattle.hash.specs.Hmac.{xored}
-use Rattle.hash.proofs.HmacLaws.{xored_nil, xored_step}
 use Rattle.hash.proofs.hmac.xored.Given as goal
 
 abbrev pub invariant-loop-i : goal.invariant-loop-i

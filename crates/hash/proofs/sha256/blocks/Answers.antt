@@ -1,6 +1,5 @@
 -- `hash::sha256::blocks` meets its contract: the blocks hashed so far are those of the definition.
-use Rattle.std.proofs.Common.{◌≡◌, ◌-◌, ◌/◌, ◌≤◌, length, sym, refl, arith, rules}
-use Rattle.hash.specs.Sha256.{blocks}
+use Rattle.std.proofs.Common.{◌≡◌, ◌/◌, length, sym, refl, arith}
 use Rattle.hash.proofs.MessageLaws.{blocks_zero, blocks_more}
 use Rattle.hash.proofs.sha256.blocks.Goals as goal
 

@@ -1,7 +1,6 @@
 -- `hash::sha256::blocks` meets its contract: the blocks hashed so far are those of the definition.
-use Rattle.std.proofs.Common.{◌≡◌, ◌-◌, ◌/◌, ◌≤◌, length, sym, refl, arith, rules}
+use Rattle.std.proofs.Common.{◌≡◌, ◌/◌, ◌≤◌, length}
 use Rattle.hash.specs.Sha256.{blocks}
-use Rattle.hash.proofs.MessageLaws.{blocks_zero, blocks_more}
 use Rattle.hash.proofs.sha256.blocks.Given as goal
 
 abbrev pub invariant-loop-i : goal.invariant-loop-i

@@ -1,5 +1,5 @@
 -- `hash::sha256::digest` meets its contract: the whole blocks first, then the bytes after them.
-use Rattle.std.proofs.Common.{◌/◌, length, ap, ◌∙◌, rules}
+use Rattle.std.proofs.Common.{◌/◌, length, ap, ◌∙◌}
 use Rattle.hash.specs.declared.block.HashValue.{HashValue}
 use Rattle.hash.specs.Sha256.{blocks}
 use Rattle.hash.proofs.MessageLaws.{digest_law, rest_law}

@@ -1,6 +1,6 @@
 -- `hash::sha256::ending` meets its contract: the law of a message's end, with the count of bits at
 -- 56 or at 120.
-use Rattle.std.proofs.Common.{◌≡◌, length, arith, length-set, rules}
+use Rattle.std.proofs.Common.{◌≡◌, length, arith, length-set}
 use Rattle.hash.proofs.MessageLaws.{ending_law}
 use Rattle.hash.proofs.sha256.ending.Goals as goal
 

@@ -1,6 +1,6 @@
 -- `hash::sha256::finish` meets its contract: the last block or the last two are the front of what
 -- `ending` made.
-use Rattle.std.proofs.Common.{sym, refl, ap, ◌∙◌, arith, take_all, rules}
+use Rattle.std.proofs.Common.{sym, refl, ap, ◌∙◌, arith, take_all}
 use Rattle.hash.specs.Sha256.{digest_of}
 use Rattle.hash.proofs.MessageLaws.{ending_blocks}
 use Rattle.hash.proofs.sha256.finish.Goals as goal

@@ -1,6 +1,6 @@
 -- `hash::strings::digest_40` meets its contract: the string is put together in a buffer of its
 -- length.
-use Rattle.std.proofs.Common.{ap, ◌∙◌, rules}
+use Rattle.std.proofs.Common.{ap, ◌∙◌}
 use Rattle.hash.specs.Sha256.{sha256}
 use Rattle.hash.proofs.StringLaws.{string_40}
 use Rattle.hash.proofs.strings.digest_40.Goals as goal

@@ -1,6 +1,6 @@
 -- `hash::strings::digest_66` meets its contract: the string is put together in a buffer of its
 -- length.
-use Rattle.std.proofs.Common.{◌≡◌, length, ap, ◌∙◌, arith, length-set, rules}
+use Rattle.std.proofs.Common.{◌≡◌, length, ap, ◌∙◌, arith, length-set}
 use Rattle.hash.specs.Sha256.{sha256}
 use Rattle.hash.proofs.StringLaws.{string_66}
 use Rattle.hash.proofs.strings.digest_66.Goals as goal

@@ -4,7 +4,6 @@
 use mathlib.Core.Path.{◌≡◌, sym, ◌∙◌, ap}
 use mathlib.Core.Option.{some}
 use lib.ListN.{drop}
-use borrow.Author.Rules.{rules}
 use Rattle.lines.specs.Readings.{part_of}
 use Rattle.rules.specs.Encoding.{read_uint, read_opaque}
 use Rattle.inputs.specs.Configuration.{uint8, uint16, uint_in, opaque_in}

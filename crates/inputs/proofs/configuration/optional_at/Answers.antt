@@ -3,7 +3,6 @@
 use mathlib.Core.Path.{◌≡◌, sym, ◌∙◌, ap}
 use mathlib.Core.Option.{some}
 use lib.ListN.{drop}
-use borrow.Author.Rules.{rules}
 use Rattle.rules.specs.Encoding.{read_uint}
 use Rattle.inputs.specs.Configuration.{uint8, uint_in}
 use Rattle.inputs.proofs.ConfigurationReadingLaws.{no-mark, optional-absent, no-optional, no-present}

@@ -5,7 +5,6 @@ use mathlib.Core.Path.{◌≡◌, sym, ◌∙◌, ap}
 use mathlib.Core.Option.{some}
 use lib.ListN.{drop}
 use native.Mathlib.Omega.{arith}
-use borrow.Author.Rules.{rules}
 use Rattle.lines.specs.Readings.{part_of}
 use Rattle.inputs.specs.Configuration.{lifetime_of, configuration_in, read_front, front_in, read_times}
 use Rattle.inputs.specs.Configuration.{times_in}

@@ -4,7 +4,6 @@
 use mathlib.Core.Path.{◌≡◌, sym, ◌∙◌, ap}
 use mathlib.Core.Option.{some}
 use lib.ListN.{drop}
-use borrow.Author.Rules.{rules}
 use Rattle.rules.specs.Encoding.{read_uint}
 use Rattle.inputs.specs.Configuration.{uint64, uint_in, optional_in}
 use Rattle.inputs.proofs.ConfigurationReadingLaws.{no-ahead, no-behind, no-window, no-lifetime}

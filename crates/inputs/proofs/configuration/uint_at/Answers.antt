@@ -1,6 +1,5 @@
 -- `inputs::configuration::uint_at` meets its contract: enough bytes stand at the offset, or there
 -- is no number.
-use borrow.Author.Rules.{rules}
 use mathlib.Core.Path.{refl, sym}
 use native.Mathlib.Omega.{arith}
 use Rattle.inputs.proofs.ConfigurationReadingLaws.{no-uint, uint-there}

@@ -1,12 +1,9 @@
 -- `inputs::configuration::uint_of` meets its contract: what is read so far and the bytes that are
 -- left encode the number.
-use mathlib.Core.Path.{◌≡◌, sym, ◌∙◌}
-use Prim.Native.Nat.{◌-◌, ◌^◌, ◌≤◌, ◌<◌}
+use mathlib.Core.Path.{sym, ◌∙◌}
 use native.Mathlib.Numerals.{add-one}
 use native.Mathlib.Omega.{arith}
-use lib.ListN.{length, drop, get_or}
-use borrow.Author.Rules.{rules}
-use Rattle.rules.specs.Encoding.{bytes_after, uint}
+use lib.ListN.{get_or}
 use Rattle.rules.proofs.EncodingLaws.{uint_after, byte_fits}
 use Rattle.inputs.proofs.ConfigurationReadingLaws.{byte_room, byte_taken, bytes_taken}
 use Rattle.inputs.proofs.configuration.uint_of.Goals as goal

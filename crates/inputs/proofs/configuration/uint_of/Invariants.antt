@@ -1,14 +1,9 @@
 -- `inputs::configuration::uint_of` meets its contract: what is read so far and the bytes that are
 -- left encode the number.
-use mathlib.Core.Path.{◌≡◌, sym, ◌∙◌}
+use mathlib.Core.Path.{◌≡◌}
 use Prim.Native.Nat.{◌-◌, ◌^◌, ◌≤◌, ◌<◌}
-use native.Mathlib.Numerals.{add-one}
-use native.Mathlib.Omega.{arith}
-use lib.ListN.{length, drop, get_or}
-use borrow.Author.Rules.{rules}
+use lib.ListN.{length, drop}
 use Rattle.rules.specs.Encoding.{bytes_after, uint}
-use Rattle.rules.proofs.EncodingLaws.{uint_after, byte_fits}
-use Rattle.inputs.proofs.ConfigurationReadingLaws.{byte_room, byte_taken, bytes_taken}
 use Rattle.inputs.proofs.configuration.uint_of.Given as goal
 
 abbrev pub invariant-loop-i : goal.invariant-loop-i

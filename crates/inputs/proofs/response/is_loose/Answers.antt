@@ -3,7 +3,6 @@
 use mathlib.Core.Path.{sym, ◌∙◌}
 use mathlib.Core.Bool.{true, false}
 use Rattle.inputs.proofs.ResponseSectionLaws.{role_told, loose-line, loose_none}
-use borrow.Author.Rules.{rules}
 use Rattle.inputs.proofs.response.is_loose.Goals as goal
 
 pub returns-in-Begins : goal.returns-in-Begins

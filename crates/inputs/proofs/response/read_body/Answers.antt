@@ -4,7 +4,6 @@ use mathlib.Core.Path.{sym, ◌∙◌}
 use native.Mathlib.Omega.{arith}
 use Rattle.inputs.proofs.ResponseBodyLaws.{parts_loose, parts-unended, parts_more, parts_whole}
 use Rattle.inputs.proofs.ResponseBodyLaws.{parts-counted, parts-ordered, parts-filled}
-use borrow.Author.Rules.{rules}
 use Rattle.inputs.proofs.response.read_body.Goals as goal
 
 pub returns-then-is_loose : goal.returns-then-is_loose
@@ -38,9 +37,12 @@ returns c =
     let d = c.section_from-nodes.ensures in
     let e = c.section_from-end.ensures in
     let n = sym c.is_loose.ensures ∙ c.if-is_loose.false in
-    let (i, l, t) = c.requires.decodes in record { parts = sym (parts_whole _ _ _ _ _ _ a b d e n c.if-end-ne1.false (omega arith)); offsets = (
+    let (i, l, t) = c.requires.decodes in record {
+      parts = sym (parts_whole _ _ _ _ _ _ a b d e n c.if-end-ne1.false (omega arith));
+      offsets = (
         record { identifier = i; label = l; target = t },
         parts-counted _ _ _ _ _ _ a b d e,
         parts-ordered _ _ _ _ _ _ a b d e,
         parts-filled _ _ _ _ _ _ a b d e n,
-      ) }
+      );
+    }

@@ -2,7 +2,6 @@
 -- before them.
 use mathlib.Core.Path.{sym, ◌∙◌, ap}
 use Rattle.inputs.specs.ResponseHeader.{headed_of}
-use borrow.Author.Rules.{rules}
 use Rattle.inputs.proofs.response.read_response.Goals as goal
 
 pub read_body-requires : goal.read_body-requires

@@ -9,7 +9,6 @@ use Rattle.lines.specs.Readings.{line_of}
 use Rattle.lines.proofs.SectionLaws.{line_here}
 use Rattle.inputs.proofs.ResponseLaws.{from-open}
 use Rattle.inputs.proofs.ResponseSectionLaws.{role-line}
-use borrow.Author.Rules.{rules}
 use Rattle.inputs.proofs.response.role_from.Goals as goal
 
 pub slice_bounds-role_in-count : goal.slice_bounds-role_in-count

@@ -6,7 +6,6 @@ use Rattle.inputs.specs.declared.response.Sort.{Sort}
 use Rattle.inputs.specs.ResponseSections.{read_role}
 use Rattle.inputs.proofs.ResponseSectionLaws.{line_begins, line_outside, entry-begins}
 use Rattle.inputs.proofs.ResponseSectionLaws.{lookup-continues, other-outside}
-use borrow.Author.Rules.{rules}
 use Rattle.inputs.proofs.response.role_in.Goals as goal
 
 told : {j k : Sort} (l : Bytes) → j ≡ k → read_role j l ≡ read_role k l

@@ -3,15 +3,12 @@
 use mathlib.Core.Path.{◌≡◌, sym, ◌∙◌}
 use mathlib.Core.Bool.{true, false}
 use mathlib.Core.Option.{some}
-use Prim.Native.Nat.{◌-◌, ◌≤◌}
 use native.Mathlib.Omega.{arith}
-use lib.ListN.{length}
 use Rattle.inputs.specs.ResponseHeader.{read_from}
 use Rattle.inputs.specs.ResponseSections.{read_role}
 use Rattle.inputs.proofs.ResponseLaws.{from-was}
-use Rattle.inputs.proofs.ResponseSectionLaws.{role_told, Running, running-start, running-begins}
+use Rattle.inputs.proofs.ResponseSectionLaws.{role_told, running-start, running-begins}
 use Rattle.inputs.proofs.ResponseSectionLaws.{running-continues, running-ends}
-use borrow.Author.Rules.{rules}
 use Rattle.inputs.proofs.response.section_from.Goals as goal
 
 pub loop-count-init : goal.loop-count-init

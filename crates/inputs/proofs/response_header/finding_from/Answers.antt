@@ -3,7 +3,6 @@
 use mathlib.Core.Path.{refl}
 use Rattle.inputs.specs.Response.{finding_in}
 use Rattle.inputs.specs.ResponseHeader.{read_finding}
-use borrow.Author.Rules.{rules}
 use Rattle.inputs.proofs.response_header.finding_from.Goals as goal
 
 pub returns-in-Search : goal.returns-in-Search

@@ -11,7 +11,6 @@ use Rattle.lines.proofs.SectionLaws.{line_here}
 use Rattle.rules.specs.ResponseText.{head_form}
 use Rattle.inputs.specs.ResponseLines.{head_of}
 use Rattle.inputs.proofs.ResponseLaws.{from-open, from_some, from_none}
-use borrow.Author.Rules.{rules}
 use Rattle.inputs.proofs.response_header.head_from.Goals as goal
 
 pub slice_bounds-head_line-count : goal.slice_bounds-head_line-count

@@ -11,7 +11,6 @@ use Rattle.inputs.specs.ResponseLines.{kt_of}
 use Rattle.inputs.specs.ResponseHeader.{read_kt}
 use Rattle.inputs.proofs.ResponseLaws.{from-open, from_none}
 use Rattle.inputs.proofs.ResponseFieldLaws.{line_opened, opened_decodes}
-use borrow.Author.Rules.{rules}
 use Rattle.inputs.proofs.response_header.kt_from.Goals as goal
 
 pub slice_bounds-kt_line-end : goal.slice_bounds-kt_line-end

@@ -4,7 +4,6 @@ use mathlib.Core.Path.{sym, ◌∙◌, ap}
 use Rattle.inputs.specs.ResponseHeader.{opened_of, size_of, finding_of, parts_after}
 use Rattle.inputs.proofs.ResponseLaws.{response-unopened, response-unsized, response-unfound}
 use Rattle.inputs.proofs.ResponseLaws.{response-headed, sections-within}
-use borrow.Author.Rules.{rules}
 use Rattle.inputs.proofs.response_header.read_header.Goals as goal
 
 pub returns-in-Unread : goal.returns-in-Unread

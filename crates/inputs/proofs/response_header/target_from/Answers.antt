@@ -13,7 +13,6 @@ use Rattle.inputs.specs.ResponseLines.{target_of}
 use Rattle.inputs.proofs.ResponseLaws.{from-open, from_none}
 use Rattle.inputs.proofs.ResponseFieldLaws.{TargetWithin, target_unfound, target-within}
 use Rattle.inputs.proofs.ResponseFieldLaws.{target-decodes, target_found}
-use borrow.Author.Rules.{rules}
 use Rattle.inputs.proofs.response_header.target_from.Goals as goal
 
 pub slice_bounds-target_line-count : goal.slice_bounds-target_line-count

@@ -3,7 +3,6 @@
 use mathlib.Core.Path.{refl, sym, ◌∙◌}
 use borrow.Author.Tests.{eq-eqb, ne_eqb}
 use Rattle.inputs.proofs.ResponseLineLaws.{last-given, last-missing}
-use borrow.Author.Rules.{rules}
 use Rattle.inputs.proofs.response_lines.ends_with_siblings.Goals as goal
 
 pub returns-in_default : goal.returns-in_default

@@ -15,7 +15,6 @@ use Rattle.lines.proofs.FormLaws.{with_rest, read-ended}
 use Rattle.rules.specs.Limits.{number_bound}
 use Rattle.rules.specs.ResponseText.{head_form}
 use Rattle.inputs.proofs.ResponseLineLaws.{number-on, number-off}
-use borrow.Author.Rules.{rules}
 use Rattle.inputs.proofs.response_lines.head_line.Goals as goal
 
 pub returns-in_default : goal.returns-in_default

@@ -6,7 +6,6 @@ use Rattle.lists.proofs.ChoiceLaws.{given_provided, none_given}
 use Rattle.lines.specs.Number.{ascii}
 use Rattle.lines.specs.Readings.{word_of}
 use Rattle.lines.proofs.FormLaws.{read-ended, line_on, line-off}
-use borrow.Author.Rules.{rules}
 use Rattle.inputs.proofs.response_lines.is_end.Goals as goal
 
 pub returns-in_default : goal.returns-in_default

@@ -14,7 +14,6 @@ use Rattle.rules.specs.Limits.{number_bound, hash_length}
 use Rattle.rules.specs.ResponseText.{read_entry_line}
 use Rattle.inputs.proofs.ResponseLineLaws.{number-off, number-given, last-given, last-missing}
 use Rattle.inputs.proofs.ResponseLineLaws.{entry_given}
-use borrow.Author.Rules.{rules}
 use Rattle.inputs.proofs.response_lines.is_entry.Goals as goal
 
 pub returns-in_default : goal.returns-in_default

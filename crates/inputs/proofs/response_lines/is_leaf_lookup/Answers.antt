@@ -15,7 +15,6 @@ use Rattle.rules.specs.Limits.{vrf_output_length, hash_length}
 use Rattle.rules.specs.ResponseText.{siblings_field, nl_form}
 use Rattle.inputs.specs.ResponseLines.{next_part_of}
 use Rattle.inputs.proofs.ResponseLineLaws.{number-off, number-given}
-use borrow.Author.Rules.{rules}
 use Rattle.inputs.proofs.response_lines.is_leaf_lookup.Goals as goal
 
 pub returns-in_default : goal.returns-in_default

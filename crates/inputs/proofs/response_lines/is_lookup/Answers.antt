@@ -7,7 +7,6 @@ use Rattle.lines.specs.Number.{ascii}
 use Rattle.lines.specs.Line.{read_line}
 use Rattle.rules.specs.ResponseText.{in_form, no_form}
 use Rattle.inputs.proofs.ResponseLineLaws.{lookup_given}
-use borrow.Author.Rules.{rules}
 use Rattle.inputs.proofs.response_lines.is_lookup.Goals as goal
 
 pub returns-then-is_plain_lookup : goal.returns-then-is_plain_lookup

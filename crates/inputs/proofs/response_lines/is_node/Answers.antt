@@ -12,7 +12,6 @@ use Rattle.lines.specs.Readings.{word_of}
 use Rattle.rules.specs.Limits.{hash_length}
 use Rattle.rules.specs.ResponseText.{read_node}
 use Rattle.inputs.proofs.ResponseLineLaws.{last-given, last-missing, node_given}
-use borrow.Author.Rules.{rules}
 use Rattle.inputs.proofs.response_lines.is_node.Goals as goal
 
 pub returns-in_default : goal.returns-in_default

@@ -6,7 +6,6 @@ use Rattle.lists.proofs.ChoiceLaws.{none_given}
 use Rattle.lines.specs.Readings.{next_number_of}
 use Rattle.rules.specs.ResponseText.{siblings_field}
 use Rattle.inputs.proofs.ResponseLineLaws.{number-off, number-given}
-use borrow.Author.Rules.{rules}
 use Rattle.inputs.proofs.response_lines.is_plain_lookup.Goals as goal
 
 pub returns-in_default : goal.returns-in_default

@@ -13,7 +13,6 @@ use Rattle.lines.specs.Readings.{next_number_of}
 use Rattle.rules.specs.ResponseText.{commitment_field, read_step}
 use Rattle.inputs.proofs.ResponseLineLaws.{number-off, number-given, last-given, last-missing}
 use Rattle.inputs.proofs.ResponseLineLaws.{step_given}
-use borrow.Author.Rules.{rules}
 use Rattle.inputs.proofs.response_lines.is_step.Goals as goal
 
 pub returns-in_default : goal.returns-in_default

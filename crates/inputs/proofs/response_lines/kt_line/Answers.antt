@@ -3,7 +3,6 @@
 use mathlib.Core.Path.{refl}
 use Rattle.lists.specs.Choice.{or_else}
 use Rattle.lines.specs.Number.{ascii}
-use borrow.Author.Rules.{rules}
 use Rattle.inputs.proofs.response_lines.kt_line.Goals as goal
 
 pub kind_line-requires : goal.kind_line-requires

@@ -13,7 +13,6 @@ use Rattle.lines.specs.Cursor.{read_at}
 use Rattle.lines.specs.Readings.{next_bytes_of}
 use Rattle.lines.proofs.FormLaws.{bytes-none, field_off}
 use Rattle.inputs.proofs.ResponseLineLaws.{part-stands, last-field}
-use borrow.Author.Rules.{rules}
 use Rattle.inputs.proofs.response_lines.last_bytes.Goals as goal
 
 pub returns-in_default : goal.returns-in_default

@@ -10,7 +10,6 @@ use Rattle.lines.specs.Cursor.{read_at}
 use Rattle.lines.specs.Readings.{next_bytes_of}
 use Rattle.lines.proofs.FormLaws.{bytes-unfit, bytes-none}
 use Rattle.inputs.proofs.ResponseLineLaws.{part-stands, part-read}
-use borrow.Author.Rules.{rules}
 use Rattle.inputs.proofs.response_lines.next_part.Goals as goal
 
 pub returns-in_default : goal.returns-in_default

@@ -3,7 +3,6 @@
 use mathlib.Core.Path.{sym, ◌∙◌, ap}
 use Rattle.lists.proofs.ChoiceLaws.{bind_at, bind_none}
 use Rattle.lines.specs.Readings.{word_of}
-use borrow.Author.Rules.{rules}
 use Rattle.inputs.proofs.response_lines.number_after.Goals as goal
 
 pub returns-in_default : goal.returns-in_default

@@ -14,7 +14,6 @@ use Rattle.rules.specs.Limits.{version_bound, opening_length, value_limit}
 use Rattle.rules.specs.ResponseText.{version_field, target_form}
 use Rattle.inputs.specs.ResponseLines.{number_after, last_parts_of}
 use Rattle.inputs.proofs.ResponseLineLaws.{number-on, number-off, number_bound}
-use borrow.Author.Rules.{rules}
 use Rattle.inputs.proofs.response_lines.target_line.Goals as goal
 
 pub returns-in_default : goal.returns-in_default
@@ -31,11 +30,17 @@ pub returns-in-Read-last_parts : goal.returns-in-Read-last_parts
 unfolding bind ascii
 returns-in-Read-last_parts c =
     let e = c.in-Read-last_parts.is in
-    record { read = sym ((let parts-read0 : (let l1 = c.args.l.now in let rest1 = exactly opening_length ∷ up_to value_limit ∷ [] in read_line target_form l1 ≡ with_rest version_field rest1 c.in-Read.value (last_parts_of l1 c.last_parts.result)) = let rest0 = exactly opening_length ∷ up_to value_limit ∷ [] in
-    number-on _ _ _ rest0 _ _ (let version-read0 : (number_after (ascii "target") version_bound c.args.l.now ≡ some (c.in-Read.value, c.in-Read.next.at)) = sym c.number_after.ensures ∙ ap next_number_of c.in-Read.is in version-read0) ∙ ap (with_rest version_field rest0 _) (sym c.last_parts.ensures.read) in parts-read0) ∙ rw e refl); stands = rw e at c.last_parts.ensures.stands }
+    record {
+      read = sym ((let parts-read0 : (let l1 = c.args.l.now in let rest1 = exactly opening_length ∷ up_to value_limit ∷ [] in read_line target_form l1 ≡ with_rest version_field rest1 c.in-Read.value (last_parts_of l1 c.last_parts.result)) = let rest0 = exactly opening_length ∷ up_to value_limit ∷ [] in
+          number-on _ _ _ rest0 _ _ (let version-read0 : (number_after (ascii "target") version_bound c.args.l.now ≡ some (c.in-Read.value, c.in-Read.next.at)) = sym c.number_after.ensures ∙ ap next_number_of c.in-Read.is in version-read0) ∙ ap (with_rest version_field rest0 _) (sym c.last_parts.ensures.read) in parts-read0) ∙ rw e refl);
+      stands = rw e at c.last_parts.ensures.stands;
+    }
 
 pub returns-in-Unread : goal.returns-in-Unread
 unfolding bind ascii
 returns-in-Unread c =
-    record { read = sym ((let parts-read0 : (let l1 = c.args.l.now in let rest1 = exactly opening_length ∷ up_to value_limit ∷ [] in read_line target_form l1 ≡ with_rest version_field rest1 c.in-Read.value (last_parts_of l1 c.last_parts.result)) = let rest0 = exactly opening_length ∷ up_to value_limit ∷ [] in
-    number-on _ _ _ rest0 _ _ (let version-read0 : (number_after (ascii "target") version_bound c.args.l.now ≡ some (c.in-Read.value, c.in-Read.next.at)) = sym c.number_after.ensures ∙ ap next_number_of c.in-Read.is in version-read0) ∙ ap (with_rest version_field rest0 _) (sym c.last_parts.ensures.read) in parts-read0) ∙ rw c.in-Unread.is refl); stands = tt }
+    record {
+      read = sym ((let parts-read0 : (let l1 = c.args.l.now in let rest1 = exactly opening_length ∷ up_to value_limit ∷ [] in read_line target_form l1 ≡ with_rest version_field rest1 c.in-Read.value (last_parts_of l1 c.last_parts.result)) = let rest0 = exactly opening_length ∷ up_to value_limit ∷ [] in
+          number-on _ _ _ rest0 _ _ (let version-read0 : (number_after (ascii "target") version_bound c.args.l.now ≡ some (c.in-Read.value, c.in-Read.next.at)) = sym c.number_after.ensures ∙ ap next_number_of c.in-Read.is in version-read0) ∙ ap (with_rest version_field rest0 _) (sym c.last_parts.ensures.read) in parts-read0) ∙ rw c.in-Unread.is refl);
+      stands = tt;
+    }

@@ -1,11 +1,8 @@
 -- `inputs::state::zero_pairs_from` meets its contract: positions and versions before i are zero, so
 -- those from i on decide.
-use mathlib.Core.Path.{◌≡◌, refl, sym, ◌∙◌}
+use mathlib.Core.Path.{refl, sym, ◌∙◌}
 use mathlib.Core.Bool.{and-false}
-use Prim.Native.Nat.{◌-◌}
 use native.Mathlib.Omega.{arith}
-use lib.ListN.{length}
-use Rattle.rules.specs.Limits.{map_limit}
 use Rattle.inputs.specs.State.{zeros_from}
 use Rattle.inputs.proofs.RoomLaws.{zeros-next, zeros-stop, zeros-end}
 use borrow.Author.Rules.{rules}

@@ -1,14 +1,10 @@
 -- `inputs::state::zero_pairs_from` meets its contract: positions and versions before i are zero, so
 -- those from i on decide.
-use mathlib.Core.Path.{◌≡◌, refl, sym, ◌∙◌}
-use mathlib.Core.Bool.{and-false}
+use mathlib.Core.Path.{◌≡◌}
 use Prim.Native.Nat.{◌-◌}
-use native.Mathlib.Omega.{arith}
 use lib.ListN.{length}
 use Rattle.rules.specs.Limits.{map_limit}
 use Rattle.inputs.specs.State.{zeros_from}
-use Rattle.inputs.proofs.RoomLaws.{zeros-next, zeros-stop, zeros-end}
-use borrow.Author.Rules.{rules}
 use Rattle.inputs.proofs.state.zero_pairs_from.Given as goal
 
 abbrev pub invariant-loop-i : goal.invariant-loop-i

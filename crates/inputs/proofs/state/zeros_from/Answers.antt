@@ -1,11 +1,7 @@
 -- `inputs::state::zeros_from` meets its contract: the bytes before i are zero, so those from i on
 -- decide.
-use mathlib.Core.Path.{◌≡◌, refl, sym, ◌∙◌}
-use Prim.Native.Nat.{◌-◌}
-use lib.ListN.{length}
-use Rattle.inputs.specs.State.{zeros_from}
+use mathlib.Core.Path.{refl, sym, ◌∙◌}
 use Rattle.inputs.proofs.RoomLaws.{zeros-next, zeros-stop, zeros-end}
-use borrow.Author.Rules.{rules}
 use Rattle.inputs.proofs.state.zeros_from.Goals as goal
 
 pub loop-i-init : goal.loop-i-init

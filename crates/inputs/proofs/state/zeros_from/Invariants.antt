@@ -1,11 +1,9 @@
 -- `inputs::state::zeros_from` meets its contract: the bytes before i are zero, so those from i on
 -- decide.
-use mathlib.Core.Path.{◌≡◌, refl, sym, ◌∙◌}
+use mathlib.Core.Path.{◌≡◌}
 use Prim.Native.Nat.{◌-◌}
 use lib.ListN.{length}
 use Rattle.inputs.specs.State.{zeros_from}
-use Rattle.inputs.proofs.RoomLaws.{zeros-next, zeros-stop, zeros-end}
-use borrow.Author.Rules.{rules}
 use Rattle.inputs.proofs.state.zeros_from.Given as goal
 
 abbrev pub invariant-loop-i : goal.invariant-loop-i

@@ -4,7 +4,6 @@
 use mathlib.Core.Path.{◌≡◌, sym, ◌∙◌, ap}
 use mathlib.Core.Option.{some}
 use native.Mathlib.Omega.{arith}
-use borrow.Author.Rules.{rules}
 use Rattle.lines.specs.Number.{ascii}
 use Rattle.lines.specs.Cursor.{word_at}
 use Rattle.lines.specs.Readings.{word_of, as_digest}

@@ -2,7 +2,6 @@
 use mathlib.Core.Path.{sym}
 use native.Mathlib.Omega.{arith}
 use lib.Seq.{set_out}
-use borrow.Author.Rules.{rules}
 use Rattle.inputs.proofs.state_reader.put_pair.Goals as goal
 
 pub returns-then-positions-i : goal.returns-then-positions-i

@@ -2,7 +2,6 @@
 -- end of the text, or no state is read.
 use mathlib.Core.Path.{sym, ◌∙◌, ap}
 use mathlib.Core.Option.{Option}
-use borrow.Author.Rules.{rules}
 use Rattle.rules.specs.State.{State}
 use Rattle.inputs.specs.State.{numbered_block}
 use Rattle.inputs.specs.StateReader.{or_refused}

@@ -1,7 +1,6 @@
 -- `inputs::state_reader::refused` meets its contract: the state of the empty label is the one to
 -- begin with, and it gets the number.
 use mathlib.Core.Path.{refl, ◌∙◌, ap}
-use borrow.Author.Rules.{rules}
 use Rattle.inputs.specs.declared.state.NumberedState.{NumberedState}
 use Rattle.inputs.specs.State.{numbered_block}
 use Rattle.inputs.proofs.StateReaderLaws.{new_empty}

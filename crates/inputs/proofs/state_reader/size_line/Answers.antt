@@ -3,7 +3,6 @@
 -- the line begins with the word
 use mathlib.Core.Path.{◌≡◌, sym, ◌∙◌, ap}
 use mathlib.Core.Option.{some}
-use borrow.Author.Rules.{rules}
 use Rattle.lines.specs.Number.{ascii, read_number}
 use Rattle.lines.specs.Cursor.{read_at, word_at}
 use Rattle.lines.specs.Readings.{word_of, next_number_of}

@@ -3,7 +3,6 @@
 use mathlib.Core.Path.{sym, ◌∙◌}
 use native.Mathlib.Omega.{arith}
 use Rattle.inputs.proofs.StateInLaws.{label_over, text-broken, text-held}
-use borrow.Author.Rules.{rules}
 use Rattle.inputs.proofs.state_reader.state_in.Goals as goal
 
 pub returns-then-read-ne0 : goal.returns-then-read-ne0

@@ -1,5 +1,4 @@
 -- `inputs::state_writer::put_all` meets its contract: there is room for the bytes, so they are put.
-use borrow.Author.Rules.{rules}
 use Rattle.inputs.proofs.StateWriterLaws.{wrote_put}
 use Rattle.inputs.proofs.state_writer.put_all.Goals as goal
 

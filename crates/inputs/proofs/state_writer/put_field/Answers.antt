@@ -1,6 +1,5 @@
 -- `inputs::state_writer::put_field` meets its contract: a tab, and the field that encodes the byte
 -- string after it.
-use borrow.Author.Rules.{rules}
 use Rattle.lines.specs.Hex.{hex_field}
 use Rattle.inputs.proofs.StateWriterLaws.{then-put}
 use Rattle.inputs.proofs.state_writer.put_field.Goals as goal

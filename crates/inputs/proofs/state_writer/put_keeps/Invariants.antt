@@ -1,17 +1,12 @@
 -- `inputs::state_writer::put_keeps` meets its contract: after i turns the lines of the first i
 -- values are written.
-use mathlib.Core.List.{[], flat_map}
+use mathlib.Core.List.{flat_map}
 use Prim.Native.Nat.{◌-◌, ◌≤◌}
-use native.Mathlib.Omega.{arith}
 use lib.ListN.{take}
-use borrow.Author.Rules.{rules}
 use Rattle.lists.specs.Lists.{runs}
 use Rattle.rules.specs.Limits.{hash_length}
 use Rattle.rules.specs.StateText.{write_keep}
-use Rattle.tree.proofs.RunLaws.{length_runs}
 use Rattle.inputs.specs.StateWriter.{Wrote}
-use Rattle.inputs.proofs.StateWriterLaws.{wrote_length, texts-start, texts-room, texts-step, texts-end}
-use Rattle.inputs.proofs.StateWriterLaws.{value_at}
 use Rattle.inputs.proofs.state_writer.put_keeps.Given as goal
 
 abbrev pub invariant-loop-i : goal.invariant-loop-i

@@ -1,6 +1,5 @@
 -- `inputs::state_writer::put_number` meets its contract: a tab, and the digits of the number after
 -- it.
-use borrow.Author.Rules.{rules}
 use Rattle.lines.specs.Number.{decimal}
 use Rattle.inputs.proofs.StateWriterLaws.{then-put}
 use Rattle.inputs.proofs.state_writer.put_number.Goals as goal

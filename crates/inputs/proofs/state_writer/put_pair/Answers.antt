@@ -4,8 +4,6 @@
 use mathlib.Core.List.{[], ◌∷◌, ◌++◌}
 use Prim.Native.Nat.{◌+◌, ◌≤◌}
 use lib.ListN.{length}
-use borrow.Author.Rules.{rules}
-use Rattle.lists.specs.Lists.{Bytes}
 use Rattle.lines.specs.Number.{ascii, decimal}
 use Rattle.lines.specs.Line.{tab, newline}
 use Rattle.inputs.proofs.StateWriterLaws.{room_first, room-then, wrote_then, pair_pieces}

@@ -1,16 +1,11 @@
 -- `inputs::state_writer::put_pairs` meets its contract: after i turns the lines of the first i
 -- pairs are written.
-use mathlib.Core.Path.{sym}
 use mathlib.Core.List.{flat_map}
 use Prim.Native.Nat.{◌-◌, ◌≤◌}
-use native.Mathlib.Omega.{arith}
 use lib.ListN.{length, take}
-use borrow.Author.Rules.{rules}
 use Rattle.rules.specs.StateText.{write_pair}
 use Rattle.inputs.specs.State.{map_of}
 use Rattle.inputs.specs.StateWriter.{Wrote}
-use Rattle.inputs.proofs.StateWriterLaws.{wrote_length, texts-start, texts-room, texts-step, texts-end}
-use Rattle.inputs.proofs.PairLaws.{map_length, map_at}
 use Rattle.inputs.proofs.state_writer.put_pairs.Given as goal
 
 abbrev pub invariant-loop-i : goal.invariant-loop-i

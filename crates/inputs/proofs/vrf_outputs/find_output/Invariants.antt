@@ -1,14 +1,9 @@
 -- `inputs::vrf_outputs::find_output` meets its contract: where versions rise, a record of the
 -- version stands between the two bounds.
-use mathlib.Core.Path.{refl, sym, ◌∙◌}
-use Prim.Native.Nat.{◌+◌, ◌-◌, ◌/◌, ◌≤◌}
-use native.Mathlib.Omega.{arith}
+use Prim.Native.Nat.{◌-◌, ◌/◌, ◌≤◌}
 use lib.ListN.{length}
 use Rattle.rules.specs.VrfOutputs.{record_length}
-use Rattle.inputs.specs.VrfOutputs.{found_output}
-use Rattle.inputs.proofs.VrfOutputLaws.{Between, between_all, between_above, between_below}
-use Rattle.inputs.proofs.VrfOutputLaws.{found_record, found_nothing}
-use borrow.Author.Rules.{rules}
+use Rattle.inputs.proofs.VrfOutputLaws.{Between}
 use Rattle.inputs.proofs.vrf_outputs.find_output.Given as goal
 
 abbrev pub invariant-loop-low : goal.invariant-loop-low

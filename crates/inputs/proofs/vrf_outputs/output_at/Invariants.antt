@@ -1,15 +1,9 @@
 -- `inputs::vrf_outputs::output_at` meets its contract: the bytes so far are those of the record
 -- after its version.
-use mathlib.Core.Path.{◌≡◌, refl, sym, ◌∙◌}
-use Prim.Native.Nat.{◌+◌, ◌*◌, ◌-◌, ◌≤◌}
-use native.Mathlib.Omega.{arith}
-use lib.ListN.{length, take, drop, length-set}
-use lib.Seq.{take_all}
+use mathlib.Core.Path.{◌≡◌}
+use Prim.Native.Nat.{◌≤◌}
+use lib.ListN.{length, take, drop}
 use Rattle.rules.specs.Limits.{vrf_output_length}
-use Rattle.rules.specs.VrfOutputs.{record_length}
-use Rattle.tree.proofs.RunLaws.{copied_step}
-use Rattle.inputs.proofs.VrfOutputLaws.{output_bytes}
-use borrow.Author.Rules.{rules}
 use Rattle.inputs.proofs.vrf_outputs.output_at.Given as goal
 
 abbrev pub invariant-loop-k : goal.invariant-loop-k

@@ -1,15 +1,9 @@
 -- `inputs::vrf_outputs::outputs_rise` meets its contract: the outputs read where the versions from
 -- the present record on rise.
-use mathlib.Core.Path.{◌≡◌, sym, ◌∙◌}
-use Prim.Native.Nat.{◌-◌, ◌≤◌}
+use mathlib.Core.Path.{sym, ◌∙◌}
 use native.Mathlib.Omega.{arith}
-use lib.ListN.{drop}
-use Rattle.lists.specs.Choice.{is_some}
-use Rattle.lists.specs.Lists.{rising}
-use Rattle.rules.specs.VrfOutputs.{read_outputs}
-use Rattle.inputs.proofs.VrfOutputLaws.{versions, given_rises, given_broken, rises_on, rises_not}
+use Rattle.inputs.proofs.VrfOutputLaws.{given_rises, given_broken, rises_on, rises_not}
 use Rattle.inputs.proofs.VrfOutputLaws.{rises_last}
-use borrow.Author.Rules.{rules}
 use Rattle.inputs.proofs.vrf_outputs.outputs_rise.Goals as goal
 
 pub returns-then-outputs-ne0 : goal.returns-then-outputs-ne0

@@ -1,15 +1,12 @@
 -- `inputs::vrf_outputs::outputs_rise` meets its contract: the outputs read where the versions from
 -- the present record on rise.
-use mathlib.Core.Path.{◌≡◌, sym, ◌∙◌}
+use mathlib.Core.Path.{◌≡◌}
 use Prim.Native.Nat.{◌-◌, ◌≤◌}
-use native.Mathlib.Omega.{arith}
 use lib.ListN.{drop}
 use Rattle.lists.specs.Choice.{is_some}
 use Rattle.lists.specs.Lists.{rising}
 use Rattle.rules.specs.VrfOutputs.{read_outputs}
-use Rattle.inputs.proofs.VrfOutputLaws.{versions, given_rises, given_broken, rises_on, rises_not}
-use Rattle.inputs.proofs.VrfOutputLaws.{rises_last}
-use borrow.Author.Rules.{rules}
+use Rattle.inputs.proofs.VrfOutputLaws.{versions}
 use Rattle.inputs.proofs.vrf_outputs.outputs_rise.Given as goal
 
 abbrev pub invariant-loop-i : goal.invariant-loop-i

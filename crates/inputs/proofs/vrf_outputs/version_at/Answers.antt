@@ -1,7 +1,6 @@
 -- `inputs::vrf_outputs::version_at` meets its contract: the version is what its four bytes encode.
 use mathlib.Core.Path.{sym, ◌∙◌}
 use Rattle.inputs.proofs.VrfOutputLaws.{version_bytes_lem}
-use borrow.Author.Rules.{rules}
 use Rattle.inputs.proofs.vrf_outputs.version_at.Goals as goal
 
 pub returns : goal.returns

@@ -1,18 +1,14 @@
 -- `lines::hex::read_digest` meets its contract: the bytes so far and what the digits left encode
 -- stay the value, and what is left has the bytes that are no digits.
 use mathlib.Core.Path.{◌≡◌, refl, sym, ◌∙◌}
-use mathlib.Core.List.{◌++◌}
-use Prim.Native.Nat.{◌+◌, ◌-◌, ◌*◌, ◌≤◌}
+use Prim.Native.Nat.{◌+◌, ◌*◌}
 use native.Mathlib.Omega.{arith}
-use lib.ListN.{length, take, drop, length-set}
-use Rattle.lists.specs.Lists.{all}
-use Rattle.lines.specs.Hex.{is_hex_digit, unhex}
+use lib.ListN.{drop, length-set}
+use Rattle.lines.specs.Hex.{unhex}
 use Rattle.lines.specs.Readings.{as_digest}
 use Rattle.lines.proofs.ReadingLaws.{digest_long, digest_other, digest_some, digit-pair, digit-other}
 use Rattle.lines.proofs.ReadingLaws.{digit-other-second, unhex-pair, unhex-end, digits_none, fill_step}
 use Rattle.lines.proofs.ReadingLaws.{fill_end}
-use borrow.Author.Tests.{not-true, not-false}
-use borrow.Author.Rules.{rules}
 use Rattle.lines.proofs.hex.read_digest.Goals as goal
 
 pub returns-then-s-ne-DIGITS : goal.returns-then-s-ne-DIGITS

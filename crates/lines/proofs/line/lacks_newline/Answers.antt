@@ -1,15 +1,14 @@
 -- `lines::line::lacks_newline` meets its contract: where no newline was met, the next one is the same from the offset passed on.
-use mathlib.Core.Path.{◌≡◌, refl, sym, ◌∙◌, ap}
-use mathlib.Core.Bool.{Bool, true, false, ◌||◌, not, false≢true}
-use Prim.Native.Nat.{ℕ, ◌+◌, ◌-◌, ◌≤◌, ◌<◌}
+use mathlib.Core.Path.{◌≡◌, refl, sym}
+use mathlib.Core.Bool.{Bool, true, false, ◌||◌, false≢true}
+use Prim.Native.Nat.{ℕ, ◌+◌, ◌<◌}
 use native.Mathlib.Omega.{arith}
 use lib.Dec.{eqb}
 use lib.ListN.{length, drop, get_or}
 use Rattle.lists.specs.Lists.{Bytes}
 use Rattle.lines.specs.Line.{before, newline}
 use Rattle.lines.proofs.OffsetLaws.{span_more}
-use borrow.Author.Tests.{eqb-false, not-true, not-false}
-use borrow.Author.Rules.{rules}
+use borrow.Author.Tests.{eqb-false, not-true}
 use Rattle.lines.proofs.line.lacks_newline.Goals as goal
 
 -- one byte more

@@ -1,11 +1,10 @@
 -- `lines::line::line_end` meets its contract: the offset passed and what stands before the newline from there on stay the answer.
-use mathlib.Core.Path.{◌≡◌, refl, ◌∙◌}
-use Prim.Native.Nat.{ℕ, ◌+◌, ◌-◌, ◌≤◌}
+use mathlib.Core.Path.{refl, ◌∙◌}
+use Prim.Native.Nat.{ℕ, ◌-◌, ◌≤◌}
 use native.Mathlib.Omega.{arith}
-use lib.ListN.{length, drop}
-use Rattle.lines.specs.Line.{before, newline}
+use lib.ListN.{length}
+use Rattle.lines.specs.Line.{newline}
 use Rattle.lines.proofs.OffsetLaws.{span-stop, span_more, span-end}
-use borrow.Author.Rules.{rules}
 use Rattle.lines.proofs.line.line_end.Goals as goal
 
 -- an offset after an offset after an offset

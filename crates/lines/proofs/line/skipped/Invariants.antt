@@ -1,11 +1,8 @@
 -- `lines::line::skipped` meets its contract: the next newline stays the same at each offset.
-use mathlib.Core.Path.{◌≡◌, refl, sym, ◌∙◌}
+use mathlib.Core.Path.{◌≡◌}
 use Prim.Native.Nat.{◌+◌, ◌-◌, ◌≤◌, ◌<◌}
-use native.Mathlib.Omega.{arith}
 use lib.ListN.{length, drop}
 use Rattle.lines.specs.Line.{before, newline}
-use borrow.Author.Tests.{not-true, not-false}
-use borrow.Author.Rules.{rules}
 use Rattle.lines.proofs.line.skipped.Given as goal
 
 abbrev pub invariant-loop-i : goal.invariant-loop-i

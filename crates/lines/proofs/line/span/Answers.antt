@@ -1,12 +1,7 @@
 -- `lines::line::span` meets its contract: the offset passed and what stands before the byte from
 -- there on stay the answer.
-use mathlib.Core.Path.{◌≡◌}
-use Prim.Native.Nat.{◌+◌, ◌-◌, ◌≤◌}
 use native.Mathlib.Omega.{arith}
-use lib.ListN.{length, drop}
-use Rattle.lines.specs.Line.{before}
 use Rattle.lines.proofs.OffsetLaws.{span-stop, span_more, span-end}
-use borrow.Author.Rules.{rules}
 use Rattle.lines.proofs.line.span.Goals as goal
 
 pub returns-then-s-i : goal.returns-then-s-i

@@ -2,11 +2,8 @@
 -- there on stay the answer.
 use mathlib.Core.Path.{◌≡◌}
 use Prim.Native.Nat.{◌+◌, ◌-◌, ◌≤◌}
-use native.Mathlib.Omega.{arith}
 use lib.ListN.{length, drop}
 use Rattle.lines.specs.Line.{before}
-use Rattle.lines.proofs.OffsetLaws.{span-stop, span_more, span-end}
-use borrow.Author.Rules.{rules}
 use Rattle.lines.proofs.line.span.Given as goal
 
 abbrev pub invariant-loop-i : goal.invariant-loop-i

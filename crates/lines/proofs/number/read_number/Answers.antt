@@ -1,14 +1,11 @@
 -- `lines::number::read_number` meets its contract: what is read so far and the digits that are left
 -- stay the number.
 use mathlib.Core.Path.{◌≡◌, sym, ◌∙◌}
-use Prim.Native.Nat.{◌-◌, ◌≤◌}
 use native.Mathlib.Omega.{arith}
-use lib.ListN.{length, drop}
 use Rattle.lines.specs.Number.{read_number}
 use Rattle.lines.proofs.NumberLaws.{below_digits, above_digits}
 use Rattle.lines.proofs.ReadingLaws.{number_after, number_empty, number_zero, number_one, number_many}
 use Rattle.lines.proofs.ReadingLaws.{digits-end, digits-other, digits-beyond, digits_more}
-use borrow.Author.Rules.{rules}
 use Rattle.lines.proofs.number.read_number.Goals as goal
 use Rattle.lines.proofs.number.read_number.Goals.{then-s-gt1+else-s-eq48, else-s-gt1}
 
@@ -22,9 +19,10 @@ pub loop-i-init : goal.loop-i-init
 loop-i-init c =
     let a = c.args in
     let whole : read_number a.bound a.s.now ≡ number_after a.bound 0 a.s.now =
-        elim c.if-s-gt1.branch
-        [ then-s-gt1+else-s-eq48 w ↦ number_many a.bound a.s.now (omega arith) w.if-s-eq48.false
-        | else-s-gt1 w ↦ number_one a.bound a.s.now (omega arith) ] in
+    elim c.if-s-gt1.branch [
+      | then-s-gt1+else-s-eq48 w ↦ number_many a.bound a.s.now (omega arith) w.if-s-eq48.false
+      | else-s-gt1 w ↦ number_one a.bound a.s.now (omega arith)
+    ] in
     (omega arith, omega arith, whole)
 
 pub returns-then-b-lt48 : goal.returns-then-b-lt48

@@ -1,15 +1,10 @@
 -- `lines::number::read_number` meets its contract: what is read so far and the digits that are left
 -- stay the number.
-use mathlib.Core.Path.{◌≡◌, sym, ◌∙◌}
-use mathlib.Core.Logic.{⊎_elim}
+use mathlib.Core.Path.{◌≡◌}
 use Prim.Native.Nat.{◌-◌, ◌≤◌}
-use native.Mathlib.Omega.{arith}
 use lib.ListN.{length, drop}
 use Rattle.lines.specs.Number.{read_number}
-use Rattle.lines.proofs.NumberLaws.{below_digits, above_digits}
-use Rattle.lines.proofs.ReadingLaws.{number_after, number_empty, number_zero, number_one, number_many}
-use Rattle.lines.proofs.ReadingLaws.{digits-end, digits-other, digits-beyond, digits_more}
-use borrow.Author.Rules.{rules}
+use Rattle.lines.proofs.ReadingLaws.{number_after}
 use Rattle.lines.proofs.number.read_number.Given as goal
 
 abbrev pub invariant-loop-i : goal.invariant-loop-i

@@ -1,11 +1,7 @@
 -- `lines::part::equal` meets its contract: the bytes before i are the same, so those from i on
 -- decide.
-use mathlib.Core.Path.{◌≡◌, refl}
-use Prim.Native.Nat.{◌-◌, ◌≤◌}
+use mathlib.Core.Path.{refl}
 use native.Mathlib.Omega.{arith}
-use lib.ListN.{length, drop}
-use borrow.Author.Rules.{rules}
-use Rattle.lists.specs.Lists.{same}
 use Rattle.lists.proofs.SameLaws.{same_step, same_differs, same_end, same_longer}
 use Rattle.lines.proofs.part.equal.Goals as goal
 

@@ -1,12 +1,9 @@
 -- `lines::part::equal` meets its contract: the bytes before i are the same, so those from i on
 -- decide.
-use mathlib.Core.Path.{◌≡◌, refl}
+use mathlib.Core.Path.{◌≡◌}
 use Prim.Native.Nat.{◌-◌, ◌≤◌}
-use native.Mathlib.Omega.{arith}
 use lib.ListN.{length, drop}
-use borrow.Author.Rules.{rules}
 use Rattle.lists.specs.Lists.{same}
-use Rattle.lists.proofs.SameLaws.{same_step, same_differs, same_end, same_longer}
 use Rattle.lines.proofs.part.equal.Given as goal
 
 abbrev pub invariant-loop-i : goal.invariant-loop-i

@@ -3,7 +3,6 @@
 use mathlib.Core.Path.{sym, ◌∙◌}
 use native.Mathlib.Omega.{arith}
 use Rattle.lines.proofs.HexLaws.{hex_digit_low, hex_digit_high}
-use borrow.Author.Rules.{rules}
 use Rattle.lines.proofs.writing.hex_digit.Goals as goal
 
 pub returns-then-d-lt10 : goal.returns-then-d-lt10

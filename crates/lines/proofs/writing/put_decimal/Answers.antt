@@ -1,11 +1,10 @@
 -- `lines::writing::put_decimal` meets its contract: the digits of what is left of the number and
 -- those stored after them stay its digits.
 use mathlib.Core.Path.{◌≡◌, refl, sym, ◌∙◌, ap}
-use mathlib.Core.List.{◌++◌, append-nil}
-use Prim.Native.Nat.{◌+◌, ◌-◌, ◌%◌, ◌≤◌, ◌<◌}
+use mathlib.Core.List.{append-nil}
+use Prim.Native.Nat.{◌+◌, ◌-◌, ◌%◌}
 use native.Mathlib.Omega.{arith}
-use lib.ListN.{length, drop, length-set}
-use borrow.Author.Rules.{rules}
+use lib.ListN.{length-set}
 use Rattle.lines.specs.Number.{decimal}
 use Rattle.lines.specs.Writing.{offset_after, put_at}
 use Rattle.lines.proofs.NumberLaws.{decimal_short}

@@ -6,8 +6,7 @@ use mathlib.Core.Option.{some}
 use Prim.Native.Nat.{ℕ, ◌+◌, ◌≤◌, ◌<◌}
 use native.Mathlib.Omega.{arith}
 use lib.ListN.{length}
-use borrow.Author.Rules.{rules}
-use borrow.Author.Tests.{leb-true, leb-false, not-true, not-false}
+use borrow.Author.Tests.{leb-true, leb-false}
 use Rattle.lines.specs.Hex.{unhex, read_hex}
 use Rattle.lines.specs.Readings.{hex_length_of}
 use Rattle.lines.proofs.WritingLaws.{put_fits, put_over, put_some, put_none}
@@ -26,19 +25,32 @@ returns-then-not-has_room c =
 
 pub store_decoded-requires : goal.store_decoded-requires
 store_decoded-requires c =
-    record { decodes = (let decoded0 : (let f = c.args.field.now in (read_hex f ≡ some (unhex f)) × (length (unhex f) ≡ c.in-Read.count)) = let f0 = c.args.field.now in
-    decoded_was f0 c.in-Read.count (ap hex_length_of (sym c.in-Read.is) ∙ c.decoded_length.ensures) in decoded0).0; room = (let room0 : (let a = c.args in a.at + length (unhex a.field.now) ≤ length a.out.now) = let a0 = c.args in
-    let h0 : a0.at + c.in-Read.count ≤ length a0.out.now = leb-true _ _ (sym c.has_room.ensures ∙ c.if-not-has_room.false) in
-    omega (arith, (let decoded0 : (let f = c.args.field.now in (read_hex f ≡ some (unhex f)) × (length (unhex f) ≡ c.in-Read.count)) = let f0 = c.args.field.now in
-    decoded_was f0 c.in-Read.count (ap hex_length_of (sym c.in-Read.is) ∙ c.decoded_length.ensures) in decoded0).1) in room0) }
+    record {
+      decodes = (let decoded0 : (let f = c.args.field.now in (read_hex f ≡ some (unhex f)) × (length (unhex f) ≡ c.in-Read.count)) = let f0 = c.args.field.now in
+          decoded_was f0 c.in-Read.count (ap hex_length_of (sym c.in-Read.is) ∙ c.decoded_length.ensures) in decoded0).0;
+      room = (let room0 : (let a = c.args in a.at + length (unhex a.field.now) ≤ length a.out.now) = let a0 = c.args in
+          let h0 : a0.at + c.in-Read.count ≤ length a0.out.now = leb-true _ _ (sym c.has_room.ensures ∙ c.if-not-has_room.false) in
+          omega (
+            arith,
+            (let decoded0 : (let f = c.args.field.now in (read_hex f ≡ some (unhex f)) × (length (unhex f) ≡ c.in-Read.count)) = let f0 = c.args.field.now in
+                decoded_was f0 c.in-Read.count (ap hex_length_of (sym c.in-Read.is) ∙ c.decoded_length.ensures) in decoded0).1,
+          ) in room0);
+    }
 
 pub overflow_add-result : goal.overflow_add-result
 overflow_add-result c =
-    omega (arith, (let room0 : (let a = c.args in a.at + length (unhex a.field.now) ≤ length a.out.now) = let a0 = c.args in
-    let h0 : a0.at + c.in-Read.count ≤ length a0.out.now = leb-true _ _ (sym c.has_room.ensures ∙ c.if-not-has_room.false) in
-    omega (arith, (let decoded0 : (let f = c.args.field.now in (read_hex f ≡ some (unhex f)) × (length (unhex f) ≡ c.in-Read.count)) = let f0 = c.args.field.now in
-    decoded_was f0 c.in-Read.count (ap hex_length_of (sym c.in-Read.is) ∙ c.decoded_length.ensures) in decoded0).1) in room0), (let decoded0 : (let f = c.args.field.now in (read_hex f ≡ some (unhex f)) × (length (unhex f) ≡ c.in-Read.count)) = let f0 = c.args.field.now in
-    decoded_was f0 c.in-Read.count (ap hex_length_of (sym c.in-Read.is) ∙ c.decoded_length.ensures) in decoded0).1)
+    omega (
+      arith,
+      (let room0 : (let a = c.args in a.at + length (unhex a.field.now) ≤ length a.out.now) = let a0 = c.args in
+          let h0 : a0.at + c.in-Read.count ≤ length a0.out.now = leb-true _ _ (sym c.has_room.ensures ∙ c.if-not-has_room.false) in
+          omega (
+            arith,
+            (let decoded0 : (let f = c.args.field.now in (read_hex f ≡ some (unhex f)) × (length (unhex f) ≡ c.in-Read.count)) = let f0 = c.args.field.now in
+                decoded_was f0 c.in-Read.count (ap hex_length_of (sym c.in-Read.is) ∙ c.decoded_length.ensures) in decoded0).1,
+          ) in room0),
+      (let decoded0 : (let f = c.args.field.now in (read_hex f ≡ some (unhex f)) × (length (unhex f) ≡ c.in-Read.count)) = let f0 = c.args.field.now in
+          decoded_was f0 c.in-Read.count (ap hex_length_of (sym c.in-Read.is) ∙ c.decoded_length.ensures) in decoded0).1,
+    )
 
 pub returns-else-not-has_room : goal.returns-else-not-has_room
 returns-else-not-has_room c =
@@ -48,8 +60,11 @@ returns-else-not-has_room c =
     let (p, b) = put_some a.out.now a.at (read_hex a.field.now) (unhex a.field.now) r in
     let (q, d) = put_fits a.out.now a.at (unhex a.field.now) (let room0 : (let a = c.args in a.at + length (unhex a.field.now) ≤ length a.out.now) = let a0 = c.args in
     let h0 : a0.at + c.in-Read.count ≤ length a0.out.now = leb-true _ _ (sym c.has_room.ensures ∙ c.if-not-has_room.false) in
-    omega (arith, (let decoded0 : (let f = c.args.field.now in (read_hex f ≡ some (unhex f)) × (length (unhex f) ≡ c.in-Read.count)) = let f0 = c.args.field.now in
-    decoded_was f0 c.in-Read.count (ap hex_length_of (sym c.in-Read.is) ∙ c.decoded_length.ensures) in decoded0).1) in room0) in
+    omega (
+      arith,
+      (let decoded0 : (let f = c.args.field.now in (read_hex f ≡ some (unhex f)) × (length (unhex f) ≡ c.in-Read.count)) = let f0 = c.args.field.now in
+          decoded_was f0 c.in-Read.count (ap hex_length_of (sym c.in-Read.is) ∙ c.decoded_length.ensures) in decoded0).1,
+    ) in room0) in
     record { offset = ap some (ap (λ (k : ℕ). a.at + k) (sym l)) ∙ sym (p ∙ q); bytes = c.store_decoded.ensures ∙ sym (b ∙ d) }
 
 pub returns-in-Unread : goal.returns-in-Unread

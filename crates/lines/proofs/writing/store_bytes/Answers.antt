@@ -1,14 +1,11 @@
 -- `lines::writing::store_bytes` meets its contract: the bytes from i on, stored into what is there,
 -- make the whole text in its place.
-use mathlib.Core.Path.{◌≡◌, refl, sym, ◌∙◌}
-use Prim.Native.Nat.{◌+◌, ◌-◌, ◌≤◌}
+use mathlib.Core.Path.{refl, sym, ◌∙◌}
+use Prim.Native.Nat.{◌+◌}
 use native.Mathlib.Omega.{arith}
-use lib.ListN.{length, drop, get_or, length-set}
-use lib.Seq.{sets}
-use Rattle.lists.specs.Lists.{written}
+use lib.ListN.{drop, get_or, length-set}
 use Rattle.lines.proofs.OffsetLaws.{at_cons, at_end}
 use Rattle.lines.proofs.WritingLaws.{sets_start, sets_next, sets_done}
-use borrow.Author.Rules.{rules}
 use Rattle.lines.proofs.writing.store_bytes.Goals as goal
 
 pub loop-i-init : goal.loop-i-init

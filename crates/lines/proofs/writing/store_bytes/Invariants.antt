@@ -1,14 +1,10 @@
 -- `lines::writing::store_bytes` meets its contract: the bytes from i on, stored into what is there,
 -- make the whole text in its place.
-use mathlib.Core.Path.{◌≡◌, refl, sym, ◌∙◌}
+use mathlib.Core.Path.{◌≡◌}
 use Prim.Native.Nat.{◌+◌, ◌-◌, ◌≤◌}
-use native.Mathlib.Omega.{arith}
-use lib.ListN.{length, drop, get_or, length-set}
+use lib.ListN.{length, drop}
 use lib.Seq.{sets}
 use Rattle.lists.specs.Lists.{written}
-use Rattle.lines.proofs.OffsetLaws.{at_cons, at_end}
-use Rattle.lines.proofs.WritingLaws.{sets_start, sets_next, sets_done}
-use borrow.Author.Rules.{rules}
 use Rattle.lines.proofs.writing.store_bytes.Given as goal
 
 abbrev pub invariant-loop-i : goal.invariant-loop-i

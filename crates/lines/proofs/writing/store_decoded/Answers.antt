@@ -2,12 +2,9 @@
 -- stored into what is there, make all bytes in their place.
 use mathlib.Core.Path.{◌≡◌, refl, sym, ◌∙◌}
 use mathlib.Core.List.{◌∷◌}
-use Prim.Native.Nat.{◌+◌, ◌-◌, ◌*◌, ◌/◌, ◌≤◌}
+use Prim.Native.Nat.{◌+◌, ◌*◌}
 use native.Mathlib.Omega.{arith}
-use lib.ListN.{length, drop, length-set, length-drop}
-use lib.Seq.{sets}
-use borrow.Author.Rules.{rules}
-use Rattle.lists.specs.Lists.{written}
+use lib.ListN.{drop, length-set, length-drop}
 use Rattle.lines.specs.Hex.{unhex}
 use Rattle.lines.proofs.ReadingLaws.{unhex-pair}
 use Rattle.lines.proofs.WritingLaws.{sets_start, sets_next, sets_done}

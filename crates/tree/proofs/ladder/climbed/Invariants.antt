@@ -1,10 +1,7 @@
 -- `tree::ladder::climbed` meets its contract: the versions stored so far are those of the climb,
 -- and what is left is the climb from `high` on.
-use Prim.Native.Nat.{◌+◌, ◌-◌, ◌<◌}
-use native.Mathlib.Omega.{arith}
-use Rattle.tree.specs.Ladder.{ladder_capacity}
-use Rattle.tree.proofs.LadderFillLaws.{Climbing, climbing_start, climbing_room, climbing_next_fits}
-use Rattle.tree.proofs.LadderFillLaws.{climbing_next, climbing_end}
+use Prim.Native.Nat.{◌+◌, ◌-◌}
+use Rattle.tree.proofs.LadderFillLaws.{Climbing}
 use Rattle.tree.proofs.ladder.climbed.Given as goal
 
 abbrev pub invariant-loop-high : goal.invariant-loop-high

@@ -1,10 +1,10 @@
 -- `tree::ladder::halved` meets its contract: the versions stored so far are the first of the
 -- ladder, and what is left is the halving between `low` and `high`.
-use Prim.Native.Nat.{◌-◌, ◌<◌}
+use Prim.Native.Nat.{◌<◌}
 use mathlib.Core.Path.{refl}
 use native.Mathlib.Omega.{arith}
 use Rattle.tree.specs.Ladder.{ladder_capacity}
-use Rattle.tree.proofs.LadderFillLaws.{Halving, halving_room, halving_low, halving_high, halving_end}
+use Rattle.tree.proofs.LadderFillLaws.{halving_room, halving_low, halving_high, halving_end}
 use Rattle.tree.proofs.ladder.halved.Goals as goal
 
 pub loop-high-init : goal.loop-high-init

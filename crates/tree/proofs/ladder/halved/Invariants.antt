@@ -1,10 +1,7 @@
 -- `tree::ladder::halved` meets its contract: the versions stored so far are the first of the
 -- ladder, and what is left is the halving between `low` and `high`.
-use Prim.Native.Nat.{◌-◌, ◌<◌}
-use mathlib.Core.Path.{refl}
-use native.Mathlib.Omega.{arith}
-use Rattle.tree.specs.Ladder.{ladder_capacity}
-use Rattle.tree.proofs.LadderFillLaws.{Halving, halving_room, halving_low, halving_high, halving_end}
+use Prim.Native.Nat.{◌-◌}
+use Rattle.tree.proofs.LadderFillLaws.{Halving}
 use Rattle.tree.proofs.ladder.halved.Given as goal
 
 abbrev pub invariant-loop-high : goal.invariant-loop-high

@@ -1,7 +1,6 @@
 -- `tree::log_head::log_head` meets its contract: the walk over all entries, from the first on, with
 -- the block filled from its front.
 use mathlib.Core.Path.{refl, sym, ◌∙◌}
-use borrow.Author.Rules.{rules}
 use Rattle.tree.specs.LogText.{nodes_in}
 use Rattle.tree.specs.LogHead.{known_in}
 use Rattle.tree.proofs.HeadLaws.{walkable_values, head-ready, head-room, head-made, head_none}

@@ -1,7 +1,6 @@
 -- `tree::log_head::nodes_asked` meets its contract: the walk over all entries ends after the nodes
 -- that it takes.
 use mathlib.Core.Path.{sym, ◌∙◌}
-use borrow.Author.Rules.{rules}
 use Rattle.tree.specs.LogHead.{known_in}
 use Rattle.tree.proofs.HeadLaws.{head-ready, nodes-made, nodes_none}
 use Rattle.tree.proofs.log_head.nodes_asked.Goals as goal

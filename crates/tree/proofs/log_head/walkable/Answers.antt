@@ -1,7 +1,6 @@
 -- `tree::log_head::walkable` meets its contract: one test after the other.
 use mathlib.Core.Path.{◌∙◌}
 use native.Mathlib.Omega.{arith}
-use borrow.Author.Rules.{rules}
 use Rattle.tree.specs.LogHead.{known_in}
 use Rattle.tree.proofs.HeadLaws.{walkable-none, walkable-many, walkable-fewer, walkable-rest}
 use Rattle.tree.proofs.log_head.walkable.Goals as goal

@@ -5,7 +5,6 @@ use native.Mathlib.Omega.{arith}
 use lib.ListN.{length}
 use Rattle.lines.specs.Line.{tab}
 use Rattle.lines.proofs.OffsetLaws.{at_end, after_at}
-use borrow.Author.Rules.{rules}
 use Rattle.tree.proofs.log_text.after_tab.Goals as goal
 
 pub returns-then-stop-text : goal.returns-then-stop-text

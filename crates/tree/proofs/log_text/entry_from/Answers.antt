@@ -1,9 +1,6 @@
 -- `tree::log_text::entry_from` meets its contract: from where the loop stands the same entry line
 -- is the first as from the start on.
-use mathlib.Core.Path.{◌≡◌, refl, sym, ap, ◌∙◌}
-use Prim.Native.Nat.{◌-◌}
-use lib.ListN.{length}
-use borrow.Author.Rules.{rules}
+use mathlib.Core.Path.{refl, sym, ap, ◌∙◌}
 use Rattle.tree.proofs.EntryLineLaws.{first_offset, first_here, first_later, first-end}
 use Rattle.tree.proofs.log_text.entry_from.Goals as goal
 

@@ -1,10 +1,9 @@
 -- `tree::log_text::entry_from` meets its contract: from where the loop stands the same entry line
 -- is the first as from the start on.
-use mathlib.Core.Path.{◌≡◌, refl, sym, ap, ◌∙◌}
+use mathlib.Core.Path.{◌≡◌}
 use Prim.Native.Nat.{◌-◌}
 use lib.ListN.{length}
-use borrow.Author.Rules.{rules}
-use Rattle.tree.proofs.EntryLineLaws.{first_offset, first_here, first_later, first-end}
+use Rattle.tree.proofs.EntryLineLaws.{first_offset}
 use Rattle.tree.proofs.log_text.entry_from.Given as goal
 
 abbrev pub invariant-loop-at : goal.invariant-loop-at

@@ -4,7 +4,6 @@ use mathlib.Core.Path.{sym, ◌∙◌}
 use native.Mathlib.Omega.{arith}
 use Rattle.tree.specs.LogTree.{zeros}
 use Rattle.tree.proofs.LogTextLaws.{node_some, node_none}
-use borrow.Author.Rules.{rules}
 use Rattle.tree.proofs.log_text.node_at.Goals as goal
 
 pub returns-then-i-nodes : goal.returns-then-i-nodes

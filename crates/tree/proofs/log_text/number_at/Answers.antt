@@ -6,7 +6,6 @@ use Rattle.lines.specs.Line.{tab}
 use Rattle.lines.specs.Readings.{number_of}
 use Rattle.lines.proofs.OffsetLaws.{span-end}
 use Rattle.tree.proofs.LogTextLaws.{number_between, number_none}
-use borrow.Author.Rules.{rules}
 use Rattle.tree.proofs.log_text.number_at.Goals as goal
 
 pub returns-then-text-at : goal.returns-then-text-at

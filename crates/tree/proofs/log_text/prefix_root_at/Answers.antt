@@ -1,6 +1,5 @@
 -- `tree::log_text::prefix_root_at` meets its contract: the digits after the second tab.
 use Rattle.tree.specs.LogText.{entry_in}
-use borrow.Author.Rules.{rules}
 use Rattle.tree.proofs.log_text.prefix_root_at.Goals as goal
 
 pub returns : goal.returns

@@ -4,7 +4,6 @@ use mathlib.Core.Path.{sym, ◌∙◌}
 use native.Mathlib.Omega.{arith}
 use Rattle.tree.specs.LogTree.{zeros}
 use Rattle.tree.proofs.LogTextLaws.{sibling_some, sibling_none}
-use borrow.Author.Rules.{rules}
 use Rattle.tree.proofs.log_text.sibling_at.Goals as goal
 
 pub returns-then-i-siblings : goal.returns-then-i-siblings

@@ -1,11 +1,7 @@
 -- `tree::log_text::stored_at` meets its contract: the bytes so far are those of the block.
-use mathlib.Core.Path.{◌≡◌, refl, sym, ◌∙◌}
-use Prim.Native.Nat.{◌-◌, ◌*◌, ◌≤◌}
-use native.Mathlib.Omega.{arith}
-use lib.ListN.{length, take, drop, length-set}
-use lib.Seq.{take_all}
-use Rattle.tree.proofs.RunLaws.{copied_step}
-use borrow.Author.Rules.{rules}
+use mathlib.Core.Path.{◌≡◌}
+use Prim.Native.Nat.{◌*◌, ◌≤◌}
+use lib.ListN.{length, take, drop}
 use Rattle.tree.proofs.log_text.stored_at.Given as goal
 
 abbrev pub invariant-loop-k : goal.invariant-loop-k

@@ -1,6 +1,5 @@
 -- `tree::log_text::time_at` meets its contract: the number after the first tab.
 use Rattle.tree.specs.LogText.{entry_in}
-use borrow.Author.Rules.{rules}
 use Rattle.tree.proofs.log_text.timestamp_at.Goals as goal
 
 pub returns : goal.returns

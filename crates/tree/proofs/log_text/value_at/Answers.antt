@@ -6,7 +6,6 @@ use lib.ListN.{take, drop}
 use Rattle.lines.specs.Layout.{value_digits}
 use Rattle.tree.specs.LogTree.{zeros}
 use Rattle.tree.proofs.LogTextLaws.{value_read, value_short}
-use borrow.Author.Rules.{rules}
 use Rattle.tree.proofs.log_text.value_at.Goals as goal
 
 pub returns-then-s-lt-DIGITS : goal.returns-then-s-lt-DIGITS

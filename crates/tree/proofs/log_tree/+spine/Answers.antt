@@ -2,10 +2,8 @@
 -- the walk does there, and puts the values of full subtrees one after the other.
 use mathlib.Core.Path.{◌≡◌, subst, ◌∙◌}
 use mathlib.Core.List.{[]}
-use Prim.Native.Nat.{ℕ, ◌-◌, ◌<◌}
 use native.Mathlib.Omega.{arith}
 use lib.ListN.{length}
-use borrow.Author.Rules.{rules}
 use Rattle.tree.specs.declared.log_tree.Edge.TheVariants.{Block, Node, Cut}
 use Rattle.tree.specs.LogText.{nodes_in}
 use Rattle.tree.specs.LogHead.{block_length, known_in}

@@ -1,5 +1,4 @@
 -- the entries that are left
-use Rattle.std.proofs.Common.{◌-◌}
 use Rattle.tree.proofs.log_tree.+subtree.Given as goal
 
 abbrev pub decreases-subtree : goal.decreases-subtree

@@ -1,7 +1,6 @@
 -- `tree::log_tree::edge_at` meets its contract: each answer by its tests.
 use mathlib.Core.Logic.{inl, inr}
 use native.Mathlib.Omega.{arith}
-use borrow.Author.Rules.{rules}
 use Rattle.tree.proofs.log_tree.edge_at.Goals as goal
 
 pub returns-then-position-tree_size : goal.returns-then-position-tree_size

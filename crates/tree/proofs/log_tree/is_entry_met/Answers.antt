@@ -1,7 +1,6 @@
 -- `tree::log_tree::is_entry_met` meets its contract: the last entry of an odd number is compared,
 -- another is not.
 use mathlib.Core.Path.{◌∙◌}
-use borrow.Author.Rules.{rules}
 use Rattle.tree.specs.LogHead.{known_in}
 use Rattle.tree.proofs.WalkedLaws.{agrees_full, agrees-none}
 use Rattle.tree.proofs.WalkLaws.{whole_one, entry-full, entry-even, entry-inner}

@@ -1,6 +1,5 @@
 -- `tree::log_tree::is_met` meets its contract: a full subtree is compared, another is not.
 use mathlib.Core.Path.{sym, ◌∙◌}
-use borrow.Author.Rules.{rules}
 use Rattle.tree.specs.LogHead.{known_in}
 use Rattle.tree.proofs.WalkedLaws.{agrees_full, agrees-none}
 use Rattle.tree.proofs.log_tree.is_met.Goals as goal

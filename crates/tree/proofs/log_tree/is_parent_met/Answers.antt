@@ -1,7 +1,6 @@
 -- `tree::log_tree::is_parent_met` meets its contract: equal halves are those of a whole block,
 -- others of no full subtree.
 use native.Mathlib.Omega.{arith}
-use borrow.Author.Rules.{rules}
 use Rattle.tree.specs.LogHead.{known_in}
 use Rattle.tree.proofs.DecisionLaws.{halves_even, halves_uneven, halves_small}
 use Rattle.tree.proofs.WalkedLaws.{agrees-none}

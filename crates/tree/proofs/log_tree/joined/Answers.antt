@@ -1,7 +1,6 @@
 -- `tree::log_tree::joined` meets its contract: the string is that of the children's values, each
 -- after its mark, and all kept values are met if this one is and those below it are.
 use Rattle.tree.proofs.WalkedLaws.{joined_made}
-use borrow.Author.Rules.{rules}
 use Rattle.tree.proofs.log_tree.joined.Goals as goal
 
 pub returns : goal.returns

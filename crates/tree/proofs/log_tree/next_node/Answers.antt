@@ -1,5 +1,4 @@
 -- `tree::log_tree::next_node` meets its contract: the value of the next node, and one node more.
-use borrow.Author.Rules.{rules}
 use Rattle.tree.specs.LogText.{nodes_in}
 use Rattle.tree.proofs.WalkedLaws.{node_made}
 use Rattle.tree.proofs.log_tree.next_node.Goals as goal

@@ -1,6 +1,5 @@
 -- `tree::log_tree::step_at` meets its contract: each answer by what its tests say of the block.
 use mathlib.Core.Path.{sym, ◌∙◌}
-use borrow.Author.Rules.{rules}
 use Rattle.tree.proofs.DecisionLaws.{step-shown, step-parent, step-retained, step_after, step-before}
 use Rattle.tree.proofs.DecisionLaws.{step-within}
 use Rattle.tree.proofs.log_tree.source_at.Goals as goal

@@ -1,7 +1,6 @@
 -- `tree::prefix_tree::bit_at` meets its contract: a bit stands in the byte that holds its eight.
 use mathlib.Core.Path.{sym}
 use native.Mathlib.Omega.{arith}
-use borrow.Author.Rules.{rules}
 use Rattle.tree.proofs.BitLaws.{bit_of}
 use Rattle.tree.proofs.prefix_tree.bit_at.Goals as goal
 

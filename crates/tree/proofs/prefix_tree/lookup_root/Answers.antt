@@ -1,13 +1,9 @@
 -- `tree::prefix_tree::lookup_root` meets its contract: from the siblings that are left the value
 -- leads to the root.
 use mathlib.Core.Path.{◌≡◌, sym, ◌∙◌, ap}
-use Prim.Native.Nat.{◌≤◌}
 use native.Mathlib.Omega.{arith}
-use lib.ListN.{length, take}
-use borrow.Author.Rules.{rules}
 use Rattle.tree.specs.LogText.{values_in}
 use Rattle.tree.specs.PrefixTree.{bits, value_above, lookup_root}
-use Rattle.tree.specs.Lookups.{output_bits}
 use Rattle.tree.proofs.BitLaws.{length_bits}
 use Rattle.tree.proofs.ClimbLaws.{above_none, climb_start, climb_step}
 use Rattle.tree.proofs.prefix_tree.lookup_root.Goals as goal

@@ -1,7 +1,6 @@
 -- `tree::prefix_tree::parent_value` meets its contract: by the bit.
 use mathlib.Core.Path.{ap, sym, ◌∙◌}
 use native.Mathlib.Omega.{arith}
-use borrow.Author.Rules.{rules}
 use Rattle.hash.specs.Sha256.{sha256}
 use Rattle.tree.proofs.ClimbLaws.{parent_left, parent_right}
 use Rattle.tree.proofs.prefix_tree.parent_value.Goals as goal

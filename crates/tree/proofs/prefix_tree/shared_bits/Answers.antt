@@ -1,11 +1,7 @@
 -- `tree::prefix_tree::shared_bits` meets its contract: up to n the bits agree.
-use mathlib.Core.Path.{◌≡◌, refl, sym, ◌∙◌}
-use Prim.Native.Nat.{◌-◌, ◌≤◌}
+use mathlib.Core.Path.{refl, sym, ◌∙◌}
 use native.Mathlib.Omega.{arith}
-use lib.ListN.{take}
-use borrow.Author.Rules.{rules}
 use Rattle.tree.specs.PrefixTree.{bits}
-use Rattle.tree.specs.Lookups.{output_bits}
 use Rattle.tree.proofs.BitLaws.{length_bits, one_more, all_shared}
 use Rattle.tree.proofs.TerminalLaws.{bytes_held}
 use Rattle.tree.proofs.prefix_tree.shared_bits.Goals as goal

@@ -1,13 +1,9 @@
 -- `tree::prefix_tree::shared_bits` meets its contract: up to n the bits agree.
-use mathlib.Core.Path.{◌≡◌, refl, sym, ◌∙◌}
+use mathlib.Core.Path.{◌≡◌}
 use Prim.Native.Nat.{◌-◌, ◌≤◌}
-use native.Mathlib.Omega.{arith}
 use lib.ListN.{take}
-use borrow.Author.Rules.{rules}
 use Rattle.tree.specs.PrefixTree.{bits}
 use Rattle.tree.specs.Lookups.{output_bits}
-use Rattle.tree.proofs.BitLaws.{length_bits, one_more, all_shared}
-use Rattle.tree.proofs.TerminalLaws.{bytes_held}
 use Rattle.tree.proofs.prefix_tree.shared_bits.Given as goal
 
 abbrev pub invariant-loop-n : goal.invariant-loop-n

@@ -2,7 +2,6 @@
 -- the bits of two outputs part.
 use mathlib.Core.Path.{◌∙◌}
 use native.Mathlib.Omega.{arith}
-use borrow.Author.Rules.{rules}
 use borrow.Author.Tests.{le-ltb}
 use Rattle.tree.specs.Lookups.{output_bits}
 use Rattle.tree.proofs.TerminalLaws.{own_fits, empty_fits, other_fits, same_unfit}

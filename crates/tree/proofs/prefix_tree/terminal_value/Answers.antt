@@ -1,6 +1,5 @@
 -- `tree::prefix_tree::terminal_value` meets its contract: by what stands at the place.
 use mathlib.Core.Path.{◌∙◌}
-use borrow.Author.Rules.{rules}
 use Rattle.tree.specs.LogTree.{zeros}
 use Rattle.tree.proofs.TerminalLaws.{own_value, empty_value, other_value}
 use Rattle.tree.proofs.prefix_tree.terminal_value.Goals as goal

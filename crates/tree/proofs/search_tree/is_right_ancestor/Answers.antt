@@ -7,7 +7,6 @@ use Rattle.tree.specs.SearchTree.{right_ancestors}
 use Rattle.tree.proofs.AncestorLaws.{right_ancestors_rising}
 use Rattle.tree.proofs.NextLaws.{listed_next, listed_none}
 use Rattle.tree.proofs.AskedLaws.{path_within}
-use borrow.Author.Rules.{rules}
 use Rattle.tree.proofs.search_tree.is_right_ancestor.Goals as goal
 
 pub returns-then-x-tree_size : goal.returns-then-x-tree_size

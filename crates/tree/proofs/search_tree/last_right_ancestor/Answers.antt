@@ -3,7 +3,6 @@
 use mathlib.Core.Path.{sym, ◌∙◌}
 use Rattle.tree.proofs.PartingLaws.{parts}
 use Rattle.tree.proofs.PathEndLaws.{ancestor_last, ancestor_last_empty}
-use borrow.Author.Rules.{rules}
 use Rattle.tree.proofs.search_tree.last_right_ancestor.Goals as goal
 
 pub returns-then-tree_size-p : goal.returns-then-tree_size-p

@@ -1,12 +1,9 @@
 -- `tree::search_tree::next_asked` meets its contract: `next` is the next of the frontier and the
 -- right paths of the positions from i on.
 use mathlib.Core.Path.{◌≡◌, ◌∙◌}
-use Prim.Native.Nat.{◌-◌, ◌≤◌}
+use Prim.Native.Nat.{◌-◌}
 use native.Mathlib.Omega.{arith}
-use lib.ListN.{length, drop}
-use Rattle.tree.specs.SearchTree.{frontier_and_paths, next_from}
 use Rattle.tree.proofs.AskedLaws.{asked_start, asked_step}
-use borrow.Author.Rules.{rules}
 use Rattle.tree.proofs.search_tree.next_asked.Goals as goal
 
 pub loop-i-init : goal.loop-i-init

@@ -7,7 +7,6 @@ use Rattle.tree.proofs.FrontierLaws.{frontier_rising, frontier_below}
 use Rattle.tree.proofs.PartingLaws.{parts}
 use Rattle.tree.proofs.NextLaws.{next_none}
 use Rattle.tree.proofs.PathEndLaws.{next_root, frontier_next}
-use borrow.Author.Rules.{rules}
 use Rattle.tree.proofs.search_tree.next_on_frontier.Goals as goal
 
 pub returns-then-tree_size-x : goal.returns-then-tree_size-x

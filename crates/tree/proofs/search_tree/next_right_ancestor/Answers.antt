@@ -2,7 +2,6 @@
 -- no right path, and a right path is above its entry.
 use mathlib.Core.Path.{sym, ◌∙◌}
 use Rattle.tree.proofs.PathEndLaws.{ancestor_next_empty, ancestor_next_start}
-use borrow.Author.Rules.{rules}
 use Rattle.tree.proofs.search_tree.next_right_ancestor.Goals as goal
 
 pub returns-then-tree_size-p : goal.returns-then-tree_size-p

@@ -1,7 +1,6 @@
 -- `tree::search_tree::power` meets its contract: the shift is by the place of the highest digit.
 use native.Mathlib.Omega.{arith}
 use Rattle.tree.proofs.PartingLaws.{leading_within, power_shift}
-use borrow.Author.Rules.{rules}
 use Rattle.tree.proofs.search_tree.power.Goals as goal
 
 pub overflow_sub-result : goal.overflow_sub-result

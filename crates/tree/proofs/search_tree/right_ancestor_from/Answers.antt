@@ -4,7 +4,6 @@ use mathlib.Core.Path.{sym, ◌∙◌}
 use native.Mathlib.Omega.{arith}
 use Rattle.tree.proofs.PartingLaws.{parts}
 use Rattle.tree.proofs.PathEndLaws.{ancestor_next, ancestor_next_none}
-use borrow.Author.Rules.{rules}
 use Rattle.tree.proofs.search_tree.right_ancestor_from.Goals as goal
 
 pub returns-then-end-tree_size : goal.returns-then-end-tree_size

@@ -1,7 +1,6 @@
 -- `hash::hasher::Hasher::finish` meets its contract: the digest of what is pending is `closed`, by
 -- its law.
 use Rattle.hash.proofs.HasherLaws.{closed_law}
-use Rattle.std.proofs.Common.{rules}
 use Rattle.hash.proofs.hasher.Hasher.finish.Goals as goal
 
 pub returns : goal.returns

@@ -3,12 +3,11 @@ use mathlib.Core.Path.{refl, sym, ◌∙◌}
 use Prim.Native.Nat.{◌≤◌}
 use lib.Count.{ones}
 use native.Mathlib.Omega.{arith}
-use borrow.Author.Tests.{lt-leb, le-leb, not-true, not-false}
+use borrow.Author.Tests.{lt-leb, le-leb}
 use Rattle.tree.specs.LogHead.{level_limit}
 use Rattle.tree.proofs.DecisionLaws.{ones_limit}
 use Rattle.rules.specs.Limits.{tree_size_limit}
 use Rattle.inputs.specs.State.{log_fits}
-use borrow.Author.Rules.{rules}
 use Rattle.inputs.proofs.state.KeptLog.fits.Goals as goal
 
 pub returns-then-size-gt-LARGEST_SIZE : goal.returns-then-size-gt-LARGEST_SIZE

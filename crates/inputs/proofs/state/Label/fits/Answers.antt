@@ -4,7 +4,6 @@ use mathlib.Core.Path.{refl}
 use borrow.Author.Tests.{lt-leb, le-leb}
 use Rattle.rules.specs.Limits.{label_limit}
 use Rattle.inputs.specs.State.{label_fits}
-use borrow.Author.Rules.{rules}
 use Rattle.inputs.proofs.state.Label.fits.Goals as goal
 
 pub returns-then-length-gt-LABEL : goal.returns-then-length-gt-LABEL

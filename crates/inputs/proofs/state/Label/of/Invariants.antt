@@ -1,13 +1,8 @@
 -- `inputs::state::Label::of` meets its contract: the bytes of the label before i are stored.
-use mathlib.Core.Path.{refl, sym, ap}
-use Prim.Native.Nat.{ℕ, ◌-◌}
-use native.Mathlib.Numerals.{add-one}
+use Prim.Native.Nat.{◌-◌}
 use lib.ListN.{length, drop}
-use lib.Seq.{drop-cons}
-use Rattle.tree.proofs.FillLaws.{Filling, filling_start, filling_same, filling_next, filling_whole}
+use Rattle.tree.proofs.FillLaws.{Filling}
 use Rattle.rules.specs.Limits.{label_limit}
-use Rattle.inputs.specs.State.{label_block}
-use borrow.Author.Rules.{rules}
 use Rattle.inputs.proofs.state.Label.of.Given as goal
 
 abbrev pub invariant-loop-i : goal.invariant-loop-i

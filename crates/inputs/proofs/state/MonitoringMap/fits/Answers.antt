@@ -1,9 +1,8 @@
 -- `inputs::state::MonitoringMap::fits` meets its contract: one test after the other.
 use mathlib.Core.Path.{refl, sym, ◌∙◌}
-use borrow.Author.Tests.{lt-leb, le-leb, not-true, not-false}
+use borrow.Author.Tests.{lt-leb, le-leb}
 use Rattle.rules.specs.Limits.{map_limit}
 use Rattle.inputs.specs.State.{map_fits}
-use borrow.Author.Rules.{rules}
 use Rattle.inputs.proofs.state.MonitoringMap.fits.Goals as goal
 
 pub returns-then-count-gt-PAIRS : goal.returns-then-count-gt-PAIRS

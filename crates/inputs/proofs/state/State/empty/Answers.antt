@@ -1,5 +1,4 @@
 -- `inputs::state::State::empty` meets its contract: the label, and zeros in all other room.
-use borrow.Author.Rules.{rules}
 use Rattle.inputs.proofs.StateBlockLaws.{empty_block}
 use Rattle.inputs.proofs.state.State.empty.Goals as goal
 

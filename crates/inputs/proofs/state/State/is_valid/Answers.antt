@@ -3,7 +3,6 @@
 -- the tests of the struct decide
 use mathlib.Core.Path.{◌≡◌, sym, ◌∙◌}
 use mathlib.Core.Bool.{◌&&◌}
-use borrow.Author.Tests.{not-true, not-false}
 use Rattle.lists.specs.Choice.{is_some}
 use Rattle.rules.specs.Refusals.{valid_state}
 use Rattle.inputs.specs.State.{state_of, label_fits, log_fits, map_fits}

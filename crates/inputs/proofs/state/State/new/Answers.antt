@@ -6,7 +6,6 @@ use Rattle.lists.specs.Choice.{choose}
 use Rattle.rules.specs.Limits.{label_limit}
 use Rattle.rules.specs.State.{new_state}
 use Rattle.inputs.specs.State.{numbered_block}
-use borrow.Author.Rules.{rules}
 use Rattle.inputs.proofs.state.State.new.Goals as goal
 
 pub returns-then-label-gt-LABEL : goal.returns-then-label-gt-LABEL

@@ -6,7 +6,6 @@ use Rattle.lines.specs.Line.{tab}
 use Rattle.lines.specs.Cursor.{field_at}
 use Rattle.lines.proofs.OffsetLaws.{before_at}
 use Rattle.lines.proofs.CursorLaws.{field_beyond}
-use borrow.Author.Rules.{rules}
 use Rattle.lines.proofs.cursor.Cursor.field.Goals as goal
 
 pub returns-then-line-at : goal.returns-then-line-at

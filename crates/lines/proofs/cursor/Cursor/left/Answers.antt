@@ -1,7 +1,6 @@
 -- `lines::cursor::Cursor::left` meets its contract: nothing is left after the text's end.
 use native.Mathlib.Omega.{arith}
 use lib.ListN.{length-drop}
-use borrow.Author.Rules.{rules}
 use Rattle.lines.specs.Cursor.{left_at}
 use Rattle.lines.proofs.cursor.Cursor.left.Goals as goal
 

@@ -3,7 +3,6 @@
 use mathlib.Core.Path.{sym}
 use native.Mathlib.Omega.{arith}
 use Rattle.lines.proofs.CursorLaws.{line-ended, line-open}
-use borrow.Author.Rules.{rules}
 use Rattle.lines.proofs.cursor.Cursor.line.Goals as goal
 
 pub returns-then-stop-text : goal.returns-then-stop-text

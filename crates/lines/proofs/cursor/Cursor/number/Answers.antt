@@ -4,7 +4,6 @@ use native.Mathlib.Omega.{arith}
 use Rattle.lines.specs.Number.{read_number}
 use Rattle.lines.specs.Readings.{number_of}
 use Rattle.lines.proofs.CursorLaws.{read-beyond, read_none, read_some}
-use borrow.Author.Rules.{rules}
 use Rattle.lines.proofs.cursor.Cursor.number.Goals as goal
 
 pub returns-then-line-at : goal.returns-then-line-at

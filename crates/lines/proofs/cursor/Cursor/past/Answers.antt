@@ -1,6 +1,5 @@
 -- `lines::cursor::Cursor::past` meets its contract: by cases of the line.
 use mathlib.Core.Path.{sym, ap}
-use borrow.Author.Rules.{rules}
 use Rattle.lines.specs.Cursor.{past}
 use Rattle.lines.specs.Readings.{line_of}
 use Rattle.lines.specs.declared.cursor.NextLine.{NextLine}

@@ -3,7 +3,6 @@
 use mathlib.Core.Path.{sym, ◌∙◌}
 use native.Mathlib.Omega.{arith}
 use Rattle.lines.proofs.CursorLaws.{word-beyond, word-other, word_same}
-use borrow.Author.Rules.{rules}
 use Rattle.lines.proofs.cursor.Cursor.word.Goals as goal
 
 pub returns-then-line-at : goal.returns-then-line-at

@@ -1,7 +1,6 @@
 -- `lines::part::Part::of` meets its contract.
 use mathlib.Core.Path.{refl}
 use native.Mathlib.Omega.{arith}
-use borrow.Author.Rules.{rules}
 use Rattle.lines.specs.Readings.{part_of}
 use Rattle.lines.proofs.PartLaws.{part-beyond, part-back, part-rest}
 use Rattle.lines.proofs.part.Part.of.Goals as goal

@@ -6,7 +6,6 @@ use lib.ListN.{length}
 use Rattle.hash.specs.Bytes.{padded}
 use Rattle.tree.specs.Ladder.{ladder_capacity}
 use Rattle.tree.proofs.LadderFillLaws.{within_some, within_nothing}
-use borrow.Author.Rules.{rules}
 use Rattle.tree.proofs.ladder.Ladder.of.Goals as goal
 
 pub returns-then-version-eq4294967295 : goal.returns-then-version-eq4294967295

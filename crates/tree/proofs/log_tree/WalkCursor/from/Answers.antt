@@ -1,6 +1,5 @@
 -- `tree::log_tree::Cursor::from` meets its contract: the position is read in the first entry line,
 -- where there is one.
-use borrow.Author.Rules.{rules}
 use Rattle.tree.proofs.CursorLaws.{cursor-made, cursor-none}
 use Rattle.tree.proofs.log_tree.WalkCursor.from.Goals as goal
 

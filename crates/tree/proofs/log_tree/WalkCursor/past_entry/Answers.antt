@@ -2,7 +2,6 @@
 -- this one.
 use mathlib.Core.Path.{ap, ◌∙◌}
 use Prim.Native.Nat.{ℕ}
-use borrow.Author.Rules.{rules}
 use Rattle.tree.specs.LogWalk.{cursor_from}
 use Rattle.tree.proofs.log_tree.WalkCursor.past_entry.Goals as goal
 
