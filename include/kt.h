@@ -168,7 +168,8 @@ enum {
  * answer is its number alone: both lengths are 0, and the old text stays good.
  *
  * The time grows with the length of what is given, some 12 ns a byte at most on a
- * common computer, and a call takes less than 50 KiB of stack (measured).
+ * common computer, and a call takes less than 50 KiB of stack (both measured with the
+ * library as an older kit built it).
  */
 uint64_t kt_search(const uint8_t *response, size_t response_length,
                    const uint8_t *configuration, size_t configuration_length,
