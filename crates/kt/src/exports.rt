@@ -36,7 +36,7 @@ pub extern "C" fn kt_sha256(message: &[u8], digest: &mut [u8]) -> u64
         return 0;
     }
     let d = hash::sha256::digest(message);
-    bytes::copy(&d, digest);
+    digest[..DIGEST_LENGTH].copy_from_slice(&d);
     DIGEST_LENGTH as u64
 }
 
