@@ -1,44 +1,42 @@
 // A line of output, piece by piece.
-use libc::STDOUT_FILENO;
 
-pub(crate) fn word(s: &[u8]) {
-    io::write_all(STDOUT_FILENO, s);
+pub(crate) fn word(rt: &impl Print, s: &[u8]) {
+    let _ = rt.write_all(s);
 }
 
-pub(crate) fn number(n: u64) {
-    io::write_all(STDOUT_FILENO, b" ");
-    io::print_decimal(STDOUT_FILENO, n);
+pub(crate) fn number(rt: &impl Print, n: u64) {
+    let _ = print!(rt; " {n}");
 }
 
 // How many there are, and the first so many.
-pub(crate) fn numbers(v: &[u64; 64], count: usize) {
-    number(count as u64);
+pub(crate) fn numbers(rt: &impl Print, v: &[u64; 64], count: usize) {
+    number(rt, count as u64);
     for i in 0..64 {
         if i < count {
-            number(v[i]);
+            number(rt, v[i]);
         }
     }
 }
 
-pub(crate) fn answer(holds: bool) {
+pub(crate) fn answer(rt: &impl Print, holds: bool) {
     if holds {
-        io::write_all(STDOUT_FILENO, b" yes");
+        word(rt, b" yes");
     } else {
-        io::write_all(STDOUT_FILENO, b" no");
+        word(rt, b" no");
     }
 }
 
-fn wide(x: u8) -> u64 {
-    x as u64
+fn hex(rt: &impl Print, x: u8) {
+    let _ = print!(rt; "{x:02x}");
 }
 
-pub(crate) fn value(v: &[u8]) {
-    io::write_all(STDOUT_FILENO, b" ");
+pub(crate) fn value(rt: &impl Print, v: &[u8]) {
+    word(rt, b" ");
     for i in 0..v.len() {
-        io::print_hex(STDOUT_FILENO, wide(v[i]), 2);
+        hex(rt, v[i]);
     }
 }
 
-pub(crate) fn end() {
-    io::write_all(STDOUT_FILENO, b"\n");
+pub(crate) fn end(rt: &impl Print) {
+    word(rt, b"\n");
 }

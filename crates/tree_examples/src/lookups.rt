@@ -37,22 +37,22 @@ fn empty() -> Terminal {
 }
 
 // A name, and the root that a lookup leads to.
-fn leads(name: &[u8], output: [u8; 32], terminal: Terminal, siblings: &[u8]) {
-    word(name);
+fn leads(rt: &impl Print, name: &[u8], output: [u8; 32], terminal: Terminal, siblings: &[u8]) {
+    word(rt, name);
     let root = lookup_root(output, terminal, siblings);
-    value(&root);
-    end();
+    value(rt, &root);
+    end(rt);
 }
 
 // A name, and whether what stands at the place fits a lookup of so many siblings.
-fn fits(name: &[u8], output: [u8; 32], terminal: Terminal, depth: usize) {
-    word(name);
-    answer(terminal_fits(output, terminal, depth));
-    end();
+fn fits(rt: &impl Print, name: &[u8], output: [u8; 32], terminal: Terminal, depth: usize) {
+    word(rt, name);
+    answer(rt, terminal_fits(output, terminal, depth));
+    end(rt);
 }
 
 // The leaf, an empty place and another leaf lead to one root; another commitment does not.
-pub(crate) fn in_one_tree() {
+pub(crate) fn in_one_tree(rt: &impl Print) {
     let right_and_second =
         b"e3f5530c28297eb98b79926f9a00c7e9d21c4100ddac4fa1952af76be816152b429e71c6bdb725a4545b7d4fc82188cffd0824667f13c5642b3f8c7afbc84538";
     let left_and_third =
@@ -60,19 +60,22 @@ pub(crate) fn in_one_tree() {
     let left_and_empty =
         b"3ac9d53074ffb5d6bbfd4eee87a19e02d6bc3c2b357d721b9e3700a02027bf9f0000000000000000000000000000000000000000000000000000000000000000";
     leads(
+        rt,
         b"in",
         output(0x00),
         searched_leaf(digest(b"commitment 0")),
         right_and_second,
     );
     leads(
+        rt,
         b"in-other-commitment",
         output(0x00),
         searched_leaf(digest(b"commitment 1")),
         right_and_second,
     );
-    leads(b"no", output(0xc0), empty(), left_and_third);
+    leads(rt, b"no", output(0xc0), empty(), left_and_third);
     leads(
+        rt,
         b"nl",
         output(0x81),
         leaf(output(0x80), digest(b"commitment 2")),
@@ -81,32 +84,53 @@ pub(crate) fn in_one_tree() {
 }
 
 // Another leaf shares the first seven bits and no more; the searched one is no other.
-pub(crate) fn other_leaves() {
+pub(crate) fn other_leaves(rt: &impl Print) {
     let third = digest(b"commitment 2");
-    fits(b"nl-depth-2", output(0x81), leaf(output(0x80), third), 2);
-    fits(b"nl-depth-7", output(0x81), leaf(output(0x80), third), 7);
-    fits(b"nl-depth-8", output(0x81), leaf(output(0x80), third), 8);
-    fits(b"nl-itself", output(0x80), leaf(output(0x80), third), 2);
+    fits(
+        rt,
+        b"nl-depth-2",
+        output(0x81),
+        leaf(output(0x80), third),
+        2,
+    );
+    fits(
+        rt,
+        b"nl-depth-7",
+        output(0x81),
+        leaf(output(0x80), third),
+        7,
+    );
+    fits(
+        rt,
+        b"nl-depth-8",
+        output(0x81),
+        leaf(output(0x80), third),
+        8,
+    );
+    fits(rt, b"nl-itself", output(0x80), leaf(output(0x80), third), 2);
 }
 
 // Lookups without siblings, with as many as a response may have, and with more than an output has
 // bits.
-pub(crate) fn depths() {
+pub(crate) fn depths(rt: &impl Print) {
     let siblings = [b'0'; 16448];
     leads(
+        rt,
         b"in-depth-0",
         output(0x00),
         searched_leaf(digest(b"commitment 0")),
         b"",
     );
-    leads(b"no-depth-0", output(0x00), empty(), b"-");
+    leads(rt, b"no-depth-0", output(0x00), empty(), b"-");
     leads(
+        rt,
         b"in-depth-255",
         output(0x00),
         searched_leaf(digest(b"commitment 0")),
         &siblings[0..16320],
     );
     leads(
+        rt,
         b"in-depth-257",
         output(0x00),
         searched_leaf(digest(b"commitment 0")),

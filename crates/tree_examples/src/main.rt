@@ -7,15 +7,15 @@ mod line;
 mod lookups;
 mod positions;
 
-fn main() {
-    positions::ladders();
-    positions::roots();
-    positions::frontiers();
-    positions::right_paths();
-    positions::asked();
-    heads::of_fourteen();
-    heads::nodes();
-    lookups::in_one_tree();
-    lookups::other_leaves();
-    lookups::depths();
+fn main(rt: HostRuntime) {
+    positions::ladders(&rt);
+    positions::roots(&rt);
+    positions::frontiers(&rt);
+    positions::right_paths(&rt);
+    positions::asked(&rt);
+    heads::of_fourteen(&rt);
+    heads::nodes(&rt);
+    lookups::in_one_tree(&rt);
+    lookups::other_leaves(&rt);
+    lookups::depths(&rt);
 }

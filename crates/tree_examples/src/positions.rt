@@ -16,108 +16,108 @@ fn widened(v: &[u32; 64]) -> [u64; 64] {
 }
 
 // A version, the length of its ladder, and the ladder.
-fn ladder(version: u32) {
-    word(b"ladder");
-    number(version as u64);
+fn ladder(rt: &impl Print, version: u32) {
+    word(rt, b"ladder");
+    number(rt, version as u64);
     let l = Ladder::of(version);
     let versions = l.versions;
     let widened = widened(&versions);
-    numbers(&widened, l.length);
-    end();
+    numbers(rt, &widened, l.length);
+    end(rt);
 }
 
 // Those of paper 01, that of the greatest version, and that of the number after it, which has none.
-pub(crate) fn ladders() {
-    ladder(0);
-    ladder(1);
-    ladder(3);
-    ladder(5);
-    ladder(0xffff_fffe);
-    ladder(0xffff_ffff);
+pub(crate) fn ladders(rt: &impl Print) {
+    ladder(rt, 0);
+    ladder(rt, 1);
+    ladder(rt, 3);
+    ladder(rt, 5);
+    ladder(rt, 0xffff_fffe);
+    ladder(rt, 0xffff_ffff);
 }
 
-fn root_of(n: u64) {
-    word(b"root");
-    number(n);
-    number(root(n));
-    end();
+fn root_of(rt: &impl Print, n: u64) {
+    word(rt, b"root");
+    number(rt, n);
+    number(rt, root(n));
+    end(rt);
 }
 
-pub(crate) fn roots() {
-    root_of(0);
-    root_of(1);
-    root_of(14);
-    root_of(0x100_0000_0000);
-    root_of(u64::MAX);
+pub(crate) fn roots(rt: &impl Print) {
+    root_of(rt, 0);
+    root_of(rt, 1);
+    root_of(rt, 14);
+    root_of(rt, 0x100_0000_0000);
+    root_of(rt, u64::MAX);
 }
 
 // A size, the length of its frontier, and the frontier.
-fn frontier(n: u64) {
-    word(b"frontier");
-    number(n);
+fn frontier(rt: &impl Print, n: u64) {
+    word(rt, b"frontier");
+    number(rt, n);
     let f = Frontier::of(n);
     let positions = f.positions;
-    numbers(&positions, f.length);
-    end();
+    numbers(rt, &positions, f.length);
+    end(rt);
 }
 
 // Those of paper 01, that of an empty log, and those at the limits of a size.
-pub(crate) fn frontiers() {
-    frontier(0);
-    frontier(1);
-    frontier(13);
-    frontier(14);
-    frontier(60);
-    frontier(0xff_ffff_ffff);
-    frontier(0x100_0000_0000);
-    frontier(u64::MAX);
+pub(crate) fn frontiers(rt: &impl Print) {
+    frontier(rt, 0);
+    frontier(rt, 1);
+    frontier(rt, 13);
+    frontier(rt, 14);
+    frontier(rt, 60);
+    frontier(rt, 0xff_ffff_ffff);
+    frontier(rt, 0x100_0000_0000);
+    frontier(rt, u64::MAX);
 }
 
 // A size, an entry, and its right path.
-fn right_path(n: u64, p: u64) {
-    word(b"right-path");
-    number(n);
-    number(p);
+fn right_path(rt: &impl Print, n: u64, p: u64) {
+    word(rt, b"right-path");
+    number(rt, n);
+    number(rt, p);
     let mut next = next_right_ancestor(n, p, 0);
     let mut turns: usize = 0;
     while turns < 64 {
         if next < n {
-            number(next);
+            number(rt, next);
             next = next_right_ancestor(n, p, next + 1);
         }
         turns += 1;
     }
-    end();
+    end(rt);
 }
 
 // Those of paper 01, and of an entry that is not in the log.
-pub(crate) fn right_paths() {
-    right_path(14, 4);
-    right_path(14, 8);
-    right_path(14, 13);
-    right_path(14, 14);
-    right_path(0x100_0000_0000, 0);
+pub(crate) fn right_paths(rt: &impl Print) {
+    right_path(rt, 14, 4);
+    right_path(rt, 14, 8);
+    right_path(rt, 14, 13);
+    right_path(rt, 14, 14);
+    right_path(rt, 0x100_0000_0000, 0);
 }
 
 // A size, entries, and their right paths together with the frontier.
-fn asked_for(n: u64, entries: &[u64]) {
-    word(b"asked");
-    number(n);
+fn asked_for(rt: &impl Print, n: u64, entries: &[u64]) {
+    word(rt, b"asked");
+    number(rt, n);
     let mut next = next_asked(n, entries, 0);
     let mut turns: usize = 0;
     while turns < 64 {
         if next < n {
-            number(next);
+            number(rt, next);
             next = next_asked(n, entries, next + 1);
         }
         turns += 1;
     }
-    end();
+    end(rt);
 }
 
-pub(crate) fn asked() {
-    asked_for(14, &[]);
-    asked_for(14, &[4, 8]);
-    asked_for(4, &[1, 2]);
-    asked_for(0, &[4]);
+pub(crate) fn asked(rt: &impl Print) {
+    asked_for(rt, 14, &[]);
+    asked_for(rt, 14, &[4, 8]);
+    asked_for(rt, 4, &[1, 2]);
+    asked_for(rt, 0, &[4]);
 }
