@@ -81,35 +81,35 @@ fn decoded(text: &mut [u8], field: &[u8]) -> usize {
 }
 
 // Runs a line: a heading, or an example of the kind. Gives the kind of the next lines.
-pub(crate) fn run(kind: u64, line: &[u8]) -> u64 {
+pub(crate) fn run(rt: &impl Print, kind: u64, line: &[u8]) -> u64 {
     let heading = field(line, KIND);
     let mut next = kind;
     if heading.len() == 0 {
-        show(line);
-        answer(kind, line);
+        show(rt, line);
+        answer(rt, kind, line);
     } else {
-        line::word(line);
+        line::word(rt, line);
         next = said(heading);
     }
-    line::word(b"\n");
+    line::word(rt, b"\n");
     next
 }
 
 // What is given: the name or, where there is none, the texts, and the numbers.
-fn show(line: &[u8]) {
+fn show(rt: &impl Print, line: &[u8]) {
     let name = field(line, NAME);
     if name.len() == 0 {
-        line::text(field(line, TEXT));
-        line::spaced(field(line, OTHER));
+        line::text(rt, field(line, TEXT));
+        line::spaced(rt, field(line, OTHER));
     } else {
-        line::text(name);
+        line::text(rt, name);
     }
-    line::spaced(field(line, OFFSET));
-    line::spaced(field(line, NUMBER));
+    line::spaced(rt, field(line, OFFSET));
+    line::spaced(rt, field(line, NUMBER));
 }
 
 // What comes back.
-fn answer(kind: u64, line: &[u8]) {
+fn answer(rt: &impl Print, kind: u64, line: &[u8]) {
     let mut text = [0u8; TEXT_ROOM];
     let length = decoded(&mut text, field(line, TEXT));
     let mut other = [0u8; OTHER_ROOM];
@@ -117,6 +117,7 @@ fn answer(kind: u64, line: &[u8]) {
     if length <= TEXT_ROOM {
         if other_length <= OTHER_ROOM {
             by_kind(
+                rt,
                 kind,
                 said(field(line, OFFSET)),
                 said(field(line, NUMBER)),
@@ -128,24 +129,24 @@ fn answer(kind: u64, line: &[u8]) {
 }
 
 // What comes back, by the kind. Those that are not named here are given bytes.
-fn by_kind(kind: u64, offset: u64, number: u64, text: &[u8], other: &[u8]) {
+fn by_kind(rt: &impl Print, kind: u64, offset: u64, number: u64, text: &[u8], other: &[u8]) {
     let at = offset as usize;
     match kind {
-        1 => fields::number(number, text),
-        2 => fields::hex_length(text),
-        3 => fields::digest(text),
-        4 => fields::word_at(at, text, other),
-        5 => fields::number_at(at, number, text),
-        6 => fields::bytes_at(at, text),
-        7 => fields::field_at(at, text),
-        8 => fields::span_at(at, text),
-        9 => fields::line_at(at, text),
-        10 => writers::bytes(at, text),
-        11 => writers::decimal(at, text),
-        13 => writers::decoded(at, text),
-        18 => states::of_text(text),
-        19 => states::unused_room(offset, text),
-        20 => responses::response(text),
-        _ => given::decoded(kind, at, number, text, other),
+        1 => fields::number(rt, number, text),
+        2 => fields::hex_length(rt, text),
+        3 => fields::digest(rt, text),
+        4 => fields::word_at(rt, at, text, other),
+        5 => fields::number_at(rt, at, number, text),
+        6 => fields::bytes_at(rt, at, text),
+        7 => fields::field_at(rt, at, text),
+        8 => fields::span_at(rt, at, text),
+        9 => fields::line_at(rt, at, text),
+        10 => writers::bytes(rt, at, text),
+        11 => writers::decimal(rt, at, text),
+        13 => writers::decoded(rt, at, text),
+        18 => states::of_text(rt, text),
+        19 => states::unused_room(rt, offset, text),
+        20 => responses::response(rt, text),
+        _ => given::decoded(rt, kind, at, number, text, other),
     }
 }

@@ -11,56 +11,63 @@ const ROOM: usize = 256;
 // The greatest version that can be asked for.
 const VERSION: u64 = 4294967295;
 
-fn lifetime(l: Lifetime) {
+fn lifetime(rt: &impl Print, l: Lifetime) {
     match l {
-        Lifetime::Limited(n) => line::number(n),
-        Lifetime::Unlimited => line::word(b" unlimited"),
+        Lifetime::Limited(n) => line::number(rt, n),
+        Lifetime::Unlimited => line::word(rt, b" unlimited"),
     }
 }
 
-fn fields(s: &[u8], c: Configuration) {
-    line::numbers(c.suite as u64, c.mode as u64);
-    line::bytes(c.signature.of(s));
-    line::bytes(c.vrf.of(s));
-    line::numbers(c.ahead, c.behind);
-    line::number(c.window);
+fn fields(rt: &impl Print, s: &[u8], c: Configuration) {
+    line::numbers(rt, c.suite as u64, c.mode as u64);
+    line::bytes(rt, c.signature.of(s));
+    line::bytes(rt, c.vrf.of(s));
+    line::numbers(rt, c.ahead, c.behind);
+    line::number(rt, c.window);
     let limit = c.lifetime;
-    lifetime(limit);
+    lifetime(rt, limit);
 }
 
-fn configuration(s: &[u8]) {
+fn configuration(rt: &impl Print, s: &[u8]) {
     match read_configuration(s) {
-        ReadConfiguration::Read(c) => fields(s, c),
-        ReadConfiguration::Unread => line::broken(),
+        ReadConfiguration::Read(c) => fields(rt, s, c),
+        ReadConfiguration::Unread => line::broken(rt),
     }
 }
 
-fn output(outputs: &[u8], version: u64) {
+fn output(rt: &impl Print, outputs: &[u8], version: u64) {
     if version <= VERSION {
         let f = find_output(outputs, version as u32);
-        line::whether(f.found);
+        line::whether(rt, f.found);
         let output = f.output;
-        line::bytes(&output);
+        line::bytes(rt, &output);
     }
 }
 
 // What comes back, by the kind.
-fn by_kind(kind: u64, at: usize, number: u64, bytes: &[u8], other: &[u8]) {
+fn by_kind(rt: &impl Print, kind: u64, at: usize, number: u64, bytes: &[u8], other: &[u8]) {
     match kind {
-        12 => writers::hex(at, bytes),
-        14 => configuration(bytes),
-        15 => line::whether(outputs_rise(bytes)),
-        16 => output(bytes, number),
-        17 => states::state(State::new(bytes), other),
+        12 => writers::hex(rt, at, bytes),
+        14 => configuration(rt, bytes),
+        15 => line::whether(rt, outputs_rise(bytes)),
+        16 => output(rt, bytes, number),
+        17 => states::state(rt, State::new(bytes), other),
         _ => {}
     }
 }
 
 // What comes back of the bytes that a text encodes.
-pub(crate) fn decoded(kind: u64, at: usize, number: u64, text: &[u8], other: &[u8]) {
+pub(crate) fn decoded(
+    rt: &impl Print,
+    kind: u64,
+    at: usize,
+    number: u64,
+    text: &[u8],
+    other: &[u8],
+) {
     let mut bytes = [0u8; ROOM];
     let length = next_offset(put_decoded(&mut bytes, 0, text), 0);
     if length <= ROOM {
-        by_kind(kind, at, number, &bytes[0..length], other);
+        by_kind(rt, kind, at, number, &bytes[0..length], other);
     }
 }

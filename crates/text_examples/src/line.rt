@@ -1,55 +1,53 @@
 // A line of output, piece by piece.
-use libc::STDOUT_FILENO;
 
-pub(crate) fn word(s: &[u8]) {
-    io::write_all(STDOUT_FILENO, s);
+pub(crate) fn word(rt: &impl Print, s: &[u8]) {
+    let _ = rt.write_all(s);
 }
 
-pub(crate) fn broken() {
-    word(b" broken");
+pub(crate) fn broken(rt: &impl Print) {
+    word(rt, b" broken");
 }
 
 // A field, if there is one.
-pub(crate) fn spaced(s: &[u8]) {
+pub(crate) fn spaced(rt: &impl Print, s: &[u8]) {
     if s.len() != 0 {
-        word(b" ");
-        word(s);
+        word(rt, b" ");
+        word(rt, s);
     }
 }
 
-pub(crate) fn number(n: u64) {
-    word(b" ");
-    io::print_decimal(STDOUT_FILENO, n);
+pub(crate) fn number(rt: &impl Print, n: u64) {
+    let _ = print!(rt; " {n}");
 }
 
-pub(crate) fn numbers(m: u64, n: u64) {
-    number(m);
-    number(n);
+pub(crate) fn numbers(rt: &impl Print, m: u64, n: u64) {
+    number(rt, m);
+    number(rt, n);
 }
 
-fn wide(x: u8) -> u64 {
-    x as u64
+fn hex(rt: &impl Print, x: u8) {
+    let _ = print!(rt; "{x:02x}");
 }
 
 // Bytes in hex.
-pub(crate) fn bytes(s: &[u8]) {
-    word(b" ");
+pub(crate) fn bytes(rt: &impl Print, s: &[u8]) {
+    word(rt, b" ");
     for i in 0..s.len() {
-        io::print_hex(STDOUT_FILENO, wide(s[i]), 2);
+        hex(rt, s[i]);
     }
 }
 
 // A text between quotes.
-pub(crate) fn text(s: &[u8]) {
-    word(b" \"");
-    word(s);
-    word(b"\"");
+pub(crate) fn text(rt: &impl Print, s: &[u8]) {
+    word(rt, b" \"");
+    word(rt, s);
+    word(rt, b"\"");
 }
 
-pub(crate) fn whether(holds: bool) {
+pub(crate) fn whether(rt: &impl Print, holds: bool) {
     if holds {
-        word(b" yes");
+        word(rt, b" yes");
     } else {
-        word(b" no");
+        word(rt, b" no");
     }
 }

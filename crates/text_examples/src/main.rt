@@ -11,25 +11,46 @@ mod responses;
 mod states;
 mod writers;
 
-use libc::STDIN_FILENO;
+ghost use Rattle.std.specs.Counts.{IsPrefixLen};
+
 use lines::line::span;
+use std::io::Read;
 
 // Room for all examples.
 const ROOM: usize = 131072;
 
-fn main() {
+fn main(rt: HostRuntime) {
     let mut text = [0u8; ROOM];
-    let length = io::read_full(STDIN_FILENO, &mut text);
-    each_line(&text[..length]);
+    let length = read_full(&mut rt.reader(), &mut text);
+    each_line(&rt, &text[..length]);
+}
+
+// Reads into the first bytes lent, until they are full, the input ends or a read fails, and gives
+// how many were read.
+fn read_full(input: &mut impl Read, bytes: &mut [u8]) -> usize
+    ensures { IsPrefixLen result bytes.new }
+{
+    let mut done: usize = 0;
+    while done < bytes.len() {
+        let more = match input.read(&mut bytes[done..]) {
+            Ok(n) => n,
+            Err(_) => 0,
+        };
+        if more == 0 {
+            break;
+        }
+        done += more;
+    }
+    done
 }
 
 // Runs the lines one after the other.
-fn each_line(text: &[u8]) {
+fn each_line(rt: &impl Print, text: &[u8]) {
     let mut kind: u64 = 0;
     let mut at: usize = 0;
     while at < text.len() {
         let stop = span(text, at, b'\n');
-        let next = example::run(kind, &text[at..stop]);
+        let next = example::run(rt, kind, &text[at..stop]);
         kind = next;
         if text.len() <= stop {
             return;

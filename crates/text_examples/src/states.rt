@@ -10,32 +10,32 @@ const LENT: usize = 8200;
 
 // The length of a state's text, whether that is the text given, and whether the last byte lent
 // stays.
-fn written(s: State, text: &[u8]) {
+fn written(rt: &impl Print, s: State, text: &[u8]) {
     let mut lent = [b'.'; LENT];
     let length = write_state(s, &mut lent);
-    line::number(length as u64);
+    line::number(rt, length as u64);
     if length <= LENT {
-        line::whether(equal(&lent[0..length], text));
+        line::whether(rt, equal(&lent[0..length], text));
     }
-    line::whether(lent[LENT - 1] == b'.');
+    line::whether(rt, lent[LENT - 1] == b'.');
 }
 
 // The number, what the state holds, and its text.
-pub(crate) fn state(n: NumberedState, text: &[u8]) {
+pub(crate) fn state(rt: &impl Print, n: NumberedState, text: &[u8]) {
     let s = n.state;
-    line::numbers(n.number, s.label.length as u64);
-    line::numbers(s.log.size, s.log.timestamp);
-    line::number(s.map.count as u64);
-    written(s, text);
+    line::numbers(rt, n.number, s.label.length as u64);
+    line::numbers(rt, s.log.size, s.log.timestamp);
+    line::number(rt, s.map.count as u64);
+    written(rt, s, text);
 }
 
 // The state that a text says.
-pub(crate) fn of_text(text: &[u8]) {
-    state(read_state(text), text);
+pub(crate) fn of_text(rt: &impl Print, text: &[u8]) {
+    state(rt, read_state(text), text);
 }
 
 // Whether a state of two values and two pairs is valid, with something put where it should not be.
-fn changed(valid: State, part: u64) {
+fn changed(rt: &impl Print, valid: State, part: u64) {
     let mut label = valid.label;
     let mut log = valid.log;
     let mut map = valid.map;
@@ -50,11 +50,11 @@ fn changed(valid: State, part: u64) {
         _ => {}
     }
     let s = State { label, log, map };
-    line::whether(s.is_valid());
+    line::whether(rt, s.is_valid());
 }
 
 // The same of the state that a text says.
-pub(crate) fn unused_room(part: u64, text: &[u8]) {
+pub(crate) fn unused_room(rt: &impl Print, part: u64, text: &[u8]) {
     let n = read_state(text);
-    changed(n.state, part);
+    changed(rt, n.state, part);
 }

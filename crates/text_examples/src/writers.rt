@@ -7,34 +7,34 @@ use lines::writing::{Put, put_bytes, put_decimal, put_decoded, put_hex};
 const LENT: usize = 10;
 
 // The offset after what was put, and what was lent.
-fn after(put: Put, lent: &[u8]) {
+fn after(rt: &impl Print, put: Put, lent: &[u8]) {
     match put {
-        Put::Next(at) => line::number(at as u64),
-        Put::Unchanged => line::word(b" unchanged"),
+        Put::Next(at) => line::number(rt, at as u64),
+        Put::Unchanged => line::word(rt, b" unchanged"),
     }
-    line::text(lent);
+    line::text(rt, lent);
 }
 
-pub(crate) fn bytes(at: usize, s: &[u8]) {
+pub(crate) fn bytes(rt: &impl Print, at: usize, s: &[u8]) {
     let mut lent = [b'.'; LENT];
     let put = put_bytes(&mut lent, at, s);
-    after(put, &lent);
+    after(rt, put, &lent);
 }
 
-pub(crate) fn decimal(at: usize, s: &[u8]) {
+pub(crate) fn decimal(rt: &impl Print, at: usize, s: &[u8]) {
     let mut lent = [b'.'; LENT];
     let put = put_decimal(&mut lent, at, said(s));
-    after(put, &lent);
+    after(rt, put, &lent);
 }
 
-pub(crate) fn decoded(at: usize, s: &[u8]) {
+pub(crate) fn decoded(rt: &impl Print, at: usize, s: &[u8]) {
     let mut lent = [b'.'; LENT];
     let put = put_decoded(&mut lent, at, s);
-    after(put, &lent);
+    after(rt, put, &lent);
 }
 
-pub(crate) fn hex(at: usize, bytes: &[u8]) {
+pub(crate) fn hex(rt: &impl Print, at: usize, bytes: &[u8]) {
     let mut lent = [b'.'; LENT];
     let put = put_hex(&mut lent, at, bytes);
-    after(put, &lent);
+    after(rt, put, &lent);
 }
