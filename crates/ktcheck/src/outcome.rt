@@ -3,10 +3,12 @@
 use crate::refusals::explain;
 use crate::writing::{print, write_file};
 use inputs::state::State;
+use std::rt::Files;
 use verifier::files::{Outcome, check_files};
 
 // Judges the six files, of which one or more may be unread, and reports what comes of them.
 pub(crate) fn judge(
+    rt: &(impl Files + Print + Eprint),
     unread: bool,
     request: &[u8],
     response: &[u8],
@@ -34,6 +36,7 @@ pub(crate) fn judge(
     let value_length = outcome.value;
     let text_length = outcome.text;
     report(
+        rt,
         outcome.number,
         outcome.found,
         &line[..line_length],
@@ -44,21 +47,29 @@ pub(crate) fn judge(
 }
 
 // Reports what came of the files, by its number.
-fn report(number: u64, found: bool, line: &[u8], value: &[u8], text: &[u8], response: &[u8]) {
+fn report(
+    rt: &(impl Files + Print + Eprint),
+    number: u64,
+    found: bool,
+    line: &[u8],
+    value: &[u8],
+    text: &[u8],
+    response: &[u8],
+) {
     if number == 0 {
-        accept(found, line, value, text);
+        accept(rt, found, line, value, text);
     } else {
-        print(line);
-        explain(number, response);
+        print(rt, line);
+        explain(rt, number, response);
     }
 }
 
 // Writes the value, if there is one, and then the new state; prints the line once both are there.
-fn accept(found: bool, line: &[u8], value: &[u8], text: &[u8]) {
-    if found && !write_file(b"value", b"value.part", value) {
+fn accept(rt: &(impl Files + Print + Eprint), found: bool, line: &[u8], value: &[u8], text: &[u8]) {
+    if found && !write_file(rt, "value", "value.part", value) {
         return;
     }
-    if write_file(b"state.new", b"state.new.part", text) {
-        print(line);
+    if write_file(rt, "state.new", "state.new.part", text) {
+        print(rt, line);
     }
 }

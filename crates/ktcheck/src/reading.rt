@@ -1,5 +1,9 @@
 // Reading a file of the current folder.
-ghost use Rattle.io.specs.Counts.{IsPrefixLen};
+ghost use Rattle.std.specs.Counts.{IsPrefixLen};
+
+use std::fs;
+use std::io::Read;
+use std::rt::Files;
 
 // Whether a file could not be read, and how many bytes of it were.
 #[derive(Clone, Copy)]
@@ -10,39 +14,34 @@ pub(crate) struct FileRead {
 
 // Reads a file into the first bytes lent, until it ends or they are full. One that is missing,
 // cannot be opened or fails while it is read, as a folder does, is unread.
-pub(crate) fn read_file(name: &[u8], bytes: &mut [u8]) -> FileRead
+pub(crate) fn read_file(rt: &impl Files, name: &str, bytes: &mut [u8]) -> FileRead
     ensures { IsPrefixLen result.length bytes.new }
 {
-    let file = os::open_read(name);
-    if file < 0 {
-        return FileRead {
+    match fs::open(rt, name) {
+        Ok(mut file) => read_open(&mut file, bytes),
+        Err(_) => FileRead {
             unread: true,
             length: 0,
-        };
+        },
     }
-    let answer = read_open(file, bytes);
-    libc::close(file);
-    answer
 }
 
 // Reads an open file.
-fn read_open(file: i32, bytes: &mut [u8]) -> FileRead
+fn read_open(file: &mut impl Read, bytes: &mut [u8]) -> FileRead
     ensures { IsPrefixLen result.length bytes.new }
 {
     let mut done: usize = 0;
     while done < bytes.len() {
-        let got = libc::read(file, &mut bytes[done..]);
-        if got < 0 {
-            return FileRead {
-                unread: true,
-                length: 0,
-            };
+        match file.read(&mut bytes[done..]) {
+            Ok(0) => break,
+            Ok(more) => done += more,
+            Err(_) => {
+                return FileRead {
+                    unread: true,
+                    length: 0,
+                };
+            }
         }
-        let more = io::count(got, &bytes[done..]);
-        if more == 0 {
-            break;
-        }
-        done += more;
     }
     FileRead {
         unread: false,
