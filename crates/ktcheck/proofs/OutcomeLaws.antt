@@ -1,19 +1,23 @@
 -- The lengths that an outcome tells count bytes of those lent, since a text that is written from
 -- byte 0 on is no longer than the bytes that are there then.
-use mathlib.Core.Path.{◌≡◌}
+use mathlib.Core.Path.{◌≡◌, sym}
 use mathlib.Core.List.{[], ◌++◌}
 use mathlib.Core.Option.{Option, none, some, Option-elim, get_or}
-use Prim.Native.Nat.{◌+◌, ◌≤◌}
+use Prim.Native.Nat.{ℕ, ◌+◌, ◌≤◌}
 use native.Mathlib.Omega.{arith}
 use lib.ListN.{length, drop, length-append}
-use Rattle.io.specs.Counts.{IsPrefixLen}
-use Rattle.io.proofs.Counting.{prefix_len_of_le}
+use lib.Seq.{length-take-le}
+use Rattle.std.specs.Counts.{IsPrefixLen}
 use Rattle.lists.specs.Lists.{Bytes, written}
 use Rattle.rules.specs.Refusals.{Judgement}
 use Rattle.rules.specs.Calls.{value_of, written_first, output_after, text_of, text_after}
 use Rattle.rules.specs.Program.{printed}
 use Rattle.verifier.specs.declared.files.Outcome.{Outcome}
 use Rattle.verifier.specs.Files.{outcome_of}
+
+-- as many bytes as there are at most
+prefix_len_of_le : (n : ℕ) (s : Bytes) → n ≤ length s → IsPrefixLen n s
+prefix_len_of_le n s h = (h, sym (length-take-le n s h))
 
 -- a text that is written from byte 0 on
 first_counted : (s t : Bytes) → IsPrefixLen (length t) (written s 0 t)
