@@ -1,5 +1,7 @@
 // Reading a file of the current folder.
+ghost use Rattle.std.specs.Prelude.{◌≡◌, ◌<◌, length, take, false};
 ghost use Rattle.std.specs.Counts.{IsPrefixLen};
+ghost use Rattle.std.specs.Io.KnownBytes.{Consumes, IsAtEnd};
 
 use std::fs;
 use std::io::Read;
@@ -26,9 +28,13 @@ pub(crate) fn read_file(rt: &impl Files, name: &str, bytes: &mut [u8]) -> FileRe
     }
 }
 
-// Reads an open file.
-fn read_open(file: &mut impl Read, bytes: &mut [u8]) -> FileRead
-    ensures { IsPrefixLen result.length bytes.new }
+// Reads what is left of an open file, or as much of it as there is room for.
+fn read_open<R: Read>(file: &mut R, bytes: &mut [u8]) -> FileRead
+    ensures length { IsPrefixLen result.length bytes.new }
+    ensures bytes { result.unread ≡ false
+        → Consumes (R.remaining file.old) (R.remaining file.new) (take result.length bytes.new) }
+    ensures end { result.unread ≡ false → result.length < length bytes.new
+        → IsAtEnd (R.remaining file.new) }
 {
     let mut done: usize = 0;
     while done < bytes.len() {

@@ -25,7 +25,7 @@ returns-in-Unread c =
     record {
       count = omega (arith, c.loop-count.invariant.lines, ap length f);
       offset = omega (arith, c.loop-count.invariant.within, p, r, length-drop at s);
-      left = r ∙ ap length (sym g ∙ c.loop-count.invariant.rest)
+      left = r ∙ ap length (sym g ∙ c.loop-count.invariant.rest);
     }
 
 pub loop-count-preserved : goal.loop-count-preserved
@@ -37,7 +37,7 @@ loop-count-preserved c =
       within = omega arith;
       fits = omega arith;
       lines = omega arith;
-      rest = sym h.rest ∙ i.rest
+      rest = sym h.rest ∙ i.rest;
     }
 
 pub loop-count-smaller : goal.loop-count-smaller

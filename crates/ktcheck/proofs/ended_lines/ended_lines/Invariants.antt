@@ -9,7 +9,7 @@ invariant-loop-count l =
       within : l.at ≤ length l.text;
       fits : l.count ≤ l.at;
       lines : l.count + length (ended_lines (drop l.at l.text)) ≡ length (ended_lines l.text);
-      rest : open_rest (drop l.at l.text) ≡ open_rest l.text
+      rest : open_rest (drop l.at l.text) ≡ open_rest l.text;
     }
 
 abbrev pub decreases-loop-count : goal.decreases-loop-count
