@@ -11,7 +11,9 @@ mod responses;
 mod states;
 mod writers;
 
+ghost use Rattle.std.specs.Prelude.{take};
 ghost use Rattle.std.specs.Counts.{IsPrefixLen};
+ghost use Rattle.std.specs.Io.KnownBytes.{Consumes};
 
 use lines::line::span;
 use std::io::Read;
@@ -27,19 +29,17 @@ fn main(rt: HostRuntime) {
 
 // Reads into the first bytes lent, until they are full, the input ends or a read fails, and gives
 // how many were read.
-fn read_full(input: &mut impl Read, bytes: &mut [u8]) -> usize
-    ensures { IsPrefixLen result bytes.new }
+fn read_full<R: Read>(input: &mut R, bytes: &mut [u8]) -> usize
+    ensures length { IsPrefixLen result bytes.new }
+    ensures bytes { Consumes (R.remaining input.old) (R.remaining input.new) (take result bytes.new) }
 {
     let mut done: usize = 0;
     while done < bytes.len() {
-        let more = match input.read(&mut bytes[done..]) {
-            Ok(n) => n,
-            Err(_) => 0,
-        };
-        if more == 0 {
-            break;
+        match input.read(&mut bytes[done..]) {
+            Ok(0) => break,
+            Ok(more) => done += more,
+            Err(_) => break,
         }
-        done += more;
     }
     done
 }
