@@ -16,54 +16,56 @@ fn repeated(byte: u8, times: usize) -> [u8; 32] {
     h.update(&part[0..rest]).finish()
 }
 
-fn shown(name: &[u8], message: &[u8]) {
+fn shown(rt: &impl Print, name: &[u8], message: &[u8]) {
     let d = digest(message);
-    show(name, &d);
+    show(rt, name, &d);
 }
 
-fn shown_repeated(name: &[u8], byte: u8, times: usize) {
+fn shown_repeated(rt: &impl Print, name: &[u8], byte: u8, times: usize) {
     let d = repeated(byte, times);
-    show(name, &d);
+    show(rt, name, &d);
 }
 
-pub(crate) fn published() {
-    shown(b"sha256-empty", b"");
-    shown(b"sha256-abc", b"abc");
+pub(crate) fn published(rt: &impl Print) {
+    shown(rt, b"sha256-empty", b"");
+    shown(rt, b"sha256-abc", b"abc");
     shown(
+        rt,
         b"sha256-448-bits",
         b"abcdbcdecdefdefgefghfghighijhijkijkljklmklmnlmnomnopnopq",
     );
     shown(
+        rt,
         b"sha256-896-bits",
         b"abcdefghbcdefghicdefghijdefghijkefghijklfghijklmghijklmnhijklmnoijklmnopjklmnopqklmnopqrlmnopqrsmnopqrstnopqrstu",
     );
-    shown_repeated(b"sha256-million-a", b'a', 1000000);
+    shown_repeated(rt, b"sha256-million-a", b'a', 1000000);
 }
 
-pub(crate) fn additional() {
-    shown(b"sha256-bd", b"\xbd");
-    shown(b"sha256-c98c8e55", b"\xc9\x8c\x8e\x55");
-    shown_repeated(b"sha256-1000-00", 0, 1000);
-    shown_repeated(b"sha256-1000-41", 0x41, 1000);
-    shown_repeated(b"sha256-1005-55", 0x55, 1005);
-    shown_repeated(b"sha256-million-00", 0, 1000000);
+pub(crate) fn additional(rt: &impl Print) {
+    shown(rt, b"sha256-bd", b"\xbd");
+    shown(rt, b"sha256-c98c8e55", b"\xc9\x8c\x8e\x55");
+    shown_repeated(rt, b"sha256-1000-00", 0, 1000);
+    shown_repeated(rt, b"sha256-1000-41", 0x41, 1000);
+    shown_repeated(rt, b"sha256-1005-55", 0x55, 1005);
+    shown_repeated(rt, b"sha256-million-00", 0, 1000000);
 }
 
 // Zeros in every length from 53 to 130, whole and in two parts.
-pub(crate) fn lengths() {
+pub(crate) fn lengths(rt: &impl Print) {
     let zeros = [0u8; 130];
     for n in 53..131 {
-        whole_and_parts(&zeros[0..n]);
+        whole_and_parts(rt, &zeros[0..n]);
     }
 }
 
-fn whole_and_parts(message: &[u8]) {
-    shown(b"sha256-zeros", message);
+fn whole_and_parts(rt: &impl Print, message: &[u8]) {
+    shown(rt, b"sha256-zeros", message);
     let n = message.len();
     let middle = n / 3;
     let d = Hasher::new()
         .update(&message[0..middle])
         .update(&message[middle..])
         .finish();
-    show(b"sha256-zeros-in-parts", &d);
+    show(rt, b"sha256-zeros-in-parts", &d);
 }

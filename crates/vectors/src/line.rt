@@ -1,16 +1,19 @@
 // A line of output.
-use libc::STDOUT_FILENO;
-
-fn wide(x: u8) -> u64 {
-    x as u64
-}
 
 // Writes a name, a space, the bytes in hex and a line's end.
-pub(crate) fn show(name: &[u8], bytes: &[u8]) {
-    io::write_all(STDOUT_FILENO, name);
-    io::write_all(STDOUT_FILENO, b" ");
+pub(crate) fn show(rt: &impl Print, name: &[u8], bytes: &[u8]) {
+    word(rt, name);
+    word(rt, b" ");
     for i in 0..bytes.len() {
-        io::print_hex(STDOUT_FILENO, wide(bytes[i]), 2);
+        hex(rt, bytes[i]);
     }
-    io::write_all(STDOUT_FILENO, b"\n");
+    word(rt, b"\n");
+}
+
+fn word(rt: &impl Print, s: &[u8]) {
+    let _ = rt.write_all(s);
+}
+
+fn hex(rt: &impl Print, x: u8) {
+    let _ = print!(rt; "{x:02x}");
 }

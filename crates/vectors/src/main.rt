@@ -8,11 +8,11 @@ mod digests;
 mod line;
 mod strings;
 
-fn main() {
-    digests::published();
-    digests::additional();
-    digests::lengths();
-    strings::of_trees();
-    codes::short_keys();
-    codes::long_keys();
+fn main(rt: HostRuntime) {
+    digests::published(&rt);
+    digests::additional(&rt);
+    digests::lengths(&rt);
+    strings::of_trees(&rt);
+    codes::short_keys(&rt);
+    codes::long_keys(&rt);
 }

@@ -2,13 +2,13 @@
 use crate::line::show;
 use hash::strings::{digest_40, digest_65, digest_66};
 
-pub(crate) fn of_trees() {
+pub(crate) fn of_trees(rt: &impl Print) {
     let left = [0x11u8; 32];
     let right = [0xeeu8; 32];
     let d = digest_40(0x0123456789abcdef, left);
-    show(b"sha256-40", &d);
+    show(rt, b"sha256-40", &d);
     let e = digest_65(1, left, right);
-    show(b"sha256-65", &e);
+    show(rt, b"sha256-65", &e);
     let f = digest_66(0, left, 1, right);
-    show(b"sha256-66", &f);
+    show(rt, b"sha256-66", &f);
 }
