@@ -1,4 +1,4 @@
-use Rattle.std.proofs.Common.{◌≡◌, ◌∙◌, sym, ap, subst, length, drop, length-drop, arith}
+use Rattle.std.proofs.Common.{◌∙◌, sym, ap, subst, length, length-drop, arith}
 use Rattle.lines.specs.Readings.{line_of}
 use Rattle.lines.proofs.SectionLaws.{LineHere, line_here, line_none}
 use Rattle.verifier.proofs.ReadOnLaws.{read_line_lem, read-offset, read_stays, read_left}
