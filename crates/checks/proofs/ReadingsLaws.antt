@@ -18,7 +18,7 @@ use Rattle.rules.specs.VrfOutputs.{VrfOutput, read_outputs}
 use Rattle.rules.specs.State.{State}
 use Rattle.rules.specs.Response.{Kind, Parts}
 use Rattle.rules.specs.ResponseText.{read_response}
-use Rattle.rules.specs.Refusals.{Inputs, Call, Judgement, refused, passed, reading, lengths_fit, valid_state}
+use Rattle.rules.specs.Refusals.{Inputs, Call, refused, passed, reading, lengths_fit, valid_state}
 use Rattle.rules.specs.Refusals.{read_call}
 use Rattle.rules.specs.Refusals.{Rule, tried, tried_after, judge, judge_without_head, checks, last_checks}
 use Rattle.rules.specs.Calls.{inputs_within, library_inputs, judge_call, judge_unsigned}

@@ -1,7 +1,7 @@
 -- Laws of what is tried of a response before its steps, entries and nodes are looked at
 -- (specs/Calls.antt): 6 to 8, test by test.
 use mathlib.Core.Path.{◌≡◌, refl, sym, ◌∙◌, ap, subst}
-use mathlib.Core.Bool.{Bool, true, false, not, ◌||◌, false≢true, not-not}
+use mathlib.Core.Bool.{Bool, true, false, not, ◌||◌, not-not}
 use mathlib.Core.List.{List, [], ◌∷◌}
 use mathlib.Core.Option.{Option, Option-elim, none, some, none-ne-some}
 use Prim.Native.Nat.{ℕ, ◌+◌, ◌≤◌, ◌<◌}

@@ -1,7 +1,7 @@
 -- Laws of a response that shows what its kind asks, from what is found of its steps and its entries
 -- (specs/Calls.antt, HasShape).
 use mathlib.Core.Path.{◌≡◌, refl, sym, ap, ap₂, ◌∙◌, subst}
-use mathlib.Core.Bool.{Bool, true, false, ◌&&◌, not, not-not, false≢true, and_comm, and-false}
+use mathlib.Core.Bool.{Bool, true, false, ◌&&◌, not-not, false≢true, and_comm, and-false}
 use mathlib.Core.List.{List, [], ◌++◌}
 use Prim.Native.Nat.{ℕ, ◌-◌, ◌≤◌}
 use native.Mathlib.Omega.{arith}

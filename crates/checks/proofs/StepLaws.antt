@@ -9,7 +9,7 @@ use mathlib.Core.List.{List, [], ◌∷◌, ◌++◌, append-nil, append_cancel_
 use mathlib.Core.List.Memᴰ
 use mathlib.Core.List.{Nodup, Nodup-nil, Nodup-cons, Nodup-append, Memᴰ}
 use mathlib.Core.Option.{Option, Option-elim, none, some}
-use Prim.Native.Nat.{ℕ, ◌+◌, ◌/◌, ◌≤◌, ◌<◌}
+use Prim.Native.Nat.{ℕ, ◌/◌, ◌≤◌, ◌<◌}
 use native.Mathlib.Omega.{arith}
 use lib.Dec.{eqb, ltb}
 use lib.ListN.{length, get_or, drop, set, length-map}

@@ -5,15 +5,14 @@ use mathlib.Core.List.{List, [], ◌++◌}
 use mathlib.Core.Option.{none, some}
 use Prim.Native.Nat.{ℕ, ◌≤◌}
 use native.Mathlib.Omega.{arith}
-use lib.Count.{ones}
 use lib.ListN.{length, take}
 use lib.Seq.{length-take-le}
-use Rattle.lists.specs.Lists.{Bytes, runs}
+use Rattle.lists.specs.Lists.{Bytes}
 use Rattle.lines.specs.Readings.{part_of}
 use Rattle.tree.specs.LogText.{nodes_in as nodes_there}
 use Rattle.tree.specs.LogHead.{Head, known_in, log_head, head_with}
 use Rattle.tree.specs.declared.log_head.LogHead.{LogHead}
-use Rattle.rules.specs.Limits.{label_limit, hash_length}
+use Rattle.rules.specs.Limits.{label_limit}
 use Rattle.rules.specs.State.{versions}
 use Rattle.rules.specs.Response.{Parts}
 use Rattle.rules.specs.ResponseText.{read_response}
@@ -34,7 +33,7 @@ use Rattle.checks.specs.declared.trial.Tried9to11.{Tried9to11}
 use Rattle.checks.specs.declared.lookups.Judged.{Judged}
 use Rattle.checks.specs.Calls.{IsCall, asked_kind, entries_text, number_tried, rules6to8, rules9to11}
 use Rattle.checks.specs.Calls.{rules12and13, rules14, rules9to13, rules6to13, IsNumber6to8, TargetFits}
-use Rattle.checks.specs.Calls.{Shapeable, Passed, Leaves}
+use Rattle.checks.specs.Calls.{Shapeable}
 use Rattle.checks.specs.Calls.{IsFirst, Is9to13Tried, Is14Tried, Checkable, Is6to13Tried, IsChecked}
 use Rattle.checks.proofs.TrialLaws.{Numbered, none_applies, number-first, number-next, number_none}
 use Rattle.checks.proofs.TrialLaws.{number_front, number_rest}

@@ -15,14 +15,13 @@ use Rattle.rules.specs.Limits.{configuration_limit, signed_text_limit, vrf_outpu
 use Rattle.rules.specs.Limits.{label_limit}
 use Rattle.rules.specs.Limits.{opening_length, value_limit, tree_size_limit, greatest_version, hash_length}
 use Rattle.rules.specs.Limits.{values_block_length}
-use Rattle.rules.specs.Configuration.{Configuration}
 use Rattle.rules.specs.VrfOutputs.{read_outputs}
-use Rattle.rules.specs.State.{MapEntry, State, versions}
+use Rattle.rules.specs.State.{State, versions}
 use Rattle.rules.specs.Response.{Kind, search, monitor, Target, Finding, searched, monitored, Entry, target_of}
 use Rattle.rules.specs.Response.{step_versions, entry_timestamps}
 use Rattle.rules.specs.ResponseText.{read_response}
 use Rattle.rules.specs.Search.{is_complete}
-use Rattle.rules.specs.Refusals.{Inputs, Call, Judgement, refused, passed, Rule, rule, tried, checks}
+use Rattle.rules.specs.Refusals.{Call, Judgement, refused, passed, Rule, rule, tried, checks}
 use Rattle.rules.specs.Refusals.{last_checks}
 use Rattle.rules.specs.Refusals.{known, log_walk, log_root, last_timestamp, valid_state, read_call, kind_rules}
 use Rattle.rules.specs.Refusals.{asked}
@@ -30,7 +29,7 @@ use Rattle.rules.specs.Refusals.{commitment_asked, entries_asked, timestamp_fits
 use Rattle.rules.specs.Refusals.{target_wrong, not_as_asked}
 use Rattle.rules.specs.Refusals.{output_missing, timestamps_wrong, lookup_fails, results_wrong, history_differs}
 use Rattle.rules.specs.Refusals.{room_missing}
-use Rattle.rules.specs.Calls.{Arguments, library_inputs, inputs_within, number_of, next_state, value_of}
+use Rattle.rules.specs.Calls.{Arguments, inputs_within, number_of, next_state, value_of}
 use Rattle.rules.specs.Calls.{output_after}
 use Rattle.inputs.specs.declared.state.State.{State as StateBlock}
 use Rattle.inputs.specs.State.{block_of, state_of, map_of}

@@ -1,6 +1,6 @@
 -- What is known of the entries of a response: for contracts of private functions alone.
 use Rattle.std.specs.Prelude.{◌≡◌, Bool, true, ◌&&◌, cond, List, map, ℕ, ◌+◌, leb, ltb}
-use Rattle.lists.specs.Lists.{Bytes, all, unfalling, last_or}
+use Rattle.lists.specs.Lists.{all, unfalling, last_or}
 use Rattle.tree.specs.SearchTree.{frontier_and_paths}
 use Rattle.rules.specs.State.{KeptLog}
 use Rattle.rules.specs.Response.{Lookup, Entry}

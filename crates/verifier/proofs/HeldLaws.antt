@@ -5,7 +5,7 @@ use mathlib.Core.List.{List, [], ◌∷◌}
 use Prim.Native.Nat.{ℕ}
 use lib.ListN.{length}
 use seplogic.Ra.Ura.{Ura}
-use mir.Syntax.{named, w8, w64, copy}
+use mir.Syntax.{named, w8, w64}
 use mir.Val.{Val, vstruct, of_list}
 use base.Logic.{ent, sep}
 use base.Fml.{Lft, Fml}
@@ -27,7 +27,6 @@ use Rattle.lists.specs.Lists.{Bytes}
 use Rattle.verifier.specs.declared.reading.Reader.{Reader}
 use Rattle.verifier.specs.contracts.reading.Reader as T
 use Rattle.verifier.proofs.reading.Reader.TheLaws as T'
-use Rattle.verifier.proofs.ByHandLaws.{at}
 
 -- a reader at the lifetime of a signature, and what it owns at a machine value
 abbrev pub held : Lfts 1 → RattleType

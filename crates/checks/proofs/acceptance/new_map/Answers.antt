@@ -1,6 +1,5 @@
 -- `checks::acceptance::new_map` meets its contract: a search puts its pair, monitoring moves all.
 use Rattle.checks.proofs.AcceptLaws.{search-new, monitoring-new}
-use borrow.Author.Rules.{rules}
 use Rattle.checks.proofs.acceptance.new_map.Goals as goal
 
 pub returns-in-Search : goal.returns-in-Search

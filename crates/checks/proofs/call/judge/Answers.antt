@@ -6,7 +6,6 @@ use Rattle.inputs.specs.State.{state_of}
 use Rattle.checks.specs.Calls.{IsReading}
 use Rattle.checks.proofs.ReadingsLaws.{log_kept}
 use Rattle.checks.proofs.CallLaws.{call-refused, call_read}
-use borrow.Author.Rules.{rules}
 use Rattle.checks.proofs.call.judge.Goals as goal
 
 pub answered-requires : goal.answered-requires

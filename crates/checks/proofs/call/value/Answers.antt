@@ -4,7 +4,6 @@ use mathlib.Core.Path.{sym}
 use native.Mathlib.Omega.{arith}
 use lib.Seq.{take_all}
 use Rattle.hash.proofs.BytesLaws.{part_count}
-use borrow.Author.Rules.{rules}
 use Rattle.checks.proofs.call.value.Goals as goal
 
 pub returns-then-output-length : goal.returns-then-output-length

@@ -2,7 +2,6 @@
 use mathlib.Core.Path.{refl}
 use Rattle.rules.specs.Commitment.{commitment_key}
 use Rattle.checks.proofs.CommitmentLaws.{commitment_parts}
-use borrow.Author.Rules.{rules}
 use Rattle.checks.proofs.commitment.committed.Goals as goal
 
 pub returns : goal.returns

@@ -1,18 +1,17 @@
 -- `checks::entries::entries_asked` meets its contract: the entries passed so far are as asked,
 -- their times were told, and the versions of monitoring are those of the pairs marked.
 use mathlib.Core.Path.{◌≡◌, refl, sym, ◌∙◌}
-use Prim.Native.Nat.{◌-◌, ◌<◌}
+use Prim.Native.Nat.{◌<◌}
 use native.Mathlib.Omega.{arith}
 use mathlib.Core.List.{[]}
-use lib.ListN.{length, drop}
+use lib.ListN.{drop}
 use Rattle.inputs.specs.Response.{entries_in}
 use Rattle.checks.specs.declared.sections.NextEntry.TheVariants.{Entry as EntryAt}
 use Rattle.checks.specs.Sections.{IsNextEntry}
 use Rattle.checks.proofs.EntryLaws.{entry_found, entry_missing}
-use Rattle.checks.proofs.EntriesAskedLaws.{Followed, followed-start, followed-end, followed-less}
+use Rattle.checks.proofs.EntriesAskedLaws.{followed-start, followed-end, followed-less}
 use Rattle.checks.proofs.EntriesAskedLaws.{followed-missing, followed-elsewhere, followed-unasked}
 use Rattle.checks.proofs.EntriesAskedLaws.{followed-next}
-use borrow.Author.Rules.{rules}
 use borrow.Author.Tests.{not-true, not-false}
 use Rattle.checks.proofs.entries.entries_asked.Goals as goal
 

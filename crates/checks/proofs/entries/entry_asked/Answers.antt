@@ -3,7 +3,6 @@ use lib.ListN.{drop}
 use Rattle.inputs.specs.Response.{loose_in}
 use Rattle.checks.proofs.EntryAskedLaws.{search-asked, monitoring-asked, search_marks}
 use Rattle.checks.proofs.EntryAskedLaws.{monitoring_marks}
-use borrow.Author.Rules.{rules}
 use Rattle.checks.proofs.entries.entry_asked.Goals as goal
 
 pub returns-in-Search : goal.returns-in-Search

@@ -4,7 +4,6 @@ use mathlib.Core.Path.{sym}
 use mathlib.Core.List.{[]}
 use native.Mathlib.Omega.{arith}
 use Rattle.lists.proofs.SameLaws.{begins_end, begins_here}
-use borrow.Author.Rules.{rules}
 use Rattle.checks.proofs.entries.is_at.Goals as goal
 
 pub returns-then-wanted-i : goal.returns-then-wanted-i

@@ -1,13 +1,10 @@
 -- `checks::entries::lookups_shown` meets its contract: the lookups passed so far were compared with
 -- the versions wanted, and counted.
-use Prim.Native.Nat.{◌-◌}
 use native.Mathlib.Omega.{arith}
-use lib.ListN.{length}
 use Rattle.checks.specs.declared.sections.NextLookup.TheVariants.{Lookup as LookupAt}
 use Rattle.checks.specs.Sections.{IsNextLookup}
-use Rattle.checks.proofs.EntryLaws.{lookup_found, lookup_missing, Compared, compared-start}
+use Rattle.checks.proofs.EntryLaws.{lookup_found, lookup_missing, compared-start}
 use Rattle.checks.proofs.EntryLaws.{compared-next, compared-all}
-use borrow.Author.Rules.{rules}
 use Rattle.checks.proofs.entries.lookups_shown.Goals as goal
 
 pub loop-stop-init : goal.loop-stop-init

@@ -3,10 +3,8 @@
 -- the lookups of the entry
 use mathlib.Core.Path.{refl, sym, ◌∙◌}
 use mathlib.Core.Logic.{inl, inr}
-use mathlib.Core.List.{List}
 use lib.ListN.{drop}
 use Rattle.hash.proofs.BytesLaws.{filled_front}
-use Rattle.rules.specs.Response.{Lookup}
 use Rattle.inputs.specs.Response.{loose_in}
 use Rattle.inputs.proofs.PairLaws.{version_within}
 use Rattle.checks.specs.declared.monitored_versions.LargestPair.TheVariants.{Pair}

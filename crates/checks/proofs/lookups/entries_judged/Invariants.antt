@@ -1,13 +1,7 @@
 -- `checks::lookups::entries_judged` meets its contract: the entries before the offset are judged.
-use mathlib.Core.Path.{refl, subst}
 use Prim.Native.Nat.{◌-◌}
-use native.Mathlib.Omega.{arith}
 use lib.ListN.{length}
-use Rattle.checks.specs.declared.sections.NextEntry.{NextEntry}
-use Rattle.checks.specs.declared.sections.NextEntry.TheVariants.{Entry as EntryAt}
-use Rattle.checks.specs.Sections.{IsNextEntry}
-use Rattle.checks.proofs.ResultsLaws.{EntriesJudged, judged-none, judged-next, judged-all}
-use borrow.Author.Rules.{rules}
+use Rattle.checks.proofs.ResultsLaws.{EntriesJudged}
 use Rattle.checks.proofs.lookups.entries_judged.Given as goal
 
 abbrev pub invariant-loop-first : goal.invariant-loop-first

@@ -1,7 +1,6 @@
 -- `checks::lookups::first_number` meets its contract: 12 is tried before 13.
 use mathlib.Core.Path.{◌≡◌, refl}
 use mathlib.Core.Bool.{true, false}
-use borrow.Author.Tests.{not-true, not-false}
 use Rattle.checks.specs.Lookups.{judged_by}
 use Rattle.checks.proofs.lookups.first_number.Goals as goal
 

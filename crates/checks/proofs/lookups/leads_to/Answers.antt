@@ -1,8 +1,6 @@
 -- `checks::lookups::leads_to` meets its contract: the values joined are as many as their digits
 -- allow, and the roots are compared.
 use mathlib.Core.Path.{sym, ◌∙◌}
-use borrow.Author.Rules.{rules}
-use borrow.Author.Tests.{not-true, not-false}
 use Rattle.checks.proofs.LookupLineLaws.{leads-not, leads-same}
 use Rattle.checks.proofs.lookups.leads_to.Goals as goal
 

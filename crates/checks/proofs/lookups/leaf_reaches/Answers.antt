@@ -1,7 +1,6 @@
 -- `checks::lookups::leaf_reaches` meets its contract: the two values and the siblings stand at
 -- their offsets.
 use mathlib.Core.Path.{sym, ◌∙◌}
-use borrow.Author.Rules.{rules}
 use Rattle.tree.specs.Lookups.{terminal_at, terminal_of}
 use Rattle.checks.proofs.LookupLineLaws.{leaf-short, leaf-leads}
 use Rattle.checks.proofs.lookups.leaf_reaches.Goals as goal

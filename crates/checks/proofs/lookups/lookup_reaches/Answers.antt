@@ -4,7 +4,6 @@
 use mathlib.Core.Path.{◌≡◌, sym, ◌∙◌, ap}
 use mathlib.Core.Option.{some}
 use native.Mathlib.Omega.{arith}
-use borrow.Author.Rules.{rules}
 use Rattle.lines.specs.Number.{read_number}
 use Rattle.lines.specs.Cursor.{read_at}
 use Rattle.lines.specs.Readings.{next_number_of}

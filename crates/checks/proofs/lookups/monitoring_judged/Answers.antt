@@ -1,7 +1,6 @@
 -- `checks::lookups::monitoring_judged` meets its contract: the lookups are tried with what is known
 -- of the call, and all must be included.
 use mathlib.Core.Path.{refl}
-use borrow.Author.Rules.{rules}
 use Rattle.checks.proofs.JudgedCallLaws.{entries_ready, monitoring-judged}
 use Rattle.checks.proofs.lookups.monitoring_judged.Goals as goal
 

@@ -4,7 +4,6 @@
 use mathlib.Core.Path.{refl}
 use Rattle.checks.proofs.JudgedCallLaws.{entries_ready, target_ready, HoldsLadder, ladder_held}
 use Rattle.checks.proofs.JudgedCallLaws.{search-judged}
-use borrow.Author.Rules.{rules}
 use Rattle.checks.proofs.lookups.search_judged.Goals as goal
 
 pub commitment-requires : goal.commitment-requires

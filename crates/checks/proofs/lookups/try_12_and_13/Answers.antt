@@ -1,5 +1,4 @@
 -- `checks::lookups::try_12_and_13` meets its contract: each kind has a judgement of its own.
-use borrow.Author.Rules.{rules}
 use Rattle.checks.proofs.lookups.try_12_and_13.Goals as goal
 
 pub returns-in-Search : goal.returns-in-Search

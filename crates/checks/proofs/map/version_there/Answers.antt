@@ -1,11 +1,7 @@
 -- `checks::map::version_there` meets its contract: the pairs passed so far stand elsewhere.
-use mathlib.Core.Path.{◌≡◌, refl}
-use Prim.Native.Nat.{◌-◌, ◌≤◌}
+use mathlib.Core.Path.{refl}
 use native.Mathlib.Omega.{arith}
-use Rattle.rules.specs.Limits.{map_limit}
-use Rattle.checks.specs.Map.{pairs_in, version_at}
-use Rattle.checks.proofs.MovedPairLaws.{pairs_from, version-found, version-passed, version-none}
-use borrow.Author.Rules.{rules}
+use Rattle.checks.proofs.MovedPairLaws.{version-found, version-passed, version-none}
 use Rattle.checks.proofs.map.version_there.Goals as goal
 
 pub loop-i-init : goal.loop-i-init

@@ -1,11 +1,9 @@
 -- `checks::map::version_there` meets its contract: the pairs passed so far stand elsewhere.
-use mathlib.Core.Path.{◌≡◌, refl}
+use mathlib.Core.Path.{◌≡◌}
 use Prim.Native.Nat.{◌-◌, ◌≤◌}
-use native.Mathlib.Omega.{arith}
 use Rattle.rules.specs.Limits.{map_limit}
 use Rattle.checks.specs.Map.{pairs_in, version_at}
-use Rattle.checks.proofs.MovedPairLaws.{pairs_from, version-found, version-passed, version-none}
-use borrow.Author.Rules.{rules}
+use Rattle.checks.proofs.MovedPairLaws.{pairs_from}
 use Rattle.checks.proofs.map.version_there.Given as goal
 
 abbrev pub invariant-loop-i : goal.invariant-loop-i

@@ -1,12 +1,8 @@
 -- `checks::monitored_versions::largest_pair` meets its contract: `above` is one more than the
 -- largest version of the pairs from i on, that of `pair`.
-use Prim.Native.Nat.{◌-◌, ◌≤◌}
-use mathlib.Core.Path.{◌≡◌}
-use native.Mathlib.Omega.{arith}
+use Prim.Native.Nat.{◌≤◌}
 use lib.ListN.{length}
-use Rattle.checks.proofs.MonitoredVersionLaws.{Found, found-start, found-past, found_below}
-use Rattle.checks.proofs.MonitoredVersionLaws.{found-above, found_none, found_some}
-use borrow.Author.Rules.{rules}
+use Rattle.checks.proofs.MonitoredVersionLaws.{Found}
 use Rattle.checks.proofs.monitored_versions.largest_pair.Given as goal
 
 abbrev pub invariant-loop-i : goal.invariant-loop-i

@@ -1,17 +1,12 @@
 -- `checks::monitored_versions::next_not_above` meets its contract: the versions before the i-th are
 -- below `from`.
-use mathlib.Core.Path.{◌≡◌, refl, ◌∙◌}
+use mathlib.Core.Path.{◌≡◌}
 use Prim.Native.Nat.{◌-◌, ◌≤◌}
-use native.Mathlib.Omega.{arith}
-use lib.ListN.{get_or, drop}
+use lib.ListN.{drop}
 use Rattle.tree.specs.Ladder.{ladder_capacity}
 use Rattle.tree.specs.SearchTree.{next_from}
-use Rattle.tree.proofs.FillLaws.{filled_at}
-use Rattle.tree.proofs.NextLaws.{next-at, next_past, next-end}
 use Rattle.rules.specs.Limits.{version_bound}
 use Rattle.checks.specs.MonitoredVersions.{not_above}
-use Rattle.checks.proofs.MonitoredVersionLaws.{not_above_fits}
-use borrow.Author.Rules.{rules}
 use Rattle.checks.proofs.monitored_versions.next_not_above.Given as goal
 
 abbrev pub invariant-loop-i : goal.invariant-loop-i

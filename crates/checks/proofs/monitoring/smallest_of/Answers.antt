@@ -1,12 +1,11 @@
 -- `checks::monitoring::smallest_of` meets its contract: it is the smallest from each version on,
 -- from the last back to the first.
 use mathlib.Core.Path.{◌≡◌, subst}
-use Prim.Native.Nat.{ℕ, ◌≤◌}
+use Prim.Native.Nat.{ℕ}
 use native.Mathlib.Omega.{arith}
 use lib.ListN.{length, drop}
 use Rattle.checks.specs.MonitoredVersions.{smallest}
 use Rattle.checks.proofs.NextVersionLaws.{smallest_none, smallest_less, smallest_stays}
-use borrow.Author.Rules.{rules}
 use Rattle.checks.proofs.monitoring.smallest_of.Goals as goal
 
 pub loop-i-init : goal.loop-i-init

@@ -1,12 +1,9 @@
 -- `checks::monitoring::smallest_of` meets its contract: it is the smallest from each version on,
 -- from the last back to the first.
-use mathlib.Core.Path.{◌≡◌, subst}
-use Prim.Native.Nat.{ℕ, ◌≤◌}
-use native.Mathlib.Omega.{arith}
+use mathlib.Core.Path.{◌≡◌}
+use Prim.Native.Nat.{◌≤◌}
 use lib.ListN.{length, drop}
 use Rattle.checks.specs.MonitoredVersions.{smallest}
-use Rattle.checks.proofs.NextVersionLaws.{smallest_none, smallest_less, smallest_stays}
-use borrow.Author.Rules.{rules}
 use Rattle.checks.proofs.monitoring.smallest_of.Given as goal
 
 abbrev pub invariant-loop-i : goal.invariant-loop-i

@@ -1,12 +1,10 @@
 -- `checks::monitoring::step_on` meets its contract: the next versions of the pairs before i have
 -- been moved, those from i on are as before.
-use mathlib.Core.Path.{refl, sym, ◌∙◌}
-use Prim.Native.Nat.{◌+◌, ◌-◌, ◌≤◌}
+use mathlib.Core.Path.{refl}
+use Prim.Native.Nat.{◌+◌}
 use native.Mathlib.Omega.{arith}
-use lib.ListN.{length}
 use Rattle.inputs.proofs.PairLaws.{version_within}
 use Rattle.checks.proofs.NextVersionLaws.{Moved, moved_on, moved_not, moved_all}
-use borrow.Author.Rules.{rules}
 use Rattle.checks.proofs.monitoring.step_on.Goals as goal
 use Rattle.checks.proofs.monitoring.step_on.Goals.{then-next-i, else-next-i}
 

@@ -4,7 +4,6 @@
 use mathlib.Core.Path.{◌≡◌, sym, ◌∙◌, ap, subst}
 use mathlib.Core.Bool.{true}
 use mathlib.Core.Option.{some}
-use borrow.Author.Tests.{not-true, not-false}
 use Rattle.lists.specs.Choice.{is_some}
 use Rattle.rules.specs.Configuration.{read_configuration}
 use Rattle.rules.specs.VrfOutputs.{read_outputs}
@@ -13,7 +12,6 @@ use Rattle.inputs.specs.Response.{parts_of, Offsets}
 use Rattle.checks.specs.Calls.{are_lengths_fit}
 use Rattle.checks.proofs.ReadingsLaws.{inputs_long, inputs-unconfigured, inputs-invalid}
 use Rattle.checks.proofs.ReadingsLaws.{inputs-outputless, inputs-broken, inputs_read}
-use borrow.Author.Rules.{rules}
 use Rattle.checks.proofs.readings.read_call.Goals as goal
 
 pub returns-then-not-lengths_fit : goal.returns-then-not-lengths_fit

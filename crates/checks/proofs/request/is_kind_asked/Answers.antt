@@ -1,7 +1,6 @@
 -- `checks::given::is_kind_asked` meets its contract: each of the six pairs of kinds is met.
 use mathlib.Core.Path.{refl}
 use Rattle.checks.specs.Calls.{is_kind_asked}
-use borrow.Author.Rules.{rules}
 use Rattle.checks.proofs.request.is_kind_asked.Goals as goal
 
 pub returns-in-Search-asked : goal.returns-in-Search-asked

@@ -1,9 +1,7 @@
 -- `checks::given::is_own` meets its contract: a response of another kind is not the call's own, and
 -- of others the identifier and the label decide.
 use mathlib.Core.Path.{sym, ◌∙◌}
-use borrow.Author.Tests.{not-true, not-false}
 use Rattle.checks.proofs.RequestLaws.{kind_foreign, identifier-foreign, label-decides}
-use borrow.Author.Rules.{rules}
 use Rattle.checks.proofs.request.is_requested.Goals as goal
 
 pub returns-then-not-is_kind_asked : goal.returns-then-not-is_kind_asked

@@ -1,7 +1,6 @@
 -- `checks::given::target_fits` meets its contract: in a search the version decides, and monitoring
 -- has none.
 use Rattle.checks.proofs.RequestLaws.{search-fits, monitor-fits}
-use borrow.Author.Rules.{rules}
 use Rattle.checks.proofs.request.target_fits.Goals as goal
 
 pub returns-in-Search : goal.returns-in-Search

@@ -2,10 +2,7 @@
 -- number.
 -- past 6, the call that was given
 use mathlib.Core.Path.{sym, ◌∙◌}
-use borrow.Author.Tests.{not-true, not-false}
 use Rattle.checks.proofs.RequestLaws.{first-foreign, first-size, first-version, first_none}
-use Rattle.checks.specs.declared.readings.Call.{Call as CallBlock}
-use borrow.Author.Rules.{rules}
 use Rattle.checks.proofs.request.try_6_to_8.Goals as goal
 
 pub returns-then-not-is_requested : goal.returns-then-not-is_requested

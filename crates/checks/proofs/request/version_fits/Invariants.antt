@@ -1,14 +1,10 @@
 -- `checks::given::version_fits` meets its contract: no version of the map before i is above this
 -- one, so those from i on decide.
-use mathlib.Core.Path.{◌≡◌, refl, sym, ◌∙◌}
-use mathlib.Core.Bool.{true, false}
+use mathlib.Core.Path.{◌≡◌}
 use Prim.Native.Nat.{ℕ, ◌-◌}
 use lib.Dec.{ltb}
 use lib.ListN.{length, drop}
 use Rattle.lists.specs.Lists.{any}
-use borrow.Author.Tests.{lt-ltb, le-ltb}
-use borrow.Author.Rules.{rules}
-use Rattle.checks.proofs.RequestLaws.{any_next, any-stops, any-ends, version-great, versions-decide}
 use Rattle.checks.proofs.request.version_fits.Given as goal
 
 abbrev pub invariant-loop-i : goal.invariant-loop-i

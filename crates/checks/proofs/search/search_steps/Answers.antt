@@ -1,14 +1,11 @@
 -- `checks::search::search_steps` meets its contract: the steps read so far are as asked, and their
 -- commitments are placed.
-use mathlib.Core.Path.{◌≡◌, sym, ◌∙◌, subst}
-use Prim.Native.Nat.{◌-◌, ◌≤◌}
+use mathlib.Core.Path.{subst}
 use native.Mathlib.Omega.{arith}
-use lib.ListN.{length}
 use Rattle.checks.specs.declared.sections.NextStep.TheVariants.{Step as StepAt}
 use Rattle.checks.specs.Sections.{IsNextStep}
-use Rattle.checks.proofs.SearchStepLaws.{LadderRead, ladder_start, ladder-short, ladder-other}
+use Rattle.checks.proofs.SearchStepLaws.{ladder_start, ladder-short, ladder-other}
 use Rattle.checks.proofs.SearchStepLaws.{ladder-next, ladder-end}
-use borrow.Author.Rules.{rules}
 use Rattle.checks.proofs.search.search_steps.Goals as goal
 
 pub loop-i-init : goal.loop-i-init

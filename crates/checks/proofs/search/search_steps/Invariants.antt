@@ -1,14 +1,8 @@
 -- `checks::search::search_steps` meets its contract: the steps read so far are as asked, and their
 -- commitments are placed.
-use mathlib.Core.Path.{◌≡◌, sym, ◌∙◌, subst}
 use Prim.Native.Nat.{◌-◌, ◌≤◌}
-use native.Mathlib.Omega.{arith}
 use lib.ListN.{length}
-use Rattle.checks.specs.declared.sections.NextStep.TheVariants.{Step as StepAt}
-use Rattle.checks.specs.Sections.{IsNextStep}
-use Rattle.checks.proofs.SearchStepLaws.{LadderRead, ladder_start, ladder-short, ladder-other}
-use Rattle.checks.proofs.SearchStepLaws.{ladder-next, ladder-end}
-use borrow.Author.Rules.{rules}
+use Rattle.checks.proofs.SearchStepLaws.{LadderRead}
 use Rattle.checks.proofs.search.search_steps.Given as goal
 
 abbrev pub invariant-loop-i : goal.invariant-loop-i

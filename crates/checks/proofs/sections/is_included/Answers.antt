@@ -1,6 +1,5 @@
 -- `checks::sections::is_included` meets its contract: the first byte of a lookup line tells it.
 use Rattle.checks.proofs.LookupLineLaws.{inclusion-told, inclusion-misses}
-use borrow.Author.Rules.{rules}
 use Rattle.checks.proofs.sections.is_included.Goals as goal
 
 pub returns-then-line-eq0 : goal.returns-then-line-eq0

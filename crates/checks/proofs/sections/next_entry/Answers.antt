@@ -3,7 +3,6 @@
 use mathlib.Core.Path.{sym, ◌∙◌, ap}
 use Rattle.lines.specs.Readings.{line_of}
 use Rattle.checks.proofs.LineStepLaws.{no_item, entry_next}
-use borrow.Author.Rules.{rules}
 use Rattle.checks.proofs.sections.next_entry.Goals as goal
 
 pub returns-in-Ended : goal.returns-in-Ended

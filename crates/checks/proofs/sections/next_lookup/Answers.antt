@@ -3,7 +3,6 @@
 use mathlib.Core.Path.{sym, ◌∙◌, ap}
 use Rattle.lines.specs.Readings.{line_of}
 use Rattle.checks.proofs.LineStepLaws.{no_item, no_item_end, lookup-next, no-lookup}
-use borrow.Author.Rules.{rules}
 use Rattle.checks.proofs.sections.next_lookup.Goals as goal
 
 pub returns-then-entries-at : goal.returns-then-entries-at

@@ -3,15 +3,14 @@
 -- the arrays of the state have their lengths
 use mathlib.Core.Path.{subst}
 use mathlib.Core.List.{[]}
-use Rattle.lists.specs.Lists.{Bytes}
 use Rattle.rules.specs.Limits.{response_limit}
 use Rattle.inputs.specs.State.{state_of}
 use Rattle.inputs.proofs.StateBlockLaws.{Sized}
 use Rattle.checks.specs.declared.readings.ReadCall.TheVariants.{Read}
-use Rattle.checks.specs.Calls.{IsReading, Is14Tried}
+use Rattle.checks.specs.Calls.{IsReading}
 use Rattle.checks.proofs.ReadingsLaws.{log_kept}
 use Rattle.checks.proofs.StateStructLaws.{struct_checkable}
-use Rattle.checks.proofs.ReadCallLaws.{IsStateChecked, state-stopped, state-checked}
+use Rattle.checks.proofs.ReadCallLaws.{state-stopped, state-checked}
 use Rattle.checks.proofs.SignedTextLaws.{text-refused, text-stopped, text-placed}
 use borrow.Author.Rules.{rules}
 use Rattle.checks.proofs.signed_text.signed_text.Goals as goal

@@ -3,7 +3,6 @@
 -- the number of the record that was found
 use Prim.Native.Nat.{◌<◌}
 use native.Mathlib.Omega.{arith}
-use borrow.Author.Rules.{rules}
 use Rattle.inputs.proofs.VrfOutputLaws.{found_below}
 use Rattle.checks.specs.Steps.{records_capacity}
 use Rattle.checks.proofs.StepLaws.{noted-found, noted-missing}
@@ -11,13 +10,20 @@ use Rattle.checks.proofs.steps.note_commitment.Goals as goal
 
 pub offset_bounds-offsets-index : goal.offset_bounds-offsets-index
 offset_bounds-offsets-index c =
-    omega (arith, (let within0 : (c.find_output-found.result.index < records_capacity) = let f0 = c.find_output-found in
-    found_below _ _ records_capacity _ (omega arith) (omega (arith, c.requires.outputs)) f0.ensures.any in within0))
+    omega (
+      arith,
+      (let within0 : (c.find_output-found.result.index < records_capacity) = let f0 = c.find_output-found in
+          found_below _ _ records_capacity _ (omega arith) (omega (arith, c.requires.outputs)) f0.ensures.any in within0),
+    )
 
 pub bounds-offsets-index : goal.bounds-offsets-index
 bounds-offsets-index c =
-    omega (arith, (let within0 : (c.find_output-found.result.index < records_capacity) = let f0 = c.find_output-found in
-    found_below _ _ records_capacity _ (omega arith) (omega (arith, c.requires.outputs)) f0.ensures.any in within0), c.requires.room)
+    omega (
+      arith,
+      (let within0 : (c.find_output-found.result.index < records_capacity) = let f0 = c.find_output-found in
+          found_below _ _ records_capacity _ (omega arith) (omega (arith, c.requires.outputs)) f0.ensures.any in within0),
+      c.requires.room,
+    )
 
 pub returns-then-found : goal.returns-then-found
 returns-then-found c = noted-found _ _ _ _ _ c.find_output-found.ensures.rising c.if-found.true

@@ -1,6 +1,5 @@
 -- `checks::times::near_clock` meets its contract: the difference fits where the sum does.
 use Rattle.checks.proofs.TimestampLaws.{near-ahead, near-behind}
-use borrow.Author.Rules.{rules}
 use Rattle.checks.proofs.timestamps.near_clock.Goals as goal
 
 pub returns-then-clock-timestamp : goal.returns-then-clock-timestamp

@@ -5,13 +5,11 @@ use mathlib.Core.Path.{◌≡◌, sym, ◌∙◌}
 use mathlib.Core.Bool.{true}
 use Prim.Native.Nat.{◌-◌}
 use native.Mathlib.Omega.{arith}
-use borrow.Author.Tests.{not-true, not-false}
 use lib.ListN.{length, take, drop}
-use Rattle.lists.specs.Lists.{Bytes, same}
+use Rattle.lists.specs.Lists.{same}
 use Rattle.hash.proofs.BytesLaws.{part_count, tail_part}
 use Rattle.checks.proofs.TreeHeadLaws.{configuration-short, configuration-other, size_short}
 use Rattle.checks.proofs.TreeHeadLaws.{size-other, root-left}
-use borrow.Author.Rules.{rules}
 use Rattle.checks.proofs.tree_head.is_tree_head.Goals as goal
 
 pub returns-then-signed-configuration : goal.returns-then-signed-configuration

@@ -1,7 +1,6 @@
 -- `checks::tree_head::put_tree_head` meets its contract: the three parts of the text are put one
 -- after the other.
 use Rattle.checks.proofs.TreeHeadWritingLaws.{head_put}
-use borrow.Author.Rules.{rules}
 use Rattle.checks.proofs.tree_head.put_tree_head.Goals as goal
 
 pub returns : goal.returns

@@ -2,7 +2,6 @@
 use mathlib.Core.Path.{refl}
 use borrow.Author.Tests.{not-true, not-false}
 use Rattle.checks.proofs.Trial6to14Laws.{head-refused, head_passed}
-use borrow.Author.Rules.{rules}
 use Rattle.checks.proofs.trial.try_14.Goals as goal
 
 pub returns-then-not-head : goal.returns-then-not-head

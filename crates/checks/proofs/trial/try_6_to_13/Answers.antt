@@ -5,7 +5,6 @@ use mathlib.Core.Path.{sym}
 use native.Mathlib.Omega.{arith}
 use lib.Seq.{length-take-le}
 use Rattle.checks.proofs.Trial6to14Laws.{label-fits, first-refused, first-passed, first-possible}
-use borrow.Author.Rules.{rules}
 use Rattle.checks.proofs.trial.try_6_to_13.Goals as goal
 
 pub slice_bounds-try_6_to_8-end : goal.slice_bounds-try_6_to_8-end

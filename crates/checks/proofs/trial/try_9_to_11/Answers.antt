@@ -4,7 +4,6 @@
 use borrow.Author.Tests.{not-true, not-false}
 use Rattle.checks.proofs.ShapeTrialLaws.{shape-refused, nodes-refused, outputs-refused}
 use Rattle.checks.proofs.ShapeTrialLaws.{timestamps-refused, clock-refused, tried_passed}
-use borrow.Author.Rules.{rules}
 use Rattle.checks.proofs.trial.try_9_to_11.Goals as goal
 
 pub returns-then-not-shape : goal.returns-then-not-shape

@@ -2,7 +2,6 @@
 -- pass.
 -- from past 12 and 13 back to past 9 to 11
 use Rattle.checks.proofs.Trial6to14Laws.{tried-refused, judged-refused, judged-passed}
-use borrow.Author.Rules.{rules}
 use Rattle.checks.proofs.trial.try_9_to_13.Goals as goal
 
 pub returns-then-shown-ne0 : goal.returns-then-shown-ne0

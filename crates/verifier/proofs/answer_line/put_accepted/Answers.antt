@@ -1,6 +1,5 @@
 -- `verifier::answer_line::put_accepted` meets its contract: a version that was found has its line,
 -- and monitoring has its own.
-use borrow.Author.Rules.{rules}
 use Rattle.verifier.proofs.answer_line.put_accepted.Goals as goal
 
 pub returns-then-found : goal.returns-then-found

@@ -1,7 +1,6 @@
 -- `verifier::answer_line::put_counts` meets its contract: each number after its tab, and a newline,
 -- each after what is written before it.
 use mathlib.Core.List.{[], ◌∷◌, ◌++◌}
-use borrow.Author.Rules.{rules}
 use Rattle.lines.specs.Number.{decimal}
 use Rattle.lines.specs.Line.{tab, newline}
 use Rattle.inputs.proofs.StateWriterLaws.{room_first, room-then, wrote_then, then-put, both_put}

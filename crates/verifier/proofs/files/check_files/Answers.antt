@@ -3,11 +3,9 @@
 -- from past the second test back to the start
 use mathlib.Core.Path.{◌≡◌, sym, ◌∙◌}
 use mathlib.Core.Bool.{true}
-use borrow.Author.Tests.{not-true, not-false}
 use Rattle.verifier.specs.Files.{are_within}
 use Rattle.verifier.proofs.FilesLaws.{unread-refused, over-refused, refusal-told, request_within}
 use Rattle.verifier.proofs.FilesLaws.{call-told}
-use borrow.Author.Rules.{rules}
 use Rattle.verifier.proofs.files.check_files.Goals as goal
 
 pub returns-then-unread : goal.returns-then-unread

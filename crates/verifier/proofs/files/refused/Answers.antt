@@ -1,6 +1,5 @@
 -- `verifier::files::refused` meets its contract: the line of a refusal is written.
 use Rattle.verifier.proofs.FilesLaws.{refusal_written}
-use borrow.Author.Rules.{rules}
 use Rattle.verifier.proofs.files.refused.Goals as goal
 
 pub returns : goal.returns

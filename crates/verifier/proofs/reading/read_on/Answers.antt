@@ -1,6 +1,6 @@
 -- `verifier::reading::read_on` meets its contract: what the functions of the reader answer, put
 -- together.
-use Rattle.std.proofs.Common.{refl, ap, sym, ◌∙◌}
+use Rattle.std.proofs.Common.{refl}
 use Rattle.verifier.specs.Reading.{read_on, read_on_of}
 use Rattle.verifier.proofs.reading.read_on.Goals as goal
 

@@ -1,6 +1,5 @@
 -- `checks::lookups::Summary::next` meets its contract: what the line tells is added to what is
 -- known.
-use borrow.Author.Rules.{rules}
 use Rattle.checks.proofs.SummaryLaws.{summary-next}
 use Rattle.checks.proofs.lookups.Summary.next.Goals as goal
 

@@ -1,6 +1,5 @@
 -- `checks::times::Times::next` meets its contract: the test of the kept size and time is that of
 -- the entry.
-use borrow.Author.Rules.{rules}
 use Rattle.checks.specs.Entries.{timestamps_after}
 use Rattle.checks.proofs.timestamps.Timestamps.next.Goals as goal
 
