@@ -11,7 +11,6 @@ use lib.Seq.{drop-drop}
 use Rattle.hash.specs.Bytes.{big_endian}
 use Rattle.hash.proofs.BytesLaws.{length_big_endian}
 use Rattle.hash.specs.Sha256.{digest_length, sha256}
-use Rattle.hash.proofs.MessageLaws.{length_digest}
 use Rattle.kt.specs.Exports.{sha256_answer, sha256_output, version_length, ladder_bytes, ladder_answer}
 use Rattle.kt.specs.Exports.{ladder_output}
 use Rattle.tree.specs.Ladder.{ladder_within}
