@@ -6,11 +6,12 @@ use native.Mathlib.Numerals.{add-one}
 use native.Mathlib.Omega.{arith}
 use borrow.Author.Tests.{le-leb, lt-leb}
 use lib.ListN.{length, get_or, take, drop, length-append, length-drop}
-use lib.Seq.{sets, sets-eq, take-suc, take_at, take_all, length-take-le, drop-append-add}
+use lib.Seq.{sets, sets-eq, take-suc, take_at, take_all, take-length, length-take-le, drop-append-add}
 use lib.Seq.{drop-drop}
 use Rattle.hash.specs.Bytes.{big_endian}
 use Rattle.hash.proofs.BytesLaws.{length_big_endian}
 use Rattle.hash.specs.Sha256.{digest_length, sha256}
+use Rattle.hash.proofs.MessageLaws.{length_digest}
 use Rattle.kt.specs.Exports.{sha256_answer, sha256_output, version_length, ladder_bytes, ladder_answer}
 use Rattle.kt.specs.Exports.{ladder_output}
 use Rattle.tree.specs.Ladder.{ladder_within}
@@ -21,11 +22,19 @@ pub digest_refused : (m d : List ℕ) → length d < digest_length → (0 ≡ sh
 unfolding sha256_answer sha256_output
 digest_refused m d h = (rw (lt-leb digest_length (length d) h), rw (lt-leb digest_length (length d) h))
 
+-- the digest x, copied whole
+pub digest_written : (m d x e : List ℕ) → digest_length ≤ length d → x ≡ sha256 m → e ≡ take (length x) x ++ drop (length x) d
+    → (digest_length ≡ sha256_answer d) × (e ≡ sha256_output m d)
+unfolding sha256_answer sha256_output
+digest_written m d x e h hx he =
+    let l : length x ≡ digest_length = ap length hx ∙ length_digest m in
+    (rw (le-leb digest_length (length d) h), rw (le-leb digest_length (length d) h, he, take-length x, l, hx))
+
 -- the digest x, copied over the first bytes
-pub digest_written : (m d x e : List ℕ) → digest_length ≤ length d → x ≡ sha256 m → e ≡ x
+pub digest_copied : (m d x e : List ℕ) → digest_length ≤ length d → x ≡ sha256 m → e ≡ x
     → (digest_length ≡ sha256_answer d) × (e ++ drop digest_length d ≡ sha256_output m d)
 unfolding sha256_answer sha256_output
-digest_written m d x e h hx he = (rw (le-leb digest_length (length d) h), rw (le-leb digest_length (length d) h, he, hx))
+digest_copied m d x e h hx he = (rw (le-leb digest_length (length d) h), rw (le-leb digest_length (length d) h, he, hx))
 
 -- ---- a ladder
 

@@ -45,22 +45,22 @@ set_digits zero n = []
 set_digits (suc k) n = choose (eqb (n / 2 ^ k % 2) 1) (λ _. (n / 2 ^ k * 2 ^ k - 1) ∷ set_digits k n) (λ _. set_digits k n)
 
 -- There is no digit below digit 0.
-digits_zero : (n : ℕ) → set_digits 0 n ≡ []
+pub digits_zero : (n : ℕ) → set_digits 0 n ≡ []
 unfolding set_digits
 digits_zero n = refl
 
 -- A set digit is first among those up to it.
-digits_set : (k n : ℕ) → n / 2 ^ k % 2 ≡ 1 → set_digits (suc k) n ≡ (cut n k - 1) ∷ set_digits k n
+pub digits_set : (k n : ℕ) → n / 2 ^ k % 2 ≡ 1 → set_digits (suc k) n ≡ (cut n k - 1) ∷ set_digits k n
 unfolding set_digits choose
 digits_set k n o = rw (eq-eqb (n / 2 ^ k % 2) 1 o)
 
 -- A clear digit is left out.
-digits_clear : (k n : ℕ) → n / 2 ^ k % 2 ≡ 0 → set_digits (suc k) n ≡ set_digits k n
+pub digits_clear : (k n : ℕ) → n / 2 ^ k % 2 ≡ 0 → set_digits (suc k) n ≡ set_digits k n
 unfolding set_digits choose
 digits_clear k n o = rw (ne_eqb (n / 2 ^ k % 2) 1 (λ z. omega arith))
 
 -- No digit below k is set where n ends in k zeros.
-digits_none : (k n : ℕ) → cut n k ≡ n → set_digits k n ≡ []
+pub digits_none : (k n : ℕ) → cut n k ≡ n → set_digits k n ≡ []
 digits_none zero n e = digits_zero n
 digits_none (suc k) n e = by_digit (n / 2 ^ k)
     (λ z. digits_clear k n z ∙ digits_none k n (cut_clear n k z ∙ e))

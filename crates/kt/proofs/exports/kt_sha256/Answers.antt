@@ -3,7 +3,7 @@
 use Rattle.std.proofs.Common.{ap, ◌∙◌, arith, length, sym}
 use Rattle.std.proofs.lemmas.List.{length-take-le}
 use Rattle.hash.proofs.MessageLaws.{length_digest}
-use Rattle.kt.proofs.ExportLaws.{digest_refused, digest_written}
+use Rattle.kt.proofs.ExportLaws.{digest_refused, digest_copied}
 use Rattle.kt.proofs.exports.kt_sha256.Goals as goal
 
 pub returns-then-digest-lt-DIGEST_LENGTH : goal.returns-then-digest-lt-DIGEST_LENGTH
@@ -15,4 +15,4 @@ copy_from_slice-requires c =
     ∙ sym (ap length c.digest-d.ensures ∙ length_digest c.args.message.now)
 
 pub returns : goal.returns
-returns c = digest_written c.args.message.now c.args.digest.now c.digest-d.result c.copy_from_slice.new.self (omega arith) c.digest-d.ensures c.copy_from_slice.ensures.after
+returns c = digest_copied c.args.message.now c.args.digest.now c.digest-d.result c.copy_from_slice.new.self (omega arith) c.digest-d.ensures c.copy_from_slice.ensures.after
