@@ -634,8 +634,6 @@ def main():
             else:
                 new, place = "XX" + n, None
             env = {var: place} if place else {}
-            for lp in fn.d["places"]:
-                pass
             used.clear()
             body = turn(fn, place, rhs, env, log, helpers) if place else rhs
             words = [w for l in unf for w in l.split()[1:]]
