@@ -1,5 +1,6 @@
--- Functions over a struct that holds a reference: their proofs are written by hand, along the code
--- of each, statement by statement. Such a function has the right to read its text while a lifetime
+-- Functions over a struct that holds a reference, as they are proved by hand, along the code of
+-- each, statement by statement; the check proves them by itself, and no proof rests on these laws.
+-- Such a function has the right to read its text while a lifetime
 -- lasts, which it is said to own, and a share of the lifetime's token, which shows that it lasts.
 -- What it owns of a text, and of a reader that holds one, can be copied: a call takes one copy and
 -- the token, and gives back the token, the answer, and the fact that its contract says of it. At

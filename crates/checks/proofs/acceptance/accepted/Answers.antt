@@ -1,6 +1,5 @@
 -- `checks::acceptance::accepted` meets its contract: 16 where the map or the output bytes lack
 -- room, and else the new state and the value.
--- the arrays of the state have their lengths
 use mathlib.Core.Path.{ap}
 use borrow.Author.Tests.{not-true, not-false}
 use Rattle.lines.specs.Readings.{put_of}

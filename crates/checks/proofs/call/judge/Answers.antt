@@ -1,5 +1,4 @@
 -- `checks::call::judge` meets its contract: what is given is read, and then tried.
--- what was read, of a state that is known to be valid or not
 use mathlib.Core.Path.{subst}
 use Rattle.rules.specs.Limits.{response_limit}
 use Rattle.inputs.specs.State.{state_of}

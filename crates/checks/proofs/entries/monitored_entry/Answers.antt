@@ -1,6 +1,5 @@
 -- `checks::entries::monitored_entry` meets its contract: the lookups are compared with the versions
 -- of the largest pair, or there is no pair.
--- the lookups of the entry
 use mathlib.Core.Path.{refl, sym, ◌∙◌}
 use mathlib.Core.Logic.{inl, inr}
 use lib.ListN.{drop}

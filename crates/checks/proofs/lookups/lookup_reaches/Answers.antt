@@ -1,6 +1,5 @@
 -- `checks::lookups::lookup_reaches` meets its contract: the letters of the line tell its result,
 -- and what follows its version the rest.
--- what was read at the offset of the version
 use mathlib.Core.Path.{◌≡◌, sym, ◌∙◌, ap}
 use mathlib.Core.Option.{some}
 use native.Mathlib.Omega.{arith}

@@ -1,6 +1,5 @@
 -- `checks::lookups::search_judged` meets its contract: the lookups are tried with what is known of
 -- the call, and the entries must be short ones, then whole ones.
--- from the ladder back to where the function begins
 use mathlib.Core.Path.{refl}
 use Rattle.checks.proofs.JudgedCallLaws.{entries_ready, target_ready, HoldsLadder, ladder_held}
 use Rattle.checks.proofs.JudgedCallLaws.{search-judged}

@@ -1,7 +1,5 @@
 -- `checks::monitoring::monitoring_asked` meets its contract: what is asked of monitoring, section
 -- by section.
--- from past the text of the entries back to where the function begins, and from past the
--- entries to that text
 use mathlib.Core.Path.{refl, sym, ap, ◌∙◌}
 use mathlib.Core.List.{List}
 use Prim.Native.Nat.{ℕ, ◌≤◌}

@@ -1,6 +1,5 @@
 -- `checks::readings::read_call` meets its contract: what a call is given is read in the order of
 -- the refusals.
--- from past 1, past 2, past 3 and past 4 back to before them
 use mathlib.Core.Path.{◌≡◌, sym, ◌∙◌, ap, subst}
 use mathlib.Core.Bool.{true}
 use mathlib.Core.Option.{some}

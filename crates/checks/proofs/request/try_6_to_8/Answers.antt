@@ -1,6 +1,5 @@
 -- `checks::given::try_6_to_8` meets its contract: the first of the three tests that fails gives its
 -- number.
--- past 6, the call that was given
 use mathlib.Core.Path.{sym, ◌∙◌}
 use Rattle.checks.proofs.RequestLaws.{first-foreign, first-size, first-version, first_none}
 use Rattle.checks.proofs.request.try_6_to_8.Goals as goal

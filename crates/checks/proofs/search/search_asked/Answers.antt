@@ -1,5 +1,4 @@
 -- `checks::search::search_asked` meets its contract: what is asked of a search, section by section.
--- from past the ladder back to where the function begins
 use mathlib.Core.Path.{◌≡◌, refl, ◌∙◌}
 use native.Mathlib.Omega.{arith}
 use lib.ListN.{take}

@@ -1,6 +1,5 @@
 -- `checks::sections::lookup_version` meets its contract: the number after the word of a lookup line
 -- is its version.
--- the number that was read
 use mathlib.Core.Path.{◌≡◌, sym, ◌∙◌, ap}
 use mathlib.Core.Option.{some}
 use Rattle.lines.specs.Number.{read_number}

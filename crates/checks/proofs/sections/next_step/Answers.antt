@@ -1,6 +1,5 @@
 -- `checks::sections::next_step` meets its contract: the version is read after the word of the line,
 -- and the line's length tells whether a commitment follows.
--- the line that was found
 use mathlib.Core.Path.{◌≡◌, sym, ◌∙◌, ap}
 use mathlib.Core.Option.{some}
 use Prim.Native.Nat.{◌+◌, ◌-◌}

@@ -1,6 +1,5 @@
 -- `checks::signed_text::signed_text` meets its contract: what is given is read, then tried, and the
 -- text is placed.
--- the arrays of the state have their lengths
 use mathlib.Core.Path.{subst}
 use mathlib.Core.List.{[]}
 use Rattle.rules.specs.Limits.{response_limit}

@@ -1,6 +1,5 @@
 -- `checks::steps::note_commitment` meets its contract: the number of a record that is found is
 -- within the table.
--- the number of the record that was found
 use Prim.Native.Nat.{◌<◌}
 use native.Mathlib.Omega.{arith}
 use Rattle.inputs.proofs.VrfOutputLaws.{found_below}

@@ -1,6 +1,5 @@
 -- `checks::tree_head::is_tree_head` meets its contract: the three parts of the text are compared
 -- one after the other.
--- from past the configuration back to before it
 use mathlib.Core.Path.{◌≡◌, sym, ◌∙◌}
 use mathlib.Core.Bool.{true}
 use Prim.Native.Nat.{◌-◌}

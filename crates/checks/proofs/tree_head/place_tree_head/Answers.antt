@@ -1,6 +1,5 @@
 -- `checks::tree_head::place_tree_head` meets its contract: where there is room from the offset on,
 -- the text is written there.
--- the bytes of the text
 use mathlib.Core.Path.{◌≡◌, sym, ◌∙◌}
 use Prim.Native.Nat.{◌+◌, ◌≤◌}
 use native.Mathlib.Omega.{arith}

@@ -1,6 +1,5 @@
 -- `checks::trial::try_6_to_13` meets its contract: 6 to 8 are tried, and 9 to 13 on what they let
 -- pass.
--- from before 6 to 8, and from past them, back to the start
 use mathlib.Core.Path.{sym}
 use native.Mathlib.Omega.{arith}
 use lib.Seq.{length-take-le}

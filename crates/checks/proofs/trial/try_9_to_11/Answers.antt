@@ -1,6 +1,5 @@
 -- `checks::trial::try_9_to_11` meets its contract: the shape, the number of nodes, the outputs and
 -- the times are tried in this order.
--- from past what the kind asks back to the start
 use borrow.Author.Tests.{not-true, not-false}
 use Rattle.checks.proofs.ShapeTrialLaws.{shape-refused, nodes-refused, outputs-refused}
 use Rattle.checks.proofs.ShapeTrialLaws.{timestamps-refused, clock-refused, tried_passed}

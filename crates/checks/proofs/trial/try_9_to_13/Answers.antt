@@ -1,6 +1,5 @@
 -- `checks::trial::try_9_to_13` meets its contract: 9 to 11 are tried, 12 and 13 on what they let
 -- pass.
--- from past 12 and 13 back to past 9 to 11
 use Rattle.checks.proofs.Trial6to14Laws.{tried-refused, judged-refused, judged-passed}
 use Rattle.checks.proofs.trial.try_9_to_13.Goals as goal
 

@@ -1,6 +1,5 @@
 -- `hash::block::sixteen_rounds` meets its contract: each call is one round more; each index below
 -- 16 is below the length that the function requires (`.pre`, at its start).
--- the function's start, from the places after the fourth, the eighth and the twelfth round
 use Rattle.hash.proofs.BlockLaws.{rounds_zero, rounds_step}
 use Rattle.std.proofs.Common.{arith}
 use Rattle.hash.proofs.block.sixteen_rounds.Goals as goal

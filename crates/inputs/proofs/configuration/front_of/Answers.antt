@@ -1,6 +1,5 @@
 -- `inputs::configuration::front_of` meets its contract: each field is read where the one before it
 -- ends.
--- the suite, at the start
 use mathlib.Core.Path.{◌≡◌, sym, ◌∙◌, ap}
 use mathlib.Core.Option.{some}
 use lib.ListN.{drop}

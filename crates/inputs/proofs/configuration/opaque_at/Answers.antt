@@ -1,6 +1,5 @@
 -- `inputs::configuration::opaque_at` meets its contract: the bytes that the length counts follow
 -- it, or there is no byte string.
--- the length that was read, and the offset after it
 use borrow.Author.Rules.{rules}
 use mathlib.Core.Path.{◌≡◌, refl, sym, ◌∙◌, ap}
 use mathlib.Core.Option.{some}

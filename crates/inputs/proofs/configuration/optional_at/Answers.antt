@@ -1,5 +1,4 @@
 -- `inputs::configuration::optional_at` meets its contract: a byte says whether a number follows it.
--- the byte at the offset
 use mathlib.Core.Path.{◌≡◌, sym, ◌∙◌, ap}
 use mathlib.Core.Option.{some}
 use lib.ListN.{drop}

@@ -1,6 +1,5 @@
 -- `inputs::configuration::read_configuration` meets its contract: both groups of fields are read,
 -- nothing follows them, and suite and mode are those that are taken.
--- suite, mode and keys, at the start
 use mathlib.Core.Path.{◌≡◌, sym, ◌∙◌, ap}
 use mathlib.Core.Option.{some}
 use lib.ListN.{drop}

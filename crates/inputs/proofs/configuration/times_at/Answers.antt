@@ -1,6 +1,5 @@
 -- `inputs::configuration::times_at` meets its contract: each field is read where the one before it
 -- ends.
--- the time ahead, at the offset
 use mathlib.Core.Path.{◌≡◌, sym, ◌∙◌, ap}
 use mathlib.Core.Option.{some}
 use lib.ListN.{drop}

@@ -1,6 +1,5 @@
 -- `inputs::response::role_from` meets its contract: the line at the offset has a role, or there is
 -- no line.
--- the line that was found
 use mathlib.Core.Path.{◌≡◌, sym, ◌∙◌, ap}
 use mathlib.Core.Option.{some}
 use native.Mathlib.Omega.{arith}

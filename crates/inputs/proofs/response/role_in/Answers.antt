@@ -1,5 +1,4 @@
 -- `inputs::response::role_in` meets its contract: for each sort its own readers are tried.
--- the role in a section of the sort that was told
 use mathlib.Core.Path.{◌≡◌, sym, ◌∙◌, ap}
 use Rattle.lists.specs.Lists.{Bytes}
 use Rattle.inputs.specs.declared.response.Sort.{Sort}
@@ -8,6 +7,7 @@ use Rattle.inputs.proofs.ResponseSectionLaws.{line_begins, line_outside, entry-b
 use Rattle.inputs.proofs.ResponseSectionLaws.{lookup-continues, other-outside}
 use Rattle.inputs.proofs.response.role_in.Goals as goal
 
+-- the role in a section of the sort that was told
 told : {j k : Sort} (l : Bytes) → j ≡ k → read_role j l ≡ read_role k l
 told l e = ap (λ (i : Sort). read_role i l) e
 

@@ -1,6 +1,5 @@
 -- `inputs::response_header::head_from` meets its contract: the line at the offset is read as a
 -- `head` line.
--- the line that was found
 use mathlib.Core.Path.{◌≡◌, sym, ◌∙◌, ap}
 use mathlib.Core.Option.{some}
 use native.Mathlib.Omega.{arith}

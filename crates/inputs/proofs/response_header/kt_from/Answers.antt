@@ -1,6 +1,5 @@
 -- `inputs::response_header::kt_from` meets its contract: the first line is read, and its fields
 -- stand in the text where they stand in the line.
--- the line that was found
 use mathlib.Core.Path.{◌≡◌, sym, ◌∙◌, ap}
 use mathlib.Core.Option.{some}
 use native.Mathlib.Omega.{arith}

@@ -1,6 +1,5 @@
 -- `inputs::response_header::target_from` meets its contract: the line at the offset is read as a
 -- `target` line, and its fields are moved from the line to the text.
--- the line that was found
 use mathlib.Core.Path.{◌≡◌, sym, ◌∙◌, ap}
 use mathlib.Core.Option.{some}
 use native.Mathlib.Omega.{arith}

@@ -1,5 +1,4 @@
 -- `inputs::response_lines::head_line` meets its contract: the line is its word and a number.
--- after the number the line reads as it, if it ends there
 use mathlib.Core.Path.{◌≡◌, refl, sym, ◌∙◌, ap}
 use mathlib.Core.List.{[]}
 use mathlib.Core.Option.{bind}

@@ -1,6 +1,5 @@
 -- `inputs::response_lines::is_entry` meets its contract: the line is its word, two numbers and a
 -- hash.
--- after the position the line is given if time and hash are
 use mathlib.Core.Path.{◌≡◌, sym, ◌∙◌, ap}
 use mathlib.Core.List.{[], ◌∷◌}
 use Rattle.lists.specs.Choice.{is_some}

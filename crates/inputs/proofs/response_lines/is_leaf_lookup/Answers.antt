@@ -1,6 +1,5 @@
 -- `inputs::response_lines::is_leaf_lookup` meets its contract: the line is its word, a version, a
 -- VRF output, a commitment and siblings.
--- after the version the line is given if the fields from the VRF output on are
 use mathlib.Core.Path.{◌≡◌, sym, ◌∙◌, ap}
 use mathlib.Core.List.{[], ◌∷◌}
 use Rattle.lists.specs.Choice.{is_some}

@@ -1,6 +1,5 @@
 -- `inputs::response_lines::is_lookup` meets its contract: the three forms are tried one after the
 -- other.
--- the first call asks for an `in` line
 use mathlib.Core.Path.{◌≡◌, refl, sym, ◌∙◌}
 use Rattle.lists.specs.Choice.{is_some}
 use Rattle.lines.specs.Number.{ascii}

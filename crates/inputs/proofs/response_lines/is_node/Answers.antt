@@ -1,5 +1,4 @@
 -- `inputs::response_lines::is_node` meets its contract: the line is its word and a hash.
--- after the word the line is given if its last field is
 use mathlib.Core.Path.{◌≡◌, sym, ◌∙◌, ap}
 use mathlib.Core.List.{[], ◌∷◌}
 use Rattle.lists.specs.Choice.{is_some}

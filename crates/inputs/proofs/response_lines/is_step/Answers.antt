@@ -1,6 +1,5 @@
 -- `inputs::response_lines::is_step` meets its contract: the line is its word, a version, and a
 -- commitment or none.
--- after the version the line is given if its last field is
 use mathlib.Core.Path.{◌≡◌, refl, sym, ◌∙◌, ap}
 use mathlib.Core.List.{[], ◌∷◌}
 use borrow.Author.Tests.{eq-eqb, ne_eqb}

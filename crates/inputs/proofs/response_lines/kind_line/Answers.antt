@@ -1,6 +1,5 @@
 -- `inputs::response_lines::kind_line` meets its contract: the two words are passed over, then the
 -- two parts are read.
--- the line begins with its word
 use mathlib.Core.Path.{◌≡◌, refl, sym, ◌∙◌, ap}
 use mathlib.Core.Option.{some}
 use Rattle.lines.specs.Number.{ascii}

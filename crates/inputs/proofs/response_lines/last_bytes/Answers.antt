@@ -1,6 +1,5 @@
 -- `inputs::response_lines::last_bytes` meets its contract: the field encodes a byte string, and no
 -- other follows it.
--- a byte string was encoded at the cursor
 use mathlib.Core.Path.{◌≡◌, refl, sym, ◌∙◌, ap}
 use mathlib.Core.List.{[]}
 use mathlib.Core.Option.{some}

@@ -1,6 +1,5 @@
 -- `inputs::response_lines::last_parts` meets its contract: the first field has its length, and the
 -- last is not too long.
--- after the first field, the fields read as it and the last one
 use mathlib.Core.Path.{◌≡◌, refl, sym, ◌∙◌, ap}
 use mathlib.Core.List.{[], ◌∷◌}
 use mathlib.Core.Option.{bind}

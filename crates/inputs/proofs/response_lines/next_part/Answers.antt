@@ -1,6 +1,5 @@
 -- `inputs::response_lines::next_part` meets its contract: the field encodes a byte string, and its
 -- length is compared.
--- a byte string was encoded at the cursor
 use mathlib.Core.Path.{◌≡◌, sym, ◌∙◌, ap}
 use mathlib.Core.Option.{some}
 use native.Mathlib.Omega.{arith}

@@ -1,6 +1,5 @@
 -- `inputs::response_lines::target_line` meets its contract: the line is its word, a version and the
 -- two parts.
--- the version was read after the word
 use mathlib.Core.Path.{◌≡◌, refl, sym, ◌∙◌, ap}
 use mathlib.Core.List.{[], ◌∷◌}
 use mathlib.Core.Option.{some, bind}

@@ -1,6 +1,5 @@
 -- `inputs::state_reader::keep_line` meets its contract: the word is read, then the only field after
 -- it.
--- the line begins with the word
 use mathlib.Core.Path.{◌≡◌, sym, ◌∙◌, ap}
 use mathlib.Core.Option.{some}
 use native.Mathlib.Omega.{arith}

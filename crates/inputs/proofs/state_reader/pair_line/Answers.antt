@@ -1,6 +1,5 @@
 -- `inputs::state_reader::pair_line` meets its contract: the word, the position and the version are
 -- read one after the other, and nothing may follow.
--- the line begins with the word
 use mathlib.Core.Path.{◌≡◌, sym, ◌∙◌, ap}
 use mathlib.Core.Option.{some}
 use native.Mathlib.Omega.{arith}

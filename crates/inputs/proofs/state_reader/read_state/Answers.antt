@@ -1,6 +1,5 @@
 -- `inputs::state_reader::read_state` meets its contract: the first line is the `size` line, and the
 -- state is read of it and the text after it.
--- the first line
 use mathlib.Core.Path.{sym, ◌∙◌, ap}
 use borrow.Author.Tests.{not-true, not-false}
 use borrow.Author.Rules.{rules}

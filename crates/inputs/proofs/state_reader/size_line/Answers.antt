@@ -1,6 +1,5 @@
 -- `inputs::state_reader::size_line` meets its contract: the word, the size and the time are read
 -- one after the other, and the label is left to `with_label`.
--- the line begins with the word
 use mathlib.Core.Path.{◌≡◌, sym, ◌∙◌, ap}
 use mathlib.Core.Option.{some}
 use Rattle.lines.specs.Number.{ascii, read_number}

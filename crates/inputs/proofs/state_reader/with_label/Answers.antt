@@ -1,6 +1,5 @@
 -- `inputs::state_reader::with_label` meets its contract: the label is the last field; each test
 -- that fails is a way in which it is not read.
--- the field at the cursor encodes a byte string
 use mathlib.Core.Path.{◌≡◌, sym, ◌∙◌, ap}
 use mathlib.Core.Option.{some}
 use native.Mathlib.Omega.{arith}

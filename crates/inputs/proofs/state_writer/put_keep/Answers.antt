@@ -1,6 +1,5 @@
 -- `inputs::state_writer::put_keep` meets its contract: the word, the value, a newline, each after
 -- what is written before it.
--- the value's field
 use mathlib.Core.List.{[], ◌∷◌, ◌++◌}
 use Prim.Native.Nat.{◌+◌, ◌≤◌}
 use lib.ListN.{length}

@@ -1,6 +1,5 @@
 -- `inputs::state_writer::put_numbers` meets its contract: the word, the first number, the second,
 -- each after what is written before it.
--- the fields of the two numbers
 use mathlib.Core.List.{◌∷◌, ◌++◌}
 use Prim.Native.Nat.{◌+◌, ◌≤◌}
 use lib.ListN.{length}

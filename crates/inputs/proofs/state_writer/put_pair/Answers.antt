@@ -1,6 +1,5 @@
 -- `inputs::state_writer::put_pair` meets its contract: the word and the two numbers, and a newline
 -- after them.
--- the word and the numbers
 use mathlib.Core.List.{[], ◌∷◌, ◌++◌}
 use Prim.Native.Nat.{◌+◌, ◌≤◌}
 use lib.ListN.{length}

@@ -1,6 +1,5 @@
 -- `inputs::state_writer::put_size` meets its contract: the word and the two numbers, the label, a
 -- newline, each after what is written before it.
--- the word and the numbers, the label's field
 use mathlib.Core.List.{[], ◌∷◌, ◌++◌}
 use Prim.Native.Nat.{◌+◌, ◌≤◌}
 use lib.ListN.{length}

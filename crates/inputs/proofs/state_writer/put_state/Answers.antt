@@ -1,6 +1,5 @@
 -- `inputs::state_writer::put_state` meets its contract: a valid state fits its struct and its text
 -- the bytes, so each part of the text has room after those before it.
--- the state is valid
 use mathlib.Core.Path.{◌≡◌, sym, ◌∙◌}
 use mathlib.Core.List.{◌++◌}
 use Prim.Native.Nat.{◌+◌, ◌*◌, ◌≤◌}

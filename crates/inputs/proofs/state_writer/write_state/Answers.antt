@@ -1,6 +1,5 @@
 -- `inputs::state_writer::write_state` meets its contract: each refusal leaves the bytes, and a
 -- valid state's text is put from byte 0 on.
--- past both tests the state is valid
 use mathlib.Core.Path.{◌≡◌, sym, ◌∙◌}
 use mathlib.Core.Bool.{true}
 use native.Mathlib.Omega.{arith}

@@ -1,6 +1,5 @@
 -- `lines::writing::put_bytes` meets its contract: the bytes are stored where there is room for
 -- them.
--- there is room for the bytes
 use mathlib.Core.Path.{sym, ◌∙◌}
 use Prim.Native.Nat.{◌+◌, ◌≤◌}
 use native.Mathlib.Omega.{arith}

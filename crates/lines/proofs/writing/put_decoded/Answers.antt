@@ -1,6 +1,5 @@
 -- `lines::writing::put_spelled` meets its contract: the bytes are stored where the field encodes
 -- some and there is room for them.
--- the field encodes as many bytes as were counted
 use mathlib.Core.Path.{◌≡◌, sym, ap, ◌∙◌}
 use mathlib.Core.Option.{some}
 use Prim.Native.Nat.{ℕ, ◌+◌, ◌≤◌, ◌<◌}

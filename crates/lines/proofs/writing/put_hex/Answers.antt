@@ -1,6 +1,5 @@
 -- `lines::writing::put_hex` meets its contract: the digits are stored where there is room for two
 -- of each byte; the empty byte string is put as a dash.
--- the field of a byte string that is not empty has two digits for each byte
 use mathlib.Core.Path.{◌≡◌, sym, ap, ◌∙◌}
 use mathlib.Core.Option.{some}
 use Prim.Native.Nat.{ℕ, ◌+◌, ◌*◌, ◌≤◌, ◌<◌}
@@ -13,6 +12,7 @@ use Rattle.lines.proofs.HexLaws.{length_hex, hex_field_some}
 use Rattle.lines.proofs.WritingLaws.{put_fits, put_over, hex_field_none}
 use Rattle.lines.proofs.writing.put_hex.Goals as goal
 
+-- the field of a byte string that is not empty has two digits for each byte
 length-field : (s : Bytes) → 0 < length s → length (hex_field s) ≡ 2 * length s
 length-field s p = ap length (hex_field_some s p) ∙ length_hex s
 

@@ -1,6 +1,5 @@
 -- `verifier::answer_line::put_found` meets its contract: the word and a tab, the version, the last
 -- two fields, each after what is written before it.
--- the word and a tab
 use mathlib.Core.List.{[], ◌∷◌, ◌++◌}
 use Prim.Native.Nat.{◌+◌, ◌≤◌}
 use native.Mathlib.Omega.{arith}
@@ -14,6 +13,7 @@ use Rattle.verifier.specs.Files.{counts_text}
 use Rattle.verifier.proofs.AnswerLineLaws.{found_pieces, found_fits}
 use Rattle.verifier.proofs.answer_line.put_found.Goals as goal
 
+-- the word and a tab
 abbrev word : Bytes
 word = ascii "yes" ++ tab ∷ []
 

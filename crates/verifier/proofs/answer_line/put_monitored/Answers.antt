@@ -1,6 +1,5 @@
 -- `verifier::answer_line::put_monitored` meets its contract: the word, a tab and a dash, and the
 -- last two fields after them.
--- the word, a tab and a dash
 use mathlib.Core.List.{◌∷◌, ◌++◌}
 use Prim.Native.Nat.{◌+◌, ◌≤◌}
 use native.Mathlib.Omega.{arith}
@@ -14,6 +13,7 @@ use Rattle.verifier.specs.Files.{counts_text}
 use Rattle.verifier.proofs.AnswerLineLaws.{monitored_pieces, monitored_fits}
 use Rattle.verifier.proofs.answer_line.put_monitored.Goals as goal
 
+-- the word, a tab and a dash
 abbrev word : Bytes
 word = ascii "yes" ++ tab ∷ ascii "-"
 

@@ -1,6 +1,5 @@
 -- `verifier::answer_line::put_refusal` meets its contract: the word and a tab, the number, a
 -- newline, each after what is written before it.
--- the word and a tab
 use mathlib.Core.List.{[], ◌∷◌, ◌++◌}
 use Prim.Native.Nat.{◌+◌, ◌≤◌}
 use native.Mathlib.Omega.{arith}
@@ -12,6 +11,7 @@ use Rattle.inputs.proofs.StateWriterLaws.{room_first, then-put, both_put}
 use Rattle.verifier.proofs.AnswerLineLaws.{refusal_pieces, refusal_fits}
 use Rattle.verifier.proofs.answer_line.put_refusal.Goals as goal
 
+-- the word and a tab
 abbrev word : Bytes
 word = ascii "no" ++ tab ∷ []
 

@@ -1,6 +1,5 @@
 -- `verifier::files::check_files` meets its contract: files that were not read or are too long are
 -- refused, and else the call that the request asks for is made.
--- from past the second test back to the start
 use mathlib.Core.Path.{◌≡◌, sym, ◌∙◌}
 use mathlib.Core.Bool.{true}
 use Rattle.verifier.specs.Files.{are_within}

@@ -1,6 +1,5 @@
 -- `verifier::files::judged` meets its contract: the call asked for is judged with the request's own
 -- identifier, the line and the new state's text are written.
--- the identifier is in its room
 use mathlib.Core.Path.{◌≡◌, sym}
 use Prim.Native.Nat.{◌≤◌}
 use native.Mathlib.Omega.{arith}

@@ -1,6 +1,5 @@
 -- `verifier::request::read_request` meets its contract: there is one line; its word tells the kind,
 -- and the other fields are left to `with_fields`.
--- the first line
 use mathlib.Core.Path.{sym, ◌∙◌, ap}
 use Prim.Native.Nat.{◌-◌, ◌≤◌}
 use native.Mathlib.Omega.{arith}

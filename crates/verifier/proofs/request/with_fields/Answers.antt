@@ -1,6 +1,5 @@
 -- `verifier::request::with_fields` meets its contract: after the identifier and the clock the line
 -- ends; each test that fails is a way in which they are not read.
--- the field at the cursor encodes a byte string
 use mathlib.Core.Path.{◌≡◌, sym, ◌∙◌, ap}
 use mathlib.Core.Option.{some}
 use native.Mathlib.Omega.{arith}

@@ -1,6 +1,5 @@
 -- `inputs::state::State::is_valid` meets its contract: the tests of the struct decide, one after
 -- the other.
--- the tests of the struct decide
 use mathlib.Core.Path.{◌≡◌, sym, ◌∙◌}
 use mathlib.Core.Bool.{◌&&◌}
 use Rattle.lists.specs.Choice.{is_some}
