@@ -4,4 +4,4 @@ use Rattle.hash.proofs.HasherLaws.{closed_law}
 use Rattle.hash.proofs.hasher.Hasher.finish.Goals as goal
 
 pub returns : goal.returns
-returns c = closed_law c.args.self c.closed.result c.closed.ensures
+returns c = closed_law c.args.self c.finish.result c.finish.ensures
