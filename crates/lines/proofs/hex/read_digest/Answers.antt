@@ -5,14 +5,13 @@ use Prim.Native.Nat.{◌+◌, ◌*◌}
 use native.Mathlib.Omega.{arith}
 use lib.ListN.{drop, length-set}
 use Rattle.lines.specs.Hex.{unhex}
-use Rattle.lines.specs.Readings.{as_digest}
 use Rattle.lines.proofs.ReadingLaws.{digest_long, digest_other, digest_some, digit-pair, digit-other}
 use Rattle.lines.proofs.ReadingLaws.{digit-other-second, unhex-pair, unhex-end, digits_none, fill_step}
 use Rattle.lines.proofs.ReadingLaws.{fill_end}
 use Rattle.lines.proofs.hex.read_digest.Goals as goal
 
 pub returns-then-s-ne-DIGITS : goal.returns-then-s-ne-DIGITS
-returns-then-s-ne-DIGITS c = c.no_digest.ensures ∙ sym (digest_long c.args.s.now c.if-s-ne-DIGITS.true)
+returns-then-s-ne-DIGITS c = sym (digest_long c.args.s.now c.if-s-ne-DIGITS.true)
 
 pub loop-i-init : goal.loop-i-init
 loop-i-init c = (omega arith, refl, omega arith, refl, refl)
@@ -22,7 +21,7 @@ returns-then-not-is_hex_digit c =
     let s = c.args.s.now in
     let i = c.loop-i.i in
     let e = sym c.is_hex_digit.ensures ∙ c.if-not-is_hex_digit.true in
-    c.no_digest-then-not-is_hex_digit.ensures ∙ sym (digest_other s (c.loop-i.invariant.3 ∙ digit-other s (2 * i) (omega arith) e))
+    sym (digest_other s (c.loop-i.invariant.3 ∙ digit-other s (2 * i) (omega arith) e))
 
 pub returns-then-not-is_hex_digit-2 : goal.returns-then-not-is_hex_digit-2
 returns-then-not-is_hex_digit-2 c =
@@ -30,7 +29,7 @@ returns-then-not-is_hex_digit-2 c =
     let i = c.loop-i.i in
     let d = sym c.is_hex_digit.ensures ∙ c.if-not-is_hex_digit.false in
     let e = sym c.is_hex_digit-in-loop-i.ensures ∙ c.if-not-is_hex_digit-2.true in
-    c.no_digest-then-not-is_hex_digit-2.ensures ∙ sym (digest_other s (c.loop-i.invariant.3 ∙ digit-other-second s (2 * i) (omega arith) d e))
+    sym (digest_other s (c.loop-i.invariant.3 ∙ digit-other-second s (2 * i) (omega arith) d e))
 
 pub digit_value-requires : goal.digit_value-requires
 digit_value-requires c = sym c.is_hex_digit.ensures ∙ c.if-not-is_hex_digit.false
@@ -50,7 +49,6 @@ loop-i-preserved c =
     (omega arith, simp length-set c.loop-i.invariant.1, c.loop-i.invariant.2, rw n (c.loop-i.invariant.3 ∙ digit-pair s (2 * i) (omega arith) d e), rw n f)
 
 pub returns : goal.returns
-unfolding as_digest
 returns c =
     let s = c.args.s.now in
     let i = c.loop-i.i in
