@@ -13,9 +13,14 @@ use lines::layout::Layout;
 // leaf.
 #[derive(Clone, Copy)]
 pub enum Terminal {
-    SearchedLeaf { commitment: [u8; 32] },
+    SearchedLeaf {
+        commitment: [u8; 32],
+    },
     Empty,
-    OtherLeaf { output: [u8; 32], commitment: [u8; 32] },
+    OtherLeaf {
+        output: [u8; 32],
+        commitment: [u8; 32],
+    },
 }
 
 // The first byte of a leaf's string, and of a parent's (001, 10.9).
@@ -41,7 +46,10 @@ fn terminal_value(output: [u8; 32], terminal: Terminal) -> [u8; 32]
     match terminal {
         Terminal::SearchedLeaf { commitment } => digest_65(LEAF, output, commitment),
         Terminal::Empty => [0u8; 32],
-        Terminal::OtherLeaf { output: other, commitment } => digest_65(LEAF, other, commitment),
+        Terminal::OtherLeaf {
+            output: other,
+            commitment,
+        } => digest_65(LEAF, other, commitment),
     }
 }
 
@@ -71,7 +79,8 @@ pub fn lookup_root(output: [u8; 32], terminal: Terminal, siblings: &[u8]) -> [u8
     let mut value = terminal_value(output, terminal);
     for depth in (0..sibling_count(siblings)).rev() {
         let sibling = sibling_at(siblings, depth);
-        value = parent_value(bit_at(output, depth), value, sibling);
+        let parent = parent_value(bit_at(output, depth), value, sibling);
+        value = parent;
     }
     value
 }
@@ -99,6 +108,7 @@ pub fn terminal_fits(output: [u8; 32], terminal: Terminal, depth: usize) -> bool
             let shared = shared_bits(output, other);
             shared < OUTPUT_BITS && depth <= shared
         }
-        Terminal::SearchedLeaf { .. } | Terminal::Empty => true,
+        Terminal::SearchedLeaf { .. } => true,
+        Terminal::Empty => true,
     }
 }
