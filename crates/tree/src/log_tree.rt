@@ -14,7 +14,6 @@ use crate::log_text::{entry_from, leaf_at, next_line, node_at, position_at, stor
 use crate::search_tree::power;
 use hash::strings::digest_66;
 use lines::layout::Layout;
-use lines::part::equal;
 
 // The bytes of a value.
 const VALUE: usize = 32;
@@ -147,7 +146,7 @@ fn is_met(kept_size: u64, kept: &[u8], start: u64, width: u64, value: [u8; 32]) 
 {
     if is_full(kept_size, start, width) {
         let v = kept_value(kept_size, kept, start, width);
-        return equal(&value, &v);
+        return value == v;
     }
     true
 }
@@ -161,7 +160,7 @@ fn is_entry_met(kept_size: u64, kept: &[u8], start: u64, value: [u8; 32]) -> boo
     if start + 1 == kept_size {
         if start % 2 == 0 {
             let last = kept_value(kept_size, kept, start, 1);
-            return equal(&value, &last);
+            return value == last;
         }
     }
     true

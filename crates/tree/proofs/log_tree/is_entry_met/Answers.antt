@@ -1,6 +1,7 @@
 -- `tree::log_tree::is_entry_met` meets its contract: the last entry of an odd number is compared,
 -- another is not.
 use mathlib.Core.Path.{◌∙◌}
+use Rattle.lists.proofs.SameLaws.{slices_same}
 use Rattle.tree.specs.LogHead.{known_in}
 use Rattle.tree.proofs.WalkedLaws.{agrees_full, agrees-none}
 use Rattle.tree.proofs.WalkLaws.{whole_one, entry-full, entry-even, entry-inner}
@@ -15,7 +16,7 @@ pub returns-then-start-eq0 : goal.returns-then-start-eq0
 unfolding known_in
 returns-then-start-eq0 c =
     let p = c.requires in
-    c.equal.ensures ∙ agrees_full _ _ _ (entry-full _ _ p.0 c.if-start-kept_size.true c.if-start-eq0.true) _ c.kept_value-last.ensures
+    c.eq.ensures ∙ slices_same _ _ ∙ agrees_full _ _ _ (entry-full _ _ p.0 c.if-start-kept_size.true c.if-start-eq0.true) _ c.kept_value-last.ensures
 
 pub returns-else-start-eq0 : goal.returns-else-start-eq0
 unfolding known_in
