@@ -11,6 +11,11 @@ fn block(first: [u8; 32], second: [u8; 32]) -> [u8; 1280] {
     b
 }
 
+// The first three values of a block.
+fn first_three(rt: &impl Print, values: &[u8; 1280]) {
+    bytes(rt, &values[..96]);
+}
+
 // Of a log of 14 entries: a name, a root, whether the kept values were met, and the first three
 // values.
 fn head(
@@ -27,7 +32,7 @@ fn head(
     let root = h.root;
     bytes(rt, &root);
     whether(rt, h.met);
-    bytes(rt, &values[..96]);
+    first_three(rt, &values);
     end(rt);
 }
 
