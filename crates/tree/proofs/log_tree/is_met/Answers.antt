@@ -11,7 +11,7 @@ is_full-requires c = c.requires.0
 pub kept_value-v-requires : goal.kept_value-v-requires
 kept_value-v-requires c =
     let p = c.requires in
-    record { whole = (p.0, sym c.is_full.ensures ∙ c.if-is_full.true); kept_size_bound = (p.1, p.2) }
+    record { whole = (p.0, sym c.is_full.ensures ∙ c.if-is_full.true); kept_size_bound = p.1 }
 
 pub returns-then-is_full : goal.returns-then-is_full
 unfolding known_in

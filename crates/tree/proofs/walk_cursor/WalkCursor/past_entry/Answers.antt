@@ -1,9 +1,9 @@
--- `tree::log_tree::Cursor::past_entry` meets its contract: the next entry line is looked for after
+-- `tree::walk_cursor::WalkCursor::past_entry` meets its contract: the next entry line is looked for after
 -- this one.
 use mathlib.Core.Path.{ap, ◌∙◌}
 use Prim.Native.Nat.{ℕ}
 use Rattle.tree.specs.LogWalk.{cursor_from}
-use Rattle.tree.proofs.log_tree.WalkCursor.past_entry.Goals as goal
+use Rattle.tree.proofs.walk_cursor.WalkCursor.past_entry.Goals as goal
 
 pub returns : goal.returns
 returns c =
