@@ -10,6 +10,7 @@ use native.Mathlib.Omega.{arith}
 use lib.Dec.{leb, ltb}
 use lib.ListN.{length, take, length-take}
 use borrow.Author.Tests.{le-leb, lt-ltb, le-ltb, leb-true, leb-false}
+use Rattle.std.specs.Prelude.{Some, None, Option as CodeOption}
 use Rattle.lists.specs.Choice.{choose, is_some}
 use Rattle.lists.specs.Lists.{Bytes, written}
 use Rattle.lines.specs.Hex.{read_hex}
@@ -37,8 +38,7 @@ use Rattle.inputs.proofs.PairLaws.{pairs_few}
 use Rattle.checks.specs.declared.readings.Call.{Call as CallBlock}
 use Rattle.checks.specs.declared.trial.Checked.{Checked}
 use Rattle.checks.specs.declared.call.Answer.{Answer}
-use Rattle.checks.specs.declared.map.NewMap.{NewMap}
-use Rattle.checks.specs.Map.{IsMap, Holds, HasPair, HoldsAll, IsNewMap, pairs_in, put_version}
+use Rattle.checks.specs.Map.{IsMap, Holds, HoldsIfRoom, IsNewMap, pairs_in, put_version}
 use Rattle.checks.specs.Calls.{block_after, version_of, answer_of, rules16, IsFirst, value_by, is_search}
 use Rattle.checks.specs.Calls.{version_by}
 use Rattle.checks.specs.Calls.{Accepting, IsAcceptedAnswer, AreAcceptedBytes}
@@ -141,15 +141,28 @@ module _ (kind : Kind) (field out : Bytes) where
 
 -- ---- the new map
 
-module _ (kind : Kind) (n : ℕ) (m : MonitoringMap) (position version : ℕ) (r : NewMap) where
+module _ (kind : Kind) (n : ℕ) (m : MonitoringMap) (position version : ℕ) where
   -- of a search, with its pair
-  pub search-new : kind ≡ Search → HasPair m position version r → IsNewMap kind n m position version r
-  search-new e h = rw e h
+  pub search-new : (r : CodeOption MonitoringMap) → kind ≡ Search → HoldsIfRoom (put_version position version (pairs_in m)) r
+      → IsNewMap kind n m position version r
+  search-new r e h = rw e h
 
   -- of monitoring, moved
-  pub monitoring-new : kind ≡ Monitor → HoldsAll (map_after_monitoring n (pairs_in m)) r
-      → IsNewMap kind n m position version r
-  monitoring-new e h = rw e h
+  pub monitoring-new : (r : MonitoringMap) → IsMap m → kind ≡ Monitor
+      → Holds (map_after_monitoring n (pairs_in m)) r → IsNewMap kind n m position version (Some r)
+  monitoring-new r x e h = rw e (few, h)
+    where
+      few : length (map_after_monitoring n (pairs_in m)) ≤ map_limit
+      few =
+          let ps = take m.count m.positions in
+          let vs = take m.count m.versions in
+          omega (
+            arith,
+            x.few,
+            monitored_length n (pairs_in m),
+            pairs_few ps vs,
+            length-take m.count m.positions,
+          )
 
 -- ---- a call to which none of 1 to 15 applies
 
@@ -196,140 +209,113 @@ module _ (text : Bytes) (k : CallBlock) (b : StateBlock) (r : Checked) (block : 
         monitoring_map_lem c (nothing-found text k.response e c g.parts)
         ∙ ap₂ map_after_monitoring (ap (λ (p : Parts). p.tree_size) g.parts) call-pairs
 
-    -- they have room
-    moved-few : IsMap b.map → k.response.kind ≡ Monitor → length (map_after c) ≤ map_limit
-    moved-few h e =
-        let ps = take b.map.count b.map.positions in
-        let vs = take b.map.count b.map.versions in
-        omega (
-          arith,
-          h.few,
-          ap length (map-moved e),
-          monitored_length k.response.tree_size (pairs_in b.map),
-          pairs_few ps vs,
-          length-take b.map.count b.map.positions,
-        )
-
-    -- whether there is room for the new map, and what holds it
-    new-map : (kind : Kind) → k.response.kind ≡ kind → IsMap b.map → (m : NewMap)
-        → IsNewMap kind k.response.tree_size b.map r.position number m
-        → (m.fits ≡ leb (length (map_after c)) map_limit) × (m.fits ≡ true → Holds (map_after c) m.map)
-    new-map Search e h m n =
-        subst (λ (es : List MapEntry). (m.fits ≡ leb (length es) map_limit) × (m.fits ≡ true → Holds es m.map))
-        (sym (map-put e)) n
-    new-map Monitor e h m (f, n) = (
-      f ∙ sym (le-leb (length (map_after c)) map_limit (moved-few h e)),
-      λ _. subst (λ (es : List MapEntry). Holds es m.map) (sym (map-moved e)) n,
-    )
+    -- the new map holds them, if it has room
+    new-map : (kind : Kind) → k.response.kind ≡ kind → (m : CodeOption MonitoringMap)
+        → IsNewMap kind k.response.tree_size b.map r.position number m → HoldsIfRoom (map_after c) m
+    new-map Search e m n = subst (λ (es : List MapEntry). HoldsIfRoom es m) (sym (map-put e)) n
+    new-map Monitor e m n = subst (λ (es : List MapEntry). HoldsIfRoom es m) (sym (map-moved e)) n
 
   -- ---- the ways out
 
-  module _ (x : Struct b) (m : NewMap)
-      (h : IsNewMap k.response.kind k.response.tree_size b.map r.position number m)
-      (out : Bytes)
-    where
-      -- the answer, and the output bytes
-      abbrev Answers : Answer → Bytes → Type 0
-      Answers a out' =
-          IsAcceptedAnswer text k b r block (length out) a × AreAcceptedBytes text k b r block out out'
+  module _ (x : Struct b) (out : Bytes) where
+    -- the answer, and the output bytes
+    abbrev Answers : Answer → Bytes → Type 0
+    Answers a out' =
+        IsAcceptedAnswer text k b r block (length out) a × AreAcceptedBytes text k b r block out out'
 
-      -- room for the map
-      map-room : (c : Call) → Passes (length out) c → m.fits ≡ leb (length (map_after c)) map_limit
-      map-room c g = (new-map c (length out) g k.response.kind refl x.is_map m h).0
+    -- 16 is the answer
+    sixteen : (a : Answer) (out' : Bytes)
+        → a ≡ refusal 16 b
+        → ((c : Call) → Passes (length out) c → out' ≡ out)
+        → ((c : Call) → Passes (length out) c → room_missing c ≡ true) → Answers a out'
+    sixteen a out' q w e = (
+      λ c g. q ∙ answer_refused b (tried rules16 c) 16 (room_refused c (e c g)),
+      λ c g. w c g ∙ bytes_refused out (tried rules16 c) 16 (room_refused c (e c g)),
+    )
 
-      -- 16 is the answer
-      sixteen : (a : Answer) (out' : Bytes)
-          → a ≡ refusal 16 b
-          → ((c : Call) → Passes (length out) c → out' ≡ out)
-          → ((c : Call) → Passes (length out) c → room_missing c ≡ true) → Answers a out'
-      sixteen a out' q w e = (
-        λ c g. q ∙ answer_refused b (tried rules16 c) 16 (room_refused c (e c g)),
-        λ c g. w c g ∙ bytes_refused out (tried rules16 c) 16 (room_refused c (e c g)),
-      )
+    -- the map has no room for one pair more
+    pub map-full : IsNewMap k.response.kind k.response.tree_size b.map r.position number None → (a : Answer)
+        → a ≡ refusal 16 b
+        → Answers a out
+    unfolding room_missing
+    map-full h a q = sixteen a out q (λ c g. refl) λ c g.
+        rw (lt-ltb map_limit (length (map_after c)) (new-map c (length out) g k.response.kind refl None h))
+        (or-true (ltb c.inputs.room (length (bytes_found c))))
 
-      -- the map has no room for one pair more
-      pub map-full : m.fits ≡ false → (a : Answer)
-          → a ≡ refusal 16 b
-          → Answers a out
-      unfolding room_missing
-      map-full f a q = sixteen a out q (λ c g. refl) λ c g.
-          let n = leb-false (length (map_after c)) map_limit (sym (map-room c g) ∙ f) in
-          rw (lt-ltb map_limit (length (map_after c)) n)
-          (or-true (ltb c.inputs.room (length (bytes_found c))))
+    module _ (f : Bytes) (is_field : f ≡ field) (out' : Bytes) (o : Option ℕ)
+        (p : o ≡ offset_after_any out 0 (value_by k.response.kind f))
+        (w : out' ≡ put_any out 0 (value_by k.response.kind f))
+      where
+        -- what is found is put
+        found-put : (c : Call) → Passes (length out) c
+            → (o ≡ offset_after out 0 (bytes_found c)) × (out' ≡ put_at out 0 (bytes_found c))
+        found-put c g =
+            let (a, d) = put_some out 0 (value_by k.response.kind f) (bytes_found c)
+            (ap (value_by k.response.kind) is_field ∙ (finds c (length out) g k.response.kind refl).value) in
+            (p ∙ a, w ∙ d)
 
-      module _ (f : Bytes) (is_field : f ≡ field) (out' : Bytes) (o : Option ℕ)
-          (p : o ≡ offset_after_any out 0 (value_by k.response.kind f))
-          (w : out' ≡ put_any out 0 (value_by k.response.kind f))
-        where
-          -- what is found is put
-          found-put : (c : Call) → Passes (length out) c
-              → (o ≡ offset_after out 0 (bytes_found c)) × (out' ≡ put_at out 0 (bytes_found c))
-          found-put c g =
-              let (a, d) = put_some out 0 (value_by k.response.kind f) (bytes_found c)
-              (ap (value_by k.response.kind) is_field ∙ (finds c (length out) g k.response.kind refl).value) in
-              (p ∙ a, w ∙ d)
+        -- the output bytes are too few
+        pub output-full : o ≡ none → (a : Answer)
+            → a ≡ refusal 16 b
+            → Answers a out'
+        unfolding room_missing
+        output-full e a q = sixteen a out' q
+            (λ c g. (found-put c g).1 ∙ (put_over out 0 (bytes_found c) (omega (arith, over c g))).1)
+            (λ c g. rw (lt-ltb c.inputs.room (length (bytes_found c)) (omega (arith, g.is_room, over c g))) refl)
+          where
+            over : (c : Call) → Passes (length out) c → length out < length (bytes_found c)
+            over c g = offset-over out (bytes_found c) (sym (found-put c g).0 ∙ e)
 
-          -- the output bytes are too few
-          pub output-full : o ≡ none → (a : Answer)
-              → a ≡ refusal 16 b
-              → Answers a out'
-          unfolding room_missing
-          output-full e a q = sixteen a out' q
-              (λ c g. (found-put c g).1 ∙ (put_over out 0 (bytes_found c) (omega (arith, over c g))).1)
-              (λ c g. rw (lt-ltb c.inputs.room (length (bytes_found c)) (omega (arith, g.is_room, over c g))) refl)
-            where
-              over : (c : Call) → Passes (length out) c → length out < length (bytes_found c)
-              over c g = offset-over out (bytes_found c) (sym (found-put c g).0 ∙ e)
+        -- there is room for both: the call is accepted
+        pub both-fit : (m : MonitoringMap)
+            → IsNewMap k.response.kind k.response.tree_size b.map r.position number (Some m) → (n : ℕ) → o ≡ some n → (found : Bool)
+            → found ≡ is_search k.response.kind
+            → (version : ℕ) → version ≡ version_by k.response.kind number
+            → Answers
+            (record {
+              number = 0;
+              state = made b k.response.tree_size r.timestamp block m;
+              found = found;
+              version = version;
+              length = n;
+            })
+            out'
+        unfolding room_missing parts_in
+        both-fit m h n e found is_found version is_version = (λ c g. answer c g, λ c g. bytes c g)
+          where
+            fits : (c : Call) → Passes (length out) c
+                → (length (bytes_found c) ≤ length out) × (length (bytes_found c) ≡ n)
+            fits c g = offset-fits out (bytes_found c) n (sym (found-put c g).0 ∙ e)
 
-          -- there is room for both: the call is accepted
-          pub both-fit : m.fits ≡ true → (n : ℕ) → o ≡ some n → (found : Bool)
-              → found ≡ is_search k.response.kind
-              → (version : ℕ) → version ≡ version_by k.response.kind number
-              → Answers
-              (record {
-                number = 0;
-                state = made b k.response.tree_size r.timestamp block m.map;
-                found = found;
-                version = version;
-                length = n;
-              })
-              out'
-          unfolding room_missing parts_in
-          both-fit y n e found is_found version is_version = (λ c g. answer c g, λ c g. bytes c g)
-            where
-              fits : (c : Call) → Passes (length out) c
-                  → (length (bytes_found c) ≤ length out) × (length (bytes_found c) ≡ n)
-              fits c g = offset-fits out (bytes_found c) n (sym (found-put c g).0 ∙ e)
+            go : (c : Call) → Passes (length out) c → tried rules16 c ≡ passed c
+            go c g =
+                let l = (new-map c (length out) g k.response.kind refl (Some m) h).0 in
+                room_passed c (ap₂ ◌||◌
+                (le-ltb c.inputs.room (length (bytes_found c)) (omega (arith, g.is_room, (fits c g).0)))
+                (le-ltb map_limit (length (map_after c)) l))
 
-              go : (c : Call) → Passes (length out) c → tried rules16 c ≡ passed c
-              go c g =
-                  let l = leb-true (length (map_after c)) map_limit (sym (map-room c g) ∙ y) in
-                  room_passed c (ap₂ ◌||◌
-                  (le-ltb c.inputs.room (length (bytes_found c)) (omega (arith, g.is_room, (fits c g).0)))
-                  (le-ltb map_limit (length (map_after c)) l))
+            answer : (c : Call) → Passes (length out) c
+                → record {
+                  number = 0;
+                  state = made b k.response.tree_size r.timestamp block m;
+                  found = found;
+                  version = version;
+                  length = n;
+                }
+                ≡ answer_of b (tried rules16 c)
+            answer c g =
+                let z = finds c (length out) g k.response.kind refl in
+                let held = (new-map c (length out) g k.response.kind refl (Some m) h).1 in
+                let size : k.response.tree_size ≡ c.parts.tree_size =
+                sym (ap (λ (p : Parts). p.tree_size) g.parts) in
+                answer_passed b c (tried rules16 c)
+                (made b k.response.tree_size r.timestamp block m) found version n (go c g)
+                (made_next b k.response.tree_size r.timestamp block m c
+                (x.is_struct c.state g.state) size
+                g.leaves.timestamp g.leaves.values held)
+                (is_found ∙ z.found) (is_version ∙ z.version) (sym (fits c g).1)
 
-              answer : (c : Call) → Passes (length out) c
-                  → record {
-                    number = 0;
-                    state = made b k.response.tree_size r.timestamp block m.map;
-                    found = found;
-                    version = version;
-                    length = n;
-                  }
-                  ≡ answer_of b (tried rules16 c)
-              answer c g =
-                  let z = finds c (length out) g k.response.kind refl in
-                  let held = (new-map c (length out) g k.response.kind refl x.is_map m h).1 y in
-                  let size : k.response.tree_size ≡ c.parts.tree_size =
-                  sym (ap (λ (p : Parts). p.tree_size) g.parts) in
-                  answer_passed b c (tried rules16 c)
-                  (made b k.response.tree_size r.timestamp block m.map) found version n (go c g)
-                  (made_next b k.response.tree_size r.timestamp block m.map c
-                  (x.is_struct c.state g.state) size
-                  g.leaves.timestamp g.leaves.values held)
-                  (is_found ∙ z.found) (is_version ∙ z.version) (sym (fits c g).1)
-
-              bytes : (c : Call) → Passes (length out) c → out' ≡ output_after out (tried rules16 c)
-              bytes c g =
-                  (found-put c g).1 ∙ (put_fits out 0 (bytes_found c) (omega (arith, (fits c g).0))).1
-                  ∙ bytes_passed out c (tried rules16 c) (go c g)
+            bytes : (c : Call) → Passes (length out) c → out' ≡ output_after out (tried rules16 c)
+            bytes c g =
+                (found-put c g).1 ∙ (put_fits out 0 (bytes_found c) (omega (arith, (fits c g).0))).1
+                ∙ bytes_passed out c (tried rules16 c) (go c g)

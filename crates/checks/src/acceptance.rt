@@ -10,7 +10,7 @@ ghost use Rattle.checks.specs.Calls.{value_by, is_search, version_by, IsAccepted
 ghost use Rattle.checks.specs.Map.{IsMap, IsNewMap};
 
 use crate::call::{Answer, refused};
-use crate::map::{NewMap, moved_pairs, with_pair};
+use crate::map::{moved_pairs, with_pair};
 use crate::readings::Call;
 use crate::trial::Checked;
 use inputs::refusal::Refusal;
@@ -39,15 +39,13 @@ pub(crate) fn accepted(
     let kind = response.kind;
     let old = state.map;
     let version = response.target.version;
-    let map = new_map(kind, response.tree_size, old, checked.position, version);
-    if !map.fits {
+    let Some(map) = new_map(kind, response.tree_size, old, checked.position, version) else {
         return refused(Refusal::ROOM, state);
-    }
+    };
     let Put::Next(length) = put_value(kind, response.target.value.of(text), output) else {
         return refused(Refusal::ROOM, state);
     };
     let label = state.label;
-    let pairs = map.map;
     Answer {
         number: 0,
         state: State {
@@ -57,7 +55,7 @@ pub(crate) fn accepted(
                 timestamp: checked.timestamp,
                 values,
             },
-            map: pairs,
+            map,
         },
         found: is_search(kind),
         version: found_version(kind, version),
@@ -66,14 +64,20 @@ pub(crate) fn accepted(
 }
 
 // The new map: in a search with the version at the position of the first complete entry; in
-// monitoring each pair at the end of its right path.
-fn new_map(kind: Kind, tree_size: u64, map: MonitoringMap, position: u64, version: u32) -> NewMap
+// monitoring each pair at the end of its right path. None where it has no room.
+fn new_map(
+    kind: Kind,
+    tree_size: u64,
+    map: MonitoringMap,
+    position: u64,
+    version: u32,
+) -> Option<MonitoringMap>
     requires { IsMap map }
     ensures { IsNewMap kind tree_size map position version result }
 {
     match kind {
         Kind::Search => with_pair(map, position, version),
-        Kind::Monitor => moved_pairs(tree_size, map),
+        Kind::Monitor => Some(moved_pairs(tree_size, map)),
     }
 }
 

@@ -4,7 +4,6 @@ ghost use Rattle.std.specs.Prelude.{◌≡◌, ◌≤◌, length, take};
 ghost use Rattle.rules.specs.Limits.{label_limit};
 ghost use Rattle.checks.specs.Calls.{Checkable, Is6to13Tried, Shapeable, Is9to13Tried, Is14Tried};
 ghost use Rattle.checks.specs.Calls.{Is9to11Tried, IsShape};
-ghost use Rattle.checks.specs.Steps.{records_capacity};
 
 use crate::call::AskedKind;
 use crate::lookups::try_12_and_13;
@@ -13,7 +12,7 @@ use crate::readings::Call;
 use crate::request::try_6_to_8;
 use crate::search::search_asked;
 use crate::steps::Commitments;
-use crate::timestamps::near_clock;
+use crate::timestamps::{Timestamps, near_clock};
 use inputs::refusal::Refusal;
 use inputs::response_lines::Kind;
 use tree::log_head::{LogHead, log_head, nodes_asked};
@@ -36,14 +35,12 @@ pub(crate) struct Checked {
     pub(crate) root: [u8; 32],
 }
 
-// Whether steps and entries are as asked; then whether there is an output of each step's version,
-// whether the times of the entries fit each other and what is kept, and the time of the last one.
+// Of a response whose steps and entries are as asked: whether there is an output of each step's
+// version, and the times of the entries.
 #[derive(Clone, Copy)]
 pub(crate) struct Shape {
-    pub(crate) asked: bool,
     pub(crate) outputs: bool,
-    pub(crate) timestamps: bool,
-    pub(crate) timestamp: u64,
+    pub(crate) timestamps: Timestamps,
 }
 
 // The number of the first refusal from 9 to 11 that applies, or 0; the time of the last entry.
@@ -180,17 +177,15 @@ fn try_9_to_11(
     positions: &[u64],
     versions: &[u32],
     outputs: &[u8],
-    commitments: &mut [u32],
+    commitments: &mut [u32; Commitments::RECORDS],
 ) -> Tried9to11
     requires possible { Shapeable text.now call positions.now versions.now outputs.now }
-    requires room { length commitments.old ≡ records_capacity }
     ensures { Is9to11Tried text.now call positions.now versions.now
         outputs.now result commitments.new }
 {
-    let shape = asked_by_kind(text, call, positions, versions, outputs, commitments);
-    if !shape.asked {
+    let Some(shape) = asked_by_kind(text, call, positions, versions, outputs, commitments) else {
         return refused_shape(Refusal::SHAPE);
-    }
+    };
     let nodes = nodes_asked(
         call.response.entries.part.of(text),
         call.response.tree_size,
@@ -202,21 +197,21 @@ fn try_9_to_11(
     if !shape.outputs {
         return refused_shape(Refusal::MISSING_OUTPUT);
     }
-    if !shape.timestamps {
+    if !shape.timestamps.fit {
         return refused_shape(Refusal::TIME);
     }
     let ahead = call.configuration.ahead;
     let behind = call.configuration.behind;
-    if !near_clock(shape.timestamp, call.clock, ahead, behind) {
+    if !near_clock(shape.timestamps.latest, call.clock, ahead, behind) {
         return refused_shape(Refusal::TIME);
     }
     Tried9to11 {
         number: 0,
-        timestamp: shape.timestamp,
+        timestamp: shape.timestamps.latest,
     }
 }
 
-// Whether the response shows what its kind asks. The offsets of the commitments go into the table
+// What else is told of a response that shows what its kind asks. The offsets of the commitments go into the table
 // lent.
 fn asked_by_kind(
     text: &[u8],
@@ -224,10 +219,9 @@ fn asked_by_kind(
     positions: &[u64],
     versions: &[u32],
     outputs: &[u8],
-    commitments: &mut [u32],
-) -> Shape
+    commitments: &mut [u32; Commitments::RECORDS],
+) -> Option<Shape>
     requires possible { Shapeable text.now call positions.now versions.now outputs.now }
-    requires room { length commitments.old ≡ records_capacity }
     ensures { IsShape text.now call positions.now versions.now
         outputs.now result commitments.new }
 {

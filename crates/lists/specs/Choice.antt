@@ -1,5 +1,5 @@
 -- Choices by a test. Steps that may fail are written in `do` blocks, over the library's `bind`.
-use Rattle.std.specs.Prelude.{Bool, true, false}
+use Rattle.std.specs.Prelude.{Bool, true, false, Some, None, Option as CodeOption}
 use Rattle.std.proofs.Math.Option.{Option, none, some}
 
 -- the first where the test holds, else the second; only the chosen one is worked out
@@ -27,3 +27,8 @@ is_some (some a) = true
 unfoldable pub or_else : {A : Type 0} → Option A → Option A → Option A
 or_else none b = b
 or_else (some a) b = some a
+
+-- an answer of the code, as the definitions have it
+abbrev pub option_of : {A : Type 0} → CodeOption A → Option A
+option_of (Some a) = some a
+option_of None = none
