@@ -1,15 +1,14 @@
 -- Laws of numbers as bytes and of lists filled up with zeros (specs/Bytes.antt). A buffer that
 -- starts all zero and is filled from its front is a `padded` list at each step.
-use Rattle.std.proofs.Common.{◌≡◌, ℕ, zero, suc, ◌+◌, ◌-◌, ◌/◌, ◌%◌, ◌<◌, ◌≤◌, List, [], ◌∷◌, ◌++◌, map, length, get_or, take, drop, set, replicate, sym, refl, ap, ◌∙◌, append_assoc, append-nil, le_of_eq, arith, length-append, length-drop, length-take, length-take-le, take_all, take_at, drop_at}
+use Rattle.std.proofs.Common.{◌≡◌, ℕ, zero, suc, ◌+◌, ◌-◌, ◌/◌, ◌%◌, ◌<◌, ◌≤◌, List, [], ◌∷◌, ◌++◌, map, length, get_or, take, drop, set, replicate, sym, refl, ap, ◌∙◌, append_assoc, append-nil, le_of_eq, arith, length-append, length-drop, length-take, length-take-le, take_all, take_at, drop_at, Bor, add-one, take-suc, ◌*◌, ◌^◌}
 use lib.ListN.{length-replicate, length-map, replicate-append-replicate}
 use lib.Seq.{paste, drop-append-add, set_at, take-length}
-use Rattle.std.proofs.Common.{Bor, add-one, take-suc, ◌*◌, ◌^◌}
 use Rattle.std.proofs.lemmas.Slice.{put_mid-paste}
 use Rattle.std.proofs.lemmas.List.Concat.{flat_map-append}
 use Rattle.std.proofs.lemmas.List.Folds.{length-flat_map-take}
 use borrow.Rule.Slice.PartMut.{put_mid}
 use Rattle.std.proofs.Math.Nat.{div-div-eq-div-mul, pow-succ'}
-use Rattle.std.specs.Int.{byte_at, bytes_high_first, from_be_bytes, w32}
+use Rattle.std.specs.Int.{byte_at as byte_from_end, bytes_high_first, from_be_bytes, w32}
 use Rattle.hash.specs.Bytes.{AreBytes, big_endian, joined, padded}
 
 -- ---- bytes
@@ -17,6 +16,11 @@ use Rattle.hash.specs.Bytes.{AreBytes, big_endian, joined, padded}
 pub bytes_append : (s t : List ℕ) → AreBytes s → AreBytes t → AreBytes (s ++ t)
 bytes_append [] t hs ht = ht
 bytes_append (x ∷ s) t hs ht = (hs.0, bytes_append s t hs.1 ht)
+
+pub byte_at : (s : List ℕ) (i : ℕ) → AreBytes s → get_or s i 0 < 256
+byte_at [] i h = omega arith
+byte_at (x ∷ s) zero h = h.0
+byte_at (x ∷ s) (suc i) h = byte_at s i h.1
 
 -- zeros are bytes
 pub bytes_zeros : (n : ℕ) → AreBytes (replicate n 0)
@@ -48,7 +52,7 @@ length_big_endian zero x = refl
 length_big_endian (suc n) x = let e = length_big_endian n (x / 256) in simp length-append (omega arith)
 
 -- std's bytes of a number are these
-byte_higher : (k x : ℕ) → byte_at (suc k) x ≡ byte_at k (x / 256)
+byte_higher : (k x : ℕ) → byte_from_end (suc k) x ≡ byte_from_end k (x / 256)
 byte_higher zero x = refl
 byte_higher (suc k) x = rw (pow-succ' 256 (suc k), ← div-div-eq-div-mul x 256 (256 ^ suc k))
 

@@ -9,8 +9,7 @@ use Rattle.hash.specs.Block.{compressed}
 use Rattle.hash.specs.Sha256.{initial, blocks, finished, sha256}
 use Rattle.hash.specs.Hasher.{pending, started, taken, updated, closed}
 use Rattle.hash.proofs.BytesLaws.{padded_nil, padded_full, take_padded}
-use Rattle.hash.proofs.MessageLaws.{blocks_zero, blocks_more, blocks_add, blocks_front, finished_split}
-use Rattle.hash.proofs.MessageLaws.{finished_count}
+use Rattle.hash.proofs.MessageLaws.{blocks_zero, blocks_more, blocks_add, blocks_front, finished_split, finished_count}
 
 -- whole blocks may be taken first
 taken_split : (n : ℕ) (v : HashValue) (s : List ℕ) (l : ℕ) → 64 * n ≤ length s → taken v s l ≡ taken (blocks n v s) (drop (64 * n) s) l

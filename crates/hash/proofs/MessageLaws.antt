@@ -9,8 +9,7 @@ use Rattle.hash.specs.declared.block.HashValue.{HashValue}
 use Rattle.hash.specs.Bytes.{AreBytes, big_endian, padded}
 use Rattle.hash.specs.Block.{compressed}
 use Rattle.hash.specs.Sha256.{padding, blocks, initial, digest_of, finished, sha256}
-use Rattle.hash.proofs.BytesLaws.{bytes_append, bytes_big_endian, length_big_endian, length_padded}
-use Rattle.hash.proofs.BytesLaws.{padded_copy, padded_zeros}
+use Rattle.hash.proofs.BytesLaws.{bytes_append, bytes_big_endian, length_big_endian, length_padded, padded_copy, padded_zeros}
 
 -- ---- the blocks
 

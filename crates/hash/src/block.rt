@@ -64,6 +64,7 @@ fn schedule_word(w2: u32, w7: u32, w15: u32, w16: u32) -> u32
 }
 
 // Step 1 for the next sixteen words, which take the places of the sixteen words w.
+// Sixteen stores written out: a loop, which takes its indices modulo 16, was slower.
 fn next_words(w: &mut [u32; 16])
     ensures { w.new ≡ drop 16 (Block.extended 16 w.old) }
 {
@@ -109,6 +110,7 @@ fn round(v: HashValue, k: u32, w: u32) -> HashValue
 }
 
 // Step 3 for sixteen t, with their constants k and their words w.
+// Sixteen calls written out: a loop over the constants and words was slower.
 fn sixteen_rounds(v: HashValue, k: &[u32; 16], w: &[u32; 16]) -> HashValue
     ensures { result ≡ Block.rounds 16 v k.now w.now }
 {
