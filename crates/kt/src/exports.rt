@@ -52,7 +52,8 @@ pub extern "C" fn kt_ladder(version: u32, versions: &mut [u8]) -> u64
     if versions.len() < VERSION_LENGTH * length {
         return 0;
     }
-    for (i, v) in ladder.versions[..length].iter().enumerate() {
+    let all = &ladder.versions[..length];
+    for (i, v) in all.iter().enumerate() {
         put_version(versions, VERSION_LENGTH * i, *v);
     }
     length as u64
