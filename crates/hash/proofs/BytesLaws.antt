@@ -1,7 +1,7 @@
 -- Laws of numbers as bytes and of lists filled up with zeros (specs/Bytes.antt). A buffer that
 -- starts all zero and is filled from its front is a `padded` list at each step.
-use Rattle.std.proofs.Common.{◌≡◌, ℕ, zero, suc, ◌+◌, ◌-◌, ◌/◌, ◌%◌, ◌<◌, ◌≤◌, List, [], ◌∷◌, ◌++◌, map, length, get_or, take, drop, set, replicate, sym, refl, ap, ◌∙◌, append_assoc, append-nil, le_of_eq, arith, length-append, length-drop, length-take, length-take-le, take_all, take_at, drop_at, Bor, add-one, take-suc, ◌*◌, ◌^◌}
-use lib.ListN.{length-replicate, length-map, replicate-append-replicate}
+use Rattle.std.proofs.Common.{◌≡◌, ℕ, zero, suc, ◌+◌, ◌-◌, ◌/◌, ◌%◌, ◌<◌, ◌≤◌, List, [], ◌∷◌, ◌++◌, length, get_or, take, drop, set, replicate, sym, refl, ap, ◌∙◌, append_assoc, append-nil, le_of_eq, arith, length-append, length-drop, length-take, length-take-le, take_all, take_at, drop_at, Bor, add-one, take-suc, ◌*◌, ◌^◌}
+use lib.ListN.{length-replicate, replicate-append-replicate}
 use lib.Seq.{paste, drop-append-add, set_at, take-length}
 use Rattle.std.proofs.lemmas.Slice.{put_mid-paste}
 use Rattle.std.proofs.lemmas.List.Concat.{flat_map-append}
@@ -148,10 +148,6 @@ padded_part ps n i at end d b c h k ha hb hc he =
       he ∙ rw (more, length-append (joined (take i ps)) c, ha),
       padded_copy n at end (joined (take i ps)) c b hb (sym ha) he (omega arith) ∙ rw (← more),
     )
-
--- a struct's array field has the length that its type says
-pub field_length : (b : List ℕ) (n : ℕ) → length (map (λ x. x) b) ≡ n → length b ≡ n
-field_length b n e = sym (length-map b (λ (x : ℕ). x)) ∙ e
 
 -- ---- parts of a slice, as the code lends them
 

@@ -25,6 +25,7 @@ pub fn number4(a: u8, b: u8, c: u8, d: u8) -> u32
 }
 
 // The eight bytes of a number.
+
 pub fn bytes8(x: u64) -> [u8; 8]
     ensures { (length result ≡ 8) × (result ≡ big_endian 8 x) }
 {

@@ -17,6 +17,7 @@ pub struct Hasher {
 
 impl Hasher {
     // Nothing has come.
+    #[tactic(auto, unfolding(crate::specs::Hasher::started))]
     pub fn new() -> Self
         ensures { result ≡ Hasher·.started }
     {
@@ -51,6 +52,7 @@ impl Hasher {
     }
 
     // The digest of all that has come.
+    #[tactic(auto, unfolding(crate::specs::Hasher::closed, crate::specs::Hasher::pending))]
     pub fn finish(self) -> [u8; 32]
         ensures { result ≡ Hasher·.closed self }
     {
