@@ -1,5 +1,5 @@
 -- `inputs::state::Label::of` meets its contract: zeros stand after the bytes of the label.
-use mathlib.Core.Path.{◌∙◌, ap}
+use mathlib.Core.Path.{ap}
 use Prim.Native.Nat.{ℕ}
 use mathlib.Core.List.{List}
 use lib.ListN.{length}

@@ -1,11 +1,11 @@
 -- `inputs::state::MonitoringMap::pairs_fit` meets its contract: the pairs so far fit, so those that
 -- are left decide, from the position after the last on.
-use mathlib.Core.Path.{◌≡◌, sym, ◌∙◌, ap}
+use mathlib.Core.Path.{◌≡◌, ◌∙◌}
 use native.Mathlib.Omega.{arith}
 use lib.ListN.{length, take, length-take}
 use Rattle.std.proofs.Common.{inl, inr, rules}
 use Rattle.rules.specs.Limits.{map_limit}
-use Rattle.inputs.proofs.PairLaws.{PairsLeft, pairs_start, pairs_end, pairs-low, pairs-high, pairs-great, pairs_next}
+use Rattle.inputs.proofs.PairLaws.{pairs_start, pairs_end, pairs-low, pairs-high, pairs-great, pairs_next}
 use Rattle.inputs.proofs.state.MonitoringMap.pairs_fit.Goals.{then-position-least-via-then-position-least}
 use Rattle.inputs.proofs.state.MonitoringMap.pairs_fit.Goals.{then-position-least-via-else-position-least+then-size-position}
 use Rattle.inputs.proofs.state.MonitoringMap.pairs_fit.Goals.{then-position-least-via-else-position-least+else-size-position+then-version-gt-GREATEST_VERSION}

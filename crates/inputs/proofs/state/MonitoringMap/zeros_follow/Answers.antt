@@ -1,16 +1,13 @@
 -- `inputs::state::MonitoringMap::zeros_follow` meets its contract: the positions decide, and else
 -- the versions.
-use mathlib.Core.Path.{◌≡◌, refl, sym, ◌∙◌}
-use mathlib.Core.Bool.{true, false}
+use mathlib.Core.Path.{refl, sym, ◌∙◌}
 use Prim.Native.Nat.{ℕ}
 use lib.Dec.{eqb}
-use lib.ListN.{drop}
 use Rattle.std.proofs.Common.{rules}
 use Rattle.std.proofs.lemmas.Iterator.{YieldsList-from_slice}
 use Rattle.std.proofs.lemmas.Iterator.Adapters.{YieldsList-from_skip}
 use Rattle.std.proofs.lemmas.Iterator.Search.{all_from_yields_List}
 use borrow.Author.Tests.{tests}
-use Rattle.inputs.specs.State.{zeros_from}
 use Rattle.inputs.proofs.RoomLaws.{zeros_tested}
 use Rattle.inputs.proofs.state.MonitoringMap.zeros_follow.Goals as goal
 

@@ -1,11 +1,9 @@
 -- `inputs::state::State::is_valid` meets its contract: the tests of the struct decide, one after
 -- the other.
-use mathlib.Core.Path.{◌≡◌, refl, sym, ◌∙◌}
-use mathlib.Core.Bool.{true, false, ◌&&◌, and_assoc}
+use mathlib.Core.Path.{◌≡◌, refl, ◌∙◌}
+use mathlib.Core.Bool.{true, false, ◌&&◌}
 use borrow.Author.Rules.{rules}
-use Rattle.lists.specs.Choice.{is_some}
-use Rattle.rules.specs.Refusals.{valid_state}
-use Rattle.inputs.specs.State.{state_of, label_fits, log_fits, map_fits}
+use Rattle.inputs.specs.State.{label_fits, log_fits}
 use Rattle.inputs.proofs.StateBlockLaws.{block_valid}
 use Rattle.inputs.proofs.state.State.is_valid.Goals.{then-fits, else-fits}
 use Rattle.inputs.proofs.state.State.is_valid.Goals as goal
@@ -25,4 +23,4 @@ returns-else-fits-2 c =
       | then-fits w ↦ (let l : label_fits b.label ≡ true = cc in let g : log_fits b.log ≡ false = cc in rw (l, g) refl)
       | else-fits w ↦ (let l : label_fits b.label ≡ false = cc in rw l refl)
     ] in
-    c.if-fits-2.false ∙ (rw (and_assoc (label_fits b.label) (log_fits b.log) (map_fits b.log.size b.map), both) at (block_valid b (search rules) (search rules)))
+    c.if-fits-2.false ∙ (rw both at (block_valid b (search rules) (search rules)))
