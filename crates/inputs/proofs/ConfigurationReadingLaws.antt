@@ -17,11 +17,11 @@ use Rattle.lines.specs.declared.part.Part.{Part}
 use Rattle.lines.specs.Readings.{part_of}
 use Rattle.lines.proofs.OffsetLaws.{at_cons, at_end}
 use Rattle.rules.specs.Encoding.{bytes_after, uint, read_uint, read_opaque}
-use Rattle.rules.specs.Configuration.{Configuration, p256_suite, contact_monitoring, read_present, read_optional}
+use Rattle.rules.specs.Configuration.{Configuration, p256_suite, contact_monitoring, read_present}
 use Rattle.rules.specs.Configuration.{read_configuration}
 use Rattle.rules.proofs.EncodingLaws.{after_byte, after_none, byte_fits, bytes_front, bytes_short, uint_front}
 use Rattle.rules.proofs.EncodingLaws.{uint_short}
-use Rattle.inputs.specs.Configuration.{uint8, uint16, uint64, read_front, read_times}
+use Rattle.inputs.specs.Configuration.{uint64, read_front, read_times}
 
 -- ---- numbers
 
