@@ -1,7 +1,7 @@
--- `tree::log_tree::joined` meets its contract: the string is that of the children's values, each
+-- `tree::known_log::KnownLog::joined` meets its contract: the string is that of the children's values, each
 -- after its mark, and all kept values are met if this one is and those below it are.
 use Rattle.tree.proofs.WalkedLaws.{joined_made}
-use Rattle.tree.proofs.log_tree.joined.Goals as goal
+use Rattle.tree.proofs.known_log.KnownLog.joined.Goals as goal
 
 pub returns : goal.returns
 returns c =

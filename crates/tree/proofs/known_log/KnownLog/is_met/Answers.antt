@@ -1,17 +1,15 @@
--- `tree::log_tree::is_met` meets its contract: a full subtree is compared, another is not.
+-- `tree::known_log::KnownLog::is_met` meets its contract: a full subtree is compared, another is not.
 use mathlib.Core.Path.{sym, ◌∙◌}
 use Rattle.lists.proofs.SameLaws.{slices_same}
 use Rattle.tree.specs.LogHead.{known_in}
 use Rattle.tree.proofs.WalkedLaws.{agrees_full, agrees-none}
-use Rattle.tree.proofs.log_tree.is_met.Goals as goal
+use Rattle.tree.proofs.known_log.KnownLog.is_met.Goals as goal
 
 pub is_full-requires : goal.is_full-requires
-is_full-requires c = c.requires.0
+is_full-requires c = c.requires
 
 pub kept_value-v-requires : goal.kept_value-v-requires
-kept_value-v-requires c =
-    let p = c.requires in
-    record { whole = (p.0, sym c.is_full.ensures ∙ c.if-is_full.true); kept_size_bound = p.1 }
+kept_value-v-requires c = (c.requires, sym c.is_full.ensures ∙ c.if-is_full.true)
 
 pub returns-then-is_full : goal.returns-then-is_full
 unfolding known_in
