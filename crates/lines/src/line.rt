@@ -28,13 +28,15 @@ pub fn line_end(s: &[u8], at: usize) -> usize
     ensures value { result ≡ at + length (before newline (drop at s.now)) }
     ensures within { (at ≤ result) × (result - at ≤ length s.now - at) }
 {
-    let near = at.saturating_add(NEAR).min(s.len()).max(at);
-    for i in at..near {
+    if s.len().saturating_sub(at) < NEAR {
+        return span(s, at, b'\n');
+    }
+    for i in at..at + NEAR {
         if s[i] == b'\n' {
             return i;
         }
     }
-    let far = skipped(s, near, WIDE);
+    let far = skipped(s, at + NEAR, WIDE);
     span(s, skipped(s, far, NARROW), b'\n')
 }
 
