@@ -61,7 +61,7 @@ fn skipped(s: &[u8], at: usize, step: usize) -> usize
 }
 
 // Whether so many bytes from an offset on have no newline. All are looked at: a loop with one way
-// out is compiled to steps of sixteen bytes.
+// out is compiled to steps of sixteen bytes. By hand: `contains` and memchr were tried, and slower.
 fn lacks_newline(s: &[u8], at: usize, count: usize) -> bool
     requires { at + count ≤ length s.now }
     ensures { result ≡ true → at + count + length (before newline (drop (at + count) s.now))
