@@ -1,5 +1,5 @@
 // Bytes put one after the other, and numbers as bytes, the highest first.
-ghost use Rattle.std.specs.Prelude.{◌≡◌, ◌+◌, ◌*◌, ◌≤◌, length};
+ghost use Rattle.std.specs.Prelude.{◌≡◌, ◌≤◌, length};
 ghost use Rattle.hash.specs.Bytes.{big_endian, joined, padded};
 
 // The parts one after the other, and zeros after them.
@@ -17,15 +17,7 @@ pub(crate) fn buffer_of<const N: usize>(parts: &[&[u8]]) -> [u8; N]
     buffer
 }
 
-// The number that four bytes encode.
-pub fn number4(a: u8, b: u8, c: u8, d: u8) -> u32
-    ensures { result ≡ ((a * 256 + b) * 256 + c) * 256 + d }
-{
-    u32::from_be_bytes([a, b, c, d])
-}
-
 // The eight bytes of a number.
-
 pub fn bytes8(x: u64) -> [u8; 8]
     ensures { (length result ≡ 8) × (result ≡ big_endian 8 x) }
 {

@@ -8,6 +8,7 @@ use crate::sha256::{blocks, finish, initial};
 
 // The hash value after the whole blocks of what has come, the bytes after them with zeros after,
 // and how many bytes have come, modulo 2^64.
+// The bytes pending stand in an array with a count beside it: memory is fixed, and no part is kept.
 #[derive(Clone, Copy)]
 pub struct Hasher {
     pub value: HashValue,
