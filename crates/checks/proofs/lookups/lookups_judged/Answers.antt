@@ -12,7 +12,7 @@ use Rattle.checks.proofs.lookups.lookups_judged.Goals as goal
 pub loop-stop-init : goal.loop-stop-init
 loop-stop-init c =
     let p = c.requires in
-    summed-start _ _ _ _ _ _ _ _ _ c.start-summary.ensures p.lines p.within
+    summed-start _ _ _ _ _ c.start-summary.ensures p.lines p.within
 
 pub next_lookup-requires : goal.next_lookup-requires
 next_lookup-requires c = record { lines = c.loop-stop.invariant.lines; within = c.loop-stop.invariant.within }
@@ -37,7 +37,7 @@ next-summary-requires c =
     let short = c.requires.short in
     let forward = c.loop-stop.invariant.forward in
     let within = c.loop-stop.invariant.within in
-    record { few = omega arith; outputs = c.requires.outputs; room = c.requires.room }
+    omega arith
 
 pub loop-stop-smaller : goal.loop-stop-smaller
 loop-stop-smaller c =
@@ -46,7 +46,7 @@ loop-stop-smaller c =
 
 pub loop-stop-preserved : goal.loop-stop-preserved
 loop-stop-preserved c =
-    summed-next _ _ _ _ _ _ _ _ _ _ c.loop-stop.invariant _ _ _ (let here0 : (IsNextLookup c.args.entries.now c.loop-stop.at (LookupAt c.in-Lookup.stop c.in-Lookup.next)) = subst (λ (n : NextLookup). IsNextLookup c.args.entries.now c.loop-stop.at n)
+    summed-next _ _ _ _ _ _ c.loop-stop.invariant _ _ _ (let here0 : (IsNextLookup c.args.entries.now c.loop-stop.at (LookupAt c.in-Lookup.stop c.in-Lookup.next)) = subst (λ (n : NextLookup). IsNextLookup c.args.entries.now c.loop-stop.at n)
     c.in-Lookup.is c.next_lookup.ensures in here0) c.next-summary.ensures
 
 pub returns-in-Unread : goal.returns-in-Unread
@@ -54,5 +54,5 @@ returns-in-Unread c =
     let none =
     subst (λ (r : NextLookup). IsNextLookup c.args.entries.now c.loop-stop.at r)
     c.in-Unread.is c.next_lookup.ensures in
-    let it = summed-all _ _ _ _ _ _ _ _ _ _ c.loop-stop.invariant _ (beginning_root _ _ c.start-summary.ensures) none in
+    let it = summed-all _ _ _ _ _ _ c.loop-stop.invariant _ (beginning_root _ _ c.start-summary.ensures) none in
     record { summary = it.0; next = it.1 }

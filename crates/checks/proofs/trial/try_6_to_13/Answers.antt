@@ -12,15 +12,10 @@ slice_bounds-try_6_to_8-end c = sym (length-take-le _ _ c.requires.label_within)
 pub slice_bounds-try_6_to_8-end-2 : goal.slice_bounds-try_6_to_8-end-2
 slice_bounds-try_6_to_8-end-2 c = sym (length-take-le _ _ c.requires.versions_within)
 
-pub try_6_to_8-number-requires : goal.try_6_to_8-number-requires
-try_6_to_8-number-requires c =
+pub try_6_to_8-requires : goal.try_6_to_8-requires
+try_6_to_8-requires c =
     let P = c.requires in
     record { fields = P.offsets.0; identifier = omega (arith, P.identifier); label = label-fits P }
-
-pub returns-then-number-ne0 : goal.returns-then-number-ne0
-returns-then-number-ne0 c =
-    first-refused c.requires _ _ c.try_6_to_8-number.ensures c.if-number-ne0.true _
-    c.refused_lines.ensures
 
 pub slice_bounds-try_9_to_13-end : goal.slice_bounds-try_9_to_13-end
 slice_bounds-try_9_to_13-end c = sym (length-take-le _ _ c.requires.label_within)
@@ -30,14 +25,3 @@ slice_bounds-try_9_to_13-end-2 c = sym (length-take-le _ _ c.requires.positions_
 
 pub slice_bounds-try_9_to_13-end-3 : goal.slice_bounds-try_9_to_13-end-3
 slice_bounds-try_9_to_13-end-3 c = sym (length-take-le _ _ c.requires.versions_within)
-
-pub try_9_to_13-requires : goal.try_9_to_13-requires
-try_9_to_13-requires c =
-    let P = c.requires in
-    let z = c.if-number-ne0.false in
-    record { possible = first-possible P _ _ c.try_6_to_8-number.ensures z; label = label-fits P }
-
-pub returns : goal.returns
-returns c =
-    let z = c.if-number-ne0.false in
-    first-passed c.requires _ _ c.try_6_to_8-number.ensures z _ c.try_9_to_13.ensures

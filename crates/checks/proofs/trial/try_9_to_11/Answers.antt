@@ -7,34 +7,32 @@ use Rattle.checks.proofs.trial.try_9_to_11.Goals as goal
 
 pub returns-then-not-shape : goal.returns-then-not-shape
 returns-then-not-shape c =
-    shape-refused c.requires.possible c.asked_by_kind-shape.ensures (not-true _ c.if-not-shape.true) _
-    c.refused_shape.ensures
+    shape-refused c.requires.possible c.asked_by_kind-shape.ensures (not-true _ c.if-not-shape.true)
 
 pub returns-then-nodes-call : goal.returns-then-nodes-call
 returns-then-nodes-call c =
     nodes-refused c.requires.possible c.asked_by_kind-shape.ensures
     (not-false _ c.if-not-shape.false) c.of.ensures c.nodes_asked-nodes.ensures
-    c.if-nodes-call.true _ c.refused_shape-then-nodes-call.ensures
+    c.if-nodes-call.true
 
 pub returns-then-not-shape-2 : goal.returns-then-not-shape-2
 returns-then-not-shape-2 c =
     outputs-refused c.requires.possible c.asked_by_kind-shape.ensures
     (not-false _ c.if-not-shape.false) c.of.ensures c.nodes_asked-nodes.ensures
-    c.if-nodes-call.false (not-true _ c.if-not-shape-2.true) _ c.refused_shape-then-not-shape-2.ensures
+    c.if-nodes-call.false (not-true _ c.if-not-shape-2.true)
 
 pub returns-then-not-shape-3 : goal.returns-then-not-shape-3
 returns-then-not-shape-3 c =
     timestamps-refused c.requires.possible c.asked_by_kind-shape.ensures
     (not-false _ c.if-not-shape.false) c.of.ensures c.nodes_asked-nodes.ensures
-    c.if-nodes-call.false (not-false _ c.if-not-shape-2.false) (not-true _ c.if-not-shape-3.true) _
-    c.refused_shape-then-not-shape-3.ensures
+    c.if-nodes-call.false (not-false _ c.if-not-shape-2.false) (not-true _ c.if-not-shape-3.true)
 
 pub returns-then-not-near_clock : goal.returns-then-not-near_clock
 returns-then-not-near_clock c =
     clock-refused c.requires.possible c.asked_by_kind-shape.ensures
     (not-false _ c.if-not-shape.false) c.of.ensures c.nodes_asked-nodes.ensures
     c.if-nodes-call.false (not-false _ c.if-not-shape-2.false) (not-false _ c.if-not-shape-3.false)
-    c.near_clock.ensures c.if-not-near_clock.true _ c.refused_shape-then-not-near_clock.ensures
+    c.near_clock.ensures c.if-not-near_clock.true
 
 pub returns : goal.returns
 returns c =
