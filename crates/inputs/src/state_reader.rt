@@ -9,12 +9,13 @@ ghost use Rattle.lines.specs.Readings.{as_digest};
 ghost use Rattle.rules.specs.Limits.{label_limit, state_text_limit};
 ghost use Rattle.rules.specs.State.{State as StateRead};
 ghost use Rattle.rules.specs.StateText.{size_form, read_keep, read_pair, read_state, read_state_text};
-ghost use Rattle.inputs.specs.State.{numbered_block, state_of};
+ghost use Rattle.inputs.specs.Refusal.{refusal_number};
+ghost use Rattle.inputs.specs.State.{numbered_block, numbered_of, state_of};
 ghost use Rattle.inputs.specs.StateReader.{labelled, as_size, pair_of, KeepsFrom, PairsFrom, ReadAs};
 ghost use Rattle.inputs.specs.StateReader.{if_valid, read_after_size, refused_by, or_refused};
 
 use crate::refusal::Refusal;
-use crate::state::{KeptLog, Label, MonitoringMap, NumberedState, State};
+use crate::state::{KeptLog, Label, MonitoringMap, Refused, State};
 use lines::cursor::{Cursor, NextBytes, NextLine, NextNumber, NextWord};
 use lines::hex::{Digest, read_digest};
 use lines::layout::Word;
@@ -59,19 +60,19 @@ struct Pairs {
 
 // The state that a text says; refusal 1 for a text that is too long and 3 for one that says no
 // valid state, both with the state of the empty label.
-pub fn read_state(text: &[u8]) -> NumberedState
-    ensures { result ≡ numbered_block (read_state_text text.now) }
+pub fn read_state(text: &[u8]) -> Result<State, Refused>
+    ensures { numbered_of result ≡ numbered_block (read_state_text text.now) }
 {
     if State::TEXT < text.len() {
-        return refused(Refusal::LENGTH);
+        return refused(Refusal::Length);
     }
     let start = Cursor { at: 0 };
     let NextLine::Ended { stop, next } = start.line(text) else {
-        return refused(Refusal::STATE);
+        return refused(Refusal::State);
     };
     let first = size_line(&text[0..stop]);
     if !first.found {
-        return refused(Refusal::STATE);
+        return refused(Refusal::State);
     }
     read_after_size(text, next.at, first)
 }
@@ -81,44 +82,45 @@ pub fn read_state(text: &[u8]) -> NumberedState
 pub fn state_in(text: &[u8]) -> State
     ensures { state_of result ≡ read_state text.now }
 {
-    let read = read_state(text);
-    let mut state = read.state;
-    if read.number != 0 {
-        let over = State::LABEL + 1;
-        state.label.length = over;
+    match read_state(text) {
+        Ok(state) => state,
+        Err(refused) => {
+            let mut state = refused.state;
+            state.label.length = State::LABEL + 1;
+            state
+        }
     }
-    state
 }
 
 // The state that a `size` line and the text from an offset on say, or refusal 3.
-fn read_after_size(text: &[u8], from: usize, first: SizeLine) -> NumberedState
+fn read_after_size(text: &[u8], from: usize, first: SizeLine) -> Result<State, Refused>
     requires { (from ≤ length text.now) × (length text.now ≤ state_text_limit) }
     ensures { (x : Read size_form) → first ≡ as_size (some x)
-        → result ≡ numbered_block (or_refused (read_after_size x (drop from text.now))) }
+        → numbered_of result ≡ numbered_block (or_refused (read_after_size x (drop from text.now))) }
 {
     let keeps = read_keeps(text, from);
     let at = keeps.next;
     let pairs = read_pairs(text, at);
     if pairs.next < text.len() {
-        return refused(Refusal::STATE);
+        return refused(Refusal::State);
     }
     checked(first, keeps, pairs)
 }
 
 // The state of what was read, if it is valid, or refusal 3.
-fn checked(first: SizeLine, keeps: Keeps, pairs: Pairs) -> NumberedState
+fn checked(first: SizeLine, keeps: Keeps, pairs: Pairs) -> Result<State, Refused>
     ensures { (st : StateRead) → ReadAs first keeps pairs st
-        → result ≡ numbered_block (or_refused (if_valid st)) }
+        → numbered_of result ≡ numbered_block (or_refused (if_valid st)) }
 {
     if keeps.count != u64::count_ones(first.size) as usize {
-        return refused(Refusal::STATE);
+        return refused(Refusal::State);
     }
     if (LogHead::LEVELS as usize) < keeps.count {
-        return refused(Refusal::STATE);
+        return refused(Refusal::State);
     }
     let map = pairs.map;
     if State::PAIRS < map.count {
-        return refused(Refusal::STATE);
+        return refused(Refusal::State);
     }
     let label = first.label;
     let values = keeps.values;
@@ -129,18 +131,16 @@ fn checked(first: SizeLine, keeps: Keeps, pairs: Pairs) -> NumberedState
     };
     let state = State { label, log, map };
     if state.is_valid() {
-        return NumberedState { number: 0, state };
+        return Ok(state);
     }
-    refused(Refusal::STATE)
+    refused(Refusal::State)
 }
 
 // A refusal, with the state of the empty label.
-fn refused(number: u64) -> NumberedState
-    ensures { result ≡ numbered_block (refused_by number) }
+fn refused(refusal: Refusal) -> Result<State, Refused>
+    ensures { numbered_of result ≡ numbered_block (refused_by (refusal_number refusal)) }
 {
-    let empty = State::new(b"");
-    let state = empty.state;
-    NumberedState { number, state }
+    Err(Refused::with_empty_state(refusal))
 }
 
 // What a `size` line says.
