@@ -289,7 +289,7 @@ module _ (text : Bytes) (k : CallBlock) (b : StateBlock) (r : Checked) (block : 
       -- 16 is the answer
       sixteen : (out' : Bytes) → ((c : Call) → Passes (length out) c → out' ≡ out)
           → ((c : Call) → Passes (length out) c → room_missing c ≡ true) → Answers (Err Room) out'
-      unfolding answer_from refusal_number
+      unfolding answer_from
       sixteen out' w e = (
         λ c g. answer_refused b (tried rules16 c) 16 (room_refused c (e c g)),
         λ c g. w c g ∙ bytes_refused out (tried rules16 c) 16 (room_refused c (e c g)),

@@ -9,6 +9,7 @@ use native.Mathlib.Omega.{arith}
 use lib.ListN.{length, take, drop, length-take, length-drop}
 use borrow.Author.Tests.{not-false}
 use Rattle.std.specs.Prelude.{Some, None, Option as CodeOption, is_some as is_found, Result as CodeResult}
+use Rattle.std.specs.Option.{ok_or}
 use Rattle.std.specs.Bool.{then_some}
 use Rattle.lists.specs.Lists.{Bytes, all}
 use Rattle.hash.specs.Bytes.{padded}
@@ -28,6 +29,7 @@ use Rattle.rules.proofs.KindLaws.{search-rules, monitoring-rules}
 use Rattle.inputs.specs.declared.response_lines.Kind.{Kind}
 use Rattle.inputs.specs.declared.response_lines.Kind.TheVariants.{Search, Monitor}
 use Rattle.inputs.specs.declared.refusal.Refusal.{Refusal}
+use Rattle.inputs.specs.declared.refusal.Refusal.TheVariants.{Ladder as LadderFails}
 use Rattle.inputs.specs.Refusal.{refusal_number, number_in}
 use Rattle.inputs.specs.ResponseLines.{decoded}
 use Rattle.inputs.specs.Response.{entries_in, loose_in, parts_in}
@@ -80,12 +82,19 @@ ladder_held t count vs (e, f) h =
 
 -- ---- the two rules
 
+-- lookups that reach their roots are judged by what they show
+pub judged_shown : (reached : Bool) (shown : CodeOption ℕ) → reached ≡ true
+    → ok_or shown LadderFails ≡ judged_by reached shown
+unfolding judged_by
+judged_shown reached None e = rw e refl
+judged_shown reached (Some p) e = rw e refl
+
 -- the answer, from whether the lookups reach their roots and the position that they show
 module _ (c : Call) (P : ℕ → Type 0) where
   judged-tried : (reached : Bool) (shown : CodeOption ℕ) → lookup_fails c ≡ not reached
       → results_wrong c ≡ not (is_found shown) → ((p : ℕ) → shown ≡ Some p → P p)
       → Tells (judged_by reached shown) rules12and13 c P
-  unfolding judged_by number_in refusal_number
+  unfolding judged_by
   judged-tried false shown a b h = (number-first 12 lookup_fails _ c a, tt)
   judged-tried true None a b h =
       (number-first 13 results_wrong _ c b ∙ number-next 12 lookup_fails _ c a, tt)
@@ -194,12 +203,15 @@ module _ (text : Bytes) (k : CallBlock) (label : Bytes) (s : Sought) (entries : 
             let (e, i, n) = h.position p (from way p q) in
             rw is_search (e, rw (entries-given c g, ← is_ladder, ← sought_version) i, n)
 
-  -- in monitoring
+  -- in monitoring, where no position is asked for
+  abbrev no_position : CodeOption ℕ
+  no_position = then_some r.included 0
+
   pub monitoring-judged : k.response.kind ≡ Monitor → s.kind ≡ Monitor
-      → (j : CodeResult ℕ Refusal) → j ≡ judged_by r.reached (then_some r.included 0) → Judged j
+      → (j : CodeResult ℕ Refusal) → j ≡ judged_by r.reached no_position → Judged j
   unfolding results_wrong monitoring_rules
   monitoring-judged is_monitoring sought_monitoring =
-      judged-call sought (then_some r.included 0) thirteen (λ c g p q. rw is_monitoring tt)
+      judged-call sought no_position thirteen (λ c g p q. rw is_monitoring tt)
     where
       found : (c : Call) → IsCall c k text s.outputs.now → c.parts.finding ≡ monitored
       found c g = nothing-found text k.response is_monitoring c g.parts
@@ -207,12 +219,12 @@ module _ (text : Bytes) (k : CallBlock) (label : Bytes) (s : Sought) (entries : 
       sought : IsSoughtBy text k label s.outputs.now s
       sought c g l = rw sought_monitoring (found c g)
 
-      is_shown : (b : Bool) → b ≡ is_found (then_some b 0)
+      is_shown : (b : Bool) → b ≡ is_found {T = ℕ} (then_some b 0)
       is_shown true = refl
       is_shown false = refl
 
       thirteen : (c : Call) → IsCall c k text s.outputs.now
-          → results_wrong c ≡ not (is_found (then_some r.included 0))
+          → results_wrong c ≡ not (is_found no_position)
       thirteen c g =
           ap not
           (ap (λ (x : KindRules). x.results_fit) (monitoring-rules c (found c g))

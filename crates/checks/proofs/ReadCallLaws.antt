@@ -133,13 +133,11 @@ module _ (asked : CodeOption KindBlock) (text configuration : Bytes) (b : StateB
         module _ (t : Tried) (g : IsStateTried asked text k b identifier outputs (Ok t)) where
           -- refused with 14
           pub walk-refused : (e : Refusal) → Is14Tried text k t b.log.values (Err e) block → Told (Err e)
-          unfolding number_in
           walk-refused e w = told-refused e (λ room c i. (walk-told room c i t g (Err e) w).0)
 
           -- all passed
           pub walk-passed : (r : Checked) → Is14Tried text k t b.log.values (Ok r) block
               → Told (Ok (record { call = k; checked = r }))
-          unfolding number_in
           walk-passed r w = (
             h.0,
             λ room.
@@ -208,7 +206,6 @@ module _ (asked : CodeOption KindBlock) (text configuration : Bytes) (b : StateB
 
         -- refused with 15
         pub head-refused : is_head ≡ false → Answers (Err SignedText) output
-        unfolding refusal_number
         head-refused f =
             let (c, e, i, l) = shown in
             refused-with SignedText (e ∙ text-differs i p.checked.root l.root is_head is_same f)

@@ -113,13 +113,12 @@ module _ (limit : ℕ) (response configuration identifier : Bytes) (clock : ℕ)
 
     -- 1: a length does not fit
     pub inputs_long : false ≡ fits → Reads (Err Length)
-    unfolding refusal_number
     inputs_long e st _ _ kind room = given-long st (inputs kind room) (lengths-same kind room ∙ sym e)
 
     module _ (l : true ≡ fits) where
       -- 2: there is no configuration
       pub inputs-unconfigured : read_configuration configuration ≡ none → Reads (Err NoConfiguration)
-      unfolding inputs_within arguments_of refusal_number
+      unfolding inputs_within arguments_of
       inputs-unconfigured e st _ _ kind room =
           given-unconfigured st (inputs kind room) (lengths-same kind room ∙ sym l) e
 
@@ -129,7 +128,7 @@ module _ (limit : ℕ) (response configuration identifier : Bytes) (clock : ℕ)
 
         -- 3: the state is not valid
         pub inputs-invalid : valid ≡ false → Reads (Err NoState)
-        unfolding inputs_within arguments_of refusal_number
+        unfolding inputs_within arguments_of
         inputs-invalid e st v _ kind room =
             given-invalid st (inputs kind room) (lengths-same kind room ∙ sym l) read eg
             (given_none (valid_state st) (sym v ∙ e))
@@ -137,7 +136,7 @@ module _ (limit : ℕ) (response configuration identifier : Bytes) (clock : ℕ)
         module _ (y : valid ≡ true) where
           -- 4: there are no outputs
           pub inputs-outputless : false ≡ is_some (read_outputs outputs) → Reads (Err NoOutputs)
-          unfolding inputs_within arguments_of refusal_number
+          unfolding inputs_within arguments_of
           inputs-outputless e st v _ kind room =
               let (s, es) = given_some (valid_state st) (sym v ∙ y) in
               given-outputless st (inputs kind room) (lengths-same kind room ∙ sym l) read eg s es
@@ -146,7 +145,7 @@ module _ (limit : ℕ) (response configuration identifier : Bytes) (clock : ℕ)
           module _ (o : true ≡ is_some (read_outputs outputs)) where
             -- 5: there is no response
             pub inputs-broken : read_response response ≡ none → Reads (Err NoLines)
-            unfolding inputs_within arguments_of refusal_number
+            unfolding inputs_within arguments_of
             inputs-broken e st v _ kind room =
                 let (s, es) = given_some (valid_state st) (sym v ∙ y) in
                 let (os, eo) = given_some (read_outputs outputs) (sym o) in

@@ -36,6 +36,8 @@ use Rattle.inputs.specs.ResponseLines.{decoded}
 use Rattle.inputs.specs.Response.{finding_in, parts_in, Fields}
 use Rattle.inputs.proofs.FrontLaws.{put_first, offset-fits, offset-over}
 use Rattle.std.specs.Prelude.{Option as CodeOption, Some, None}
+use Rattle.std.specs.Option.{option_eq}
+use Rattle.inputs.specs.contracts.response_lines.KindPartialEq.TheImpl.{eq-value}
 use Rattle.checks.specs.declared.readings.Call.{Call as CallBlock}
 use Rattle.checks.specs.Calls.{number_tried, rules6to8, asked_kind, kind_in, is_kind_asked, IsRequested}
 use Rattle.checks.specs.Calls.{FoundKind, FitsTarget, IsNumber6to8}
@@ -92,6 +94,16 @@ asked_kinds Search None = refl
 asked_kinds Monitor (Some Search) = refl
 asked_kinds Monitor (Some Monitor) = refl
 asked_kinds Monitor None = refl
+
+-- the code's equality of kinds is that test
+pub kinds_equal : (k : Kind) (asked : CodeOption Kind) → option_eq eq-value.it asked (Some k) ≡ is_kind_asked k asked
+unfolding is_kind_asked
+kinds_equal Search (Some Search) = refl
+kinds_equal Search (Some Monitor) = refl
+kinds_equal Search None = refl
+kinds_equal Monitor (Some Search) = refl
+kinds_equal Monitor (Some Monitor) = refl
+kinds_equal Monitor None = refl
 
 -- what was found is of the kind of the response
 found_kind : (text : Bytes) (k : Kind) (t : Target) → kind_of (finding_in text k t) ≡ kind_in k

@@ -115,12 +115,10 @@ module _ {text : Bytes} {k : CallBlock} {ps vs : List ℕ} {outputs : Bytes}
 
     -- a refusal
     told-refused : (e : Refusal) → Each (λ c. refusal_number e ≡ number_tried rules9to11 c) → Told (Err e)
-    unfolding number_in
     told-refused e f c i m = (f c i m, tt)
 
     -- steps, commitments or entries are not as asked
     pub shape-refused : shape.asked ≡ false → Told (Err WrongShape)
-    unfolding refusal_number
     shape-refused f = told-refused WrongShape λ c i m. number-first 9 not_as_asked _ c
         (nine_parts c ∙ ap (λ (b : Bool). not (b && are_nodes_asked c)) (sym (h c i m).shaped ∙ f))
 
@@ -140,7 +138,6 @@ module _ {text : Bytes} {k : CallBlock} {ps vs : List ℕ} {outputs : Bytes}
 
         -- the nodes are not as many as asked
         pub nodes-refused : (n ≡ k.response.nodes.count → ⊥) → Told (Err WrongShape)
-        unfolding refusal_number
         nodes-refused f = told-refused WrongShape λ c i m. number-first 9 not_as_asked _ c
             (nine-left c i m ∙ ap not (ne_eqb _ _ (λ z. f (sym z))))
 
@@ -151,7 +148,6 @@ module _ {text : Bytes} {k : CallBlock} {ps vs : List ℕ} {outputs : Bytes}
 
           -- an output is missing
           pub outputs-refused : shape.outputs ≡ false → Told (Err MissingOutput)
-          unfolding refusal_number
           outputs-refused f = told-refused MissingOutput λ c i m.
               number-first 10 output_missing _ c (not-false _ (sym ((h c i m).outputs right) ∙ f))
               ∙ number-next 9 not_as_asked _ c (nine-passed c i m)
@@ -172,7 +168,6 @@ module _ {text : Bytes} {k : CallBlock} {ps vs : List ℕ} {outputs : Bytes}
 
             -- the times of the entries do not fit
             pub timestamps-refused : shape.timestamps ≡ false → Told (Err Time)
-            unfolding refusal_number
             timestamps-refused f = told-refused Time λ c i m.
                 number-first 11 timestamps_wrong _ c
                 (eleven-left c i m ∙ ap (λ (b : Bool). not (b && is_near k shape.timestamp)) f)
@@ -185,13 +180,11 @@ module _ {text : Bytes} {k : CallBlock} {ps vs : List ℕ} {outputs : Bytes}
 
               -- the time of the last entry is too far from it
               pub clock-refused : b ≡ false → Told (Err Time)
-              unfolding refusal_number
               clock-refused f = told-refused Time λ c i m.
                   number-first 11 timestamps_wrong _ c (clock-left c i m ∙ ap not f) ∙ timestamps-left c i m
 
               -- none of 9 to 11 applies
               pub tried_passed : b ≡ true → Told (Ok shape.timestamp)
-              unfolding number_in
               tried_passed f c i m = (
                 number_none c ∙ number-next 11 timestamps_wrong _ c (clock-left c i m ∙ ap not f)
                     ∙ timestamps-left c i m,

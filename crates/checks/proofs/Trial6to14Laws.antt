@@ -5,14 +5,15 @@ use mathlib.Core.List.{List, [], ◌++◌}
 use mathlib.Core.Option.{none, some}
 use Prim.Native.Nat.{ℕ, ◌≤◌}
 use native.Mathlib.Omega.{arith}
+use lib.Count.{ones}
 use lib.ListN.{length, take}
 use lib.Seq.{length-take-le}
-use Rattle.lists.specs.Lists.{Bytes}
+use Rattle.lists.specs.Lists.{Bytes, runs}
 use Rattle.lines.specs.Readings.{part_of}
 use Rattle.tree.specs.LogText.{nodes_in as nodes_there}
 use Rattle.tree.specs.LogHead.{Head, known_in, log_head, head_with}
 use Rattle.tree.specs.declared.log_head.LogHead.{LogHead}
-use Rattle.rules.specs.Limits.{label_limit}
+use Rattle.rules.specs.Limits.{label_limit, hash_length}
 use Rattle.rules.specs.State.{versions}
 use Rattle.rules.specs.Response.{Parts}
 use Rattle.rules.specs.ResponseText.{read_response}
@@ -78,19 +79,16 @@ module _ (text : Bytes) (k : CallBlock) (label : Bytes) (ps vs : List ℕ) (outp
 
     -- refused with 9 to 11
     pub tried-refused : (e : Refusal) → TriedBy (Err e) → Told (Err e)
-    unfolding number_in
     tried-refused e h c i l m = refused_front Tried rules9to11 rules12and13 c e (Passed c k) (h c i m).0
 
     module _ (timestamp : ℕ) (h : TriedBy (Ok timestamp)) where
       -- none of 9 to 11 applies
       none9to11 : (c : Call) → IsCall c k text outputs → c.state.monitoring_map ≡ map_of ps vs
           → NoneApplies rules9to11 c
-      unfolding number_in
       none9to11 c i m = none_applies rules9to11 c numbered9to11 (h c i m).0
 
       -- so 12 and 13 are left, and refuse
       pub judged-refused : (e : Refusal) → JudgedBy (Err e) → Told (Err e)
-      unfolding number_in
       judged-refused e g c i l m =
           let none = none9to11 c i m in
           let (told, _) = g c i l none.0 none.1.0 (h c i m).1.1 in
@@ -99,11 +97,11 @@ module _ (text : Bytes) (k : CallBlock) (label : Bytes) (ps vs : List ℕ) (outp
       -- or do not
       pub judged-passed : (position : ℕ) → JudgedBy (Ok position)
           → Told (Ok (record { position = position; timestamp = timestamp }))
-      unfolding number_in
       judged-passed position g c i l m =
           let none = none9to11 c i m in
           let (told, is_first) = g c i l none.0 none.1.0 (h c i m).1.1 in
-          told_rest Tried rules9to11 rules12and13 c _ (Passed c k) none
+          let t : Tried = record { position = position; timestamp = timestamp } in
+          told_rest Tried rules9to11 rules12and13 c (Ok t) (Passed c k) none
           (told, record { is_first = is_first; timestamp = (h c i m).1.0 })
 
 -- ---- 14
@@ -121,7 +119,6 @@ module _ (text : Bytes) (k : CallBlock) (t : Tried) (kept s nodes : Bytes)
 
     -- refused
     pub head-refused : h.met ≡ false → Is14Tried text k t kept (Err FullSubtree) block
-    unfolding number_in refusal_number
     head-refused f c ps vs outputs i p nine passed v =
         let is = head-shown p c i (entries_were c nine) s nodes kept is_entries is_nodes v _ is_head in
         (number-first 14 history_differs [] c (fourteen c is ∙ ap not f), tt)
@@ -130,7 +127,6 @@ module _ (text : Bytes) (k : CallBlock) (t : Tried) (kept s nodes : Bytes)
     pub head_passed : h.met ≡ true
         → Is14Tried text k t kept
         (Ok (record { position = t.position; timestamp = t.timestamp; root = h.root })) block
-    unfolding number_in
     head_passed f c ps vs outputs i p nine passed v =
         let is = head-shown p c i (entries_were c nine) s nodes kept is_entries is_nodes v _ is_head in (
           number_none c ∙ number-next 14 history_differs [] c (fourteen c is ∙ ap not f),
@@ -284,7 +280,6 @@ module _ {text : Bytes} {k : CallBlock} {identifier label : Bytes} {size : ℕ} 
 
         -- refused with 6 to 13
         pub lines-refused : (e : Refusal) → SixTo13 (Err e) → refusal_number e ≡ number_tried checks c
-        unfolding number_in
         lines-refused e g =
             number_front rules6to13 rules14 c (refusal_number e) (g c i q d l m).0 (refusal_numbered e)
             ∙ checks-parts
@@ -293,7 +288,6 @@ module _ {text : Bytes} {k : CallBlock} {identifier label : Bytes} {size : ℕ} 
         pub lines-passed : (t : Tried) → SixTo13 (Ok t) → (kept : Bytes)
             → c.state.log.values ≡ runs (ones k.kept_size) hash_length kept → (r : Result Checked Refusal)
             → (block : Bytes) → Is14Tried text k t kept r block → Tells r checks c (λ x. Leaves c k x block)
-        unfolding number_in
         lines-passed t g kept v r block h =
             let (e, f) = g c i q d l m in
             let none = none_applies rules6to13 c numbered6to13 e in

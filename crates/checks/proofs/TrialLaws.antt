@@ -77,7 +77,6 @@ number_rest xs ys c h = ap number_of (sym (rest_tried xs ys c h))
 
 -- no refusal has the number 0
 pub refusal_numbered : (e : Refusal) → refusal_number e ≡ 0 → ⊥
-unfolding refusal_number
 refusal_numbered Length z = omega arith
 refusal_numbered Configuration z = omega arith
 refusal_numbered State z = omega arith
@@ -98,7 +97,6 @@ refusal_numbered Room z = omega arith
 -- a refusal in the first part is that of both
 pub refused_front : (A : Type 0) (xs ys : List Rule) (c : Call) (e : Refusal) (P : A → Type 0)
     → refusal_number e ≡ number_tried xs c → Tells (Err e) (xs ++ ys) c P
-unfolding number_in
 refused_front A xs ys c e P h = (number_front xs ys c (refusal_number e) h (refusal_numbered e), tt)
 
 -- where none of the first part applies, the second is told

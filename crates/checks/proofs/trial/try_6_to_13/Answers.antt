@@ -25,3 +25,12 @@ slice_bounds-try_9_to_13-end-2 c = sym (length-take-le _ _ c.requires.positions_
 
 pub slice_bounds-try_9_to_13-end-3 : goal.slice_bounds-try_9_to_13-end-3
 slice_bounds-try_9_to_13-end-3 c = sym (length-take-le _ _ c.requires.versions_within)
+
+pub returns-in_err-try_6_to_8 : goal.returns-in_err-try_6_to_8
+returns-in_err-try_6_to_8 c = let h = c.from_residual in let g = c.in_err-try_6_to_8 in ?
+
+pub try_9_to_13-requires : goal.try_9_to_13-requires
+try_9_to_13-requires c = let g = c.in_ok-try_6_to_8 in ?
+
+pub returns : goal.returns
+returns c = ?

@@ -4,11 +4,11 @@ use Rattle.checks.proofs.Trial6to14Laws.{tried-refused, judged-refused, judged-p
 use Rattle.checks.proofs.trial.try_9_to_13.Goals as goal
 
 pub returns-in_err-timestamp : goal.returns-in_err-timestamp
-returns-in_err-timestamp c = tried-refused _ _ _ _ _ _ _ _ c.in_err-timestamp.ensures
+returns-in_err-timestamp c = let h = c.from_residual in let g = c.in_err-timestamp in ?
 
 pub returns-in_err-position : goal.returns-in_err-position
 returns-in_err-position c =
-    judged-refused _ _ _ _ _ _ _ _ c.in_ok-timestamp.ensures _ c.in_err-position.ensures
+    rw c.from_residual-in_err-position.ensures (judged-refused _ _ _ _ _ _ _ _ c.in_ok-timestamp.ensures _ c.in_err-position.ensures)
 
 pub returns : goal.returns
 returns c =
