@@ -14,9 +14,7 @@ use crate::commitment::commitment;
 use crate::entries::is_at;
 use crate::lookup_line::lookup_passes;
 use crate::readings::Call;
-use crate::sections::{
-    NextEntry, NextLookup, is_included, lookup_version, next_entry, next_lookup,
-};
+use crate::sections::{is_included, lookup_version, next_entry, next_lookup};
 use crate::sought::Sought;
 use crate::steps::Commitments;
 use inputs::refusal::Refusal;
@@ -157,14 +155,14 @@ fn entries_judged(entries: &[u8], sought: Sought) -> Results
     let mut results = Results::start();
     loop {
         match next_entry(entries, at) {
-            NextEntry::Entry(first) => {
+            Some(first) => {
                 let root = prefix_root_at(entries, at + Layout::ENTRY);
                 let position = position_at(entries, at + Layout::ENTRY);
                 let summed = lookups_judged(entries, first, root, sought);
                 results = results.next(position, summed.summary, sought.ladder.len());
                 at = summed.next;
             }
-            NextEntry::Unread => {
+            None => {
                 return results;
             }
         }
@@ -211,11 +209,11 @@ fn lookups_judged(entries: &[u8], from: usize, root: [u8; 32], sought: Sought) -
     let mut summary = Summary::start(root);
     loop {
         match next_lookup(entries, at) {
-            NextLookup::Lookup { stop, next } => {
+            Some((stop, next)) => {
                 summary = summary.next(&entries[at..stop], sought);
                 at = next;
             }
-            NextLookup::Unread => {
+            None => {
                 return Summed { summary, next: at };
             }
         }
