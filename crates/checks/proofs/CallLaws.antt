@@ -15,21 +15,23 @@ use Rattle.rules.proofs.NextStateLaws.{state_valid}
 use Rattle.inputs.specs.declared.state.State.{State as StateBlock}
 use Rattle.inputs.specs.State.{state_of}
 use Rattle.inputs.proofs.StateBlockLaws.{block_state}
-use Rattle.std.specs.Prelude.{Ok, Err}
+use Rattle.std.specs.Prelude.{Ok, Err, Result, MatchResult, IsErrAnd}
 use Rattle.inputs.specs.declared.refusal.Refusal.{Refusal}
+use Rattle.inputs.specs.declared.state.Refused.{Refused}
 use Rattle.checks.specs.declared.call.Accepted.{Accepted}
 use Rattle.checks.specs.Calls.{block_after, answer_of, answer_in, answer_from}
 
 -- ---- the answer
 
--- a call lent its state answers what one does that is given it
-pub answer_given : (b : StateBlock) (e : Refusal) → answer_in (Err (record { refusal = e; state = b })) ≡ answer_from b (Err e)
+-- a call that is given its state gives it back with a refusal
+pub given_back : (b : StateBlock) (r : Result Accepted Refusal) (r' : Result Accepted Refused)
+    (Learnt : Refusal → Refused → Type 0)
+    → ((e : Refusal) (x : Refused) → Learnt e x → x ≡ record { refusal = e; state = b })
+    → MatchResult r (λ a. r' ≡ Ok a) (λ e. IsErrAnd r' (Learnt e)) → answer_in r' ≡ answer_from b r
 unfolding answer_in answer_from
-answer_given b e = refl
-
-pub answer_accepted : (b : StateBlock) (a : Accepted) → answer_in (Ok a) ≡ answer_from b (Ok a)
-unfolding answer_in answer_from
-answer_accepted b a = refl
+given_back b (Ok a) r' Learnt f h = rw h refl
+given_back b (Err e) (Ok a) Learnt f h = absurd h
+given_back b (Err e) (Err x) Learnt f h = rw (f e x h) refl
 
 -- ---- what comes back
 

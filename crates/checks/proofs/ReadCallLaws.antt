@@ -5,6 +5,7 @@ use mathlib.Core.Bool.{Bool, true, false}
 use mathlib.Core.List.{[], ◌++◌}
 use mathlib.Core.Option.{Option}
 use Prim.Native.Nat.{ℕ}
+use native.Mathlib.Omega.{arith}
 use lib.Count.{ones}
 use lib.ListN.{length, take}
 use Rattle.std.specs.Prelude.{Option as CodeOption, Ok, Err, Result}
@@ -29,7 +30,7 @@ use Rattle.checks.specs.declared.trial.Tried.{Tried}
 use Rattle.checks.specs.declared.trial.Checked.{Checked}
 use Rattle.checks.specs.declared.trial.Passed.{Passed as PassedBlock}
 use Rattle.checks.specs.Calls.{asked_kind, arguments_of, answer_of, answer_from, number_tried, rules16, IsGiven}
-use Rattle.checks.specs.Calls.{IsReading, Checkable, Is6to13Tried, Is14Tried, Is1to14Tried, Leaves}
+use Rattle.checks.specs.Calls.{IsReading, Tells, Checkable, Is6to13Tried, Is14Tried, Is1to14Tried, Leaves}
 use Rattle.checks.specs.Calls.{Accepting, IsAcceptedAnswer, AreAcceptedBytes, Readable}
 use Rattle.checks.proofs.TrialLaws.{Numbered, none_applies, refusal_numbered}
 use Rattle.checks.proofs.Trial6to14Laws.{lines-refused, lines-passed}
@@ -165,13 +166,12 @@ module _ (asked : CodeOption KindBlock) (text configuration : Bytes) (b : StateB
     last-left : whole
         ≡ tried_after last_checks (judge_without_head (state_of b) (library_inputs (asked_kind asked)
         (arguments_of text configuration identifier clock outputs) signed (length output)))
-    unfolding judge_call judge judge_without_head
+    unfolding judge_call judge judge_without_head tried_after
     last-left =
         go (read_call (state_of b) (library_inputs (asked_kind asked)
         (arguments_of text configuration identifier clock outputs) signed (length output)))
       where
         go : (j : Judgement) → tried_after (checks ++ last_checks) j ≡ tried_after last_checks (tried_after checks j)
-        unfolding tried_after
         go (refused n) = refl
         go (passed c) = tried_append checks last_checks c
 
@@ -193,12 +193,12 @@ module _ (asked : CodeOption KindBlock) (text configuration : Bytes) (b : StateB
         (is_same : is_head ≡ same signed (tree_head configuration p.call.response.tree_size p.checked.root))
       where
         -- the call
-        abbrev IsRead : Call → Type 0
-        IsRead c =
+        abbrev IsThis : Call → Type 0
+        IsThis c =
             IsGiven c response_limit (asked_kind asked) (state_of b) p.call text configuration identifier outputs
             signed (length output)
 
-        shown : (c : Call) × (whole ≡ tried last_checks c) × IsRead c × Leaves c p.call p.checked block
+        shown : (c : Call) × (whole ≡ tried last_checks c) × IsThis c × Leaves c p.call p.checked block
         unfolding tried_after
         shown =
             let (c, e, i, l) = h.1 (length output) in

@@ -56,10 +56,20 @@ numbered6to13 = omega arith
 
 -- ---- 9 to 13
 
--- `Stand` is what 9 to 11 leave of the commitments, and 12 and 13 ask for
-module _ (text : Bytes) (k : CallBlock) (label : Bytes) (ps vs : List ℕ) (outputs : Bytes)
-    (Stand : Call → Type 0)
-  where
+module _ (text : Bytes) (k : CallBlock) (label : Bytes) (ps vs : List ℕ) (outputs : Bytes) where
+  -- what comes of 9 to 13
+  abbrev Told : Result Tried Refusal → Type 0
+  Told r = Is9to13Tried text k label ps vs outputs r
+
+  -- refused with 9 to 11
+  pub tried-refused : (e : Refusal)
+      → ((c : Call) → IsCall c k text outputs → c.state.monitoring_map ≡ map_of ps vs
+      → refusal_number e ≡ number_tried rules9to11 c)
+      → Told (Err e)
+  tried-refused e h c i l m = refused_front Tried rules9to11 rules12and13 c e (Passed c k) (h c i m)
+
+  -- `Stand` is what 9 to 11 leave of the commitments, and 12 and 13 ask for
+  module _ (Stand : Call → Type 0) where
     -- 9 to 11
     abbrev TriedBy : Result ℕ Refusal → Type 0
     TriedBy shown =
@@ -72,14 +82,6 @@ module _ (text : Bytes) (k : CallBlock) (label : Bytes) (ps vs : List ℕ) (outp
         (c : Call) → IsCall c k text outputs → c.parts.label ≡ label → not_as_asked c ≡ false
         → output_missing c ≡ false → Stand c
         → Tells judged rules12and13 c (IsFirst k.response.kind c k.response.target.version)
-
-    -- both
-    abbrev Told : Result Tried Refusal → Type 0
-    Told r = Is9to13Tried text k label ps vs outputs r
-
-    -- refused with 9 to 11
-    pub tried-refused : (e : Refusal) → TriedBy (Err e) → Told (Err e)
-    tried-refused e h c i l m = refused_front Tried rules9to11 rules12and13 c e (Passed c k) (h c i m).0
 
     module _ (timestamp : ℕ) (h : TriedBy (Ok timestamp)) where
       -- none of 9 to 11 applies

@@ -3,6 +3,7 @@
 ghost use Rattle.std.specs.Prelude.{◌≡◌, length, take};
 ghost use Rattle.rules.specs.Calls.{judge_call, output_after};
 ghost use Rattle.inputs.specs.State.{state_of};
+ghost use Rattle.inputs.proofs.StateBlockLaws.{Sized};
 ghost use Rattle.checks.specs.Calls.{asked_kind, arguments_of, answer_of, answer_in, answer_from};
 
 use crate::acceptance::accepted;
@@ -87,6 +88,7 @@ fn answered(
     signed: &[u8],
     output: &mut [u8],
 ) -> Result<Accepted, Refusal>
+    requires { Sized state.now }
     ensures answer { answer_from state.now result ≡ answer_of state.now
         (judge_call (asked_kind asked) (state_of state.now)
         (arguments_of response.now configuration.now identifier.now clock

@@ -61,12 +61,13 @@ pub(crate) fn place_tree_head(
     if (buffer.len() as u64) < offset {
         return Err(Refusal::Room);
     }
-    let rest = &mut buffer[offset as usize..];
+    let start = offset as usize;
+    let room = buffer.len() - start;
     let length = configuration.len() + SIZE_AND_ROOT;
-    if rest.len() < length {
+    if room < length {
         return Err(Refusal::Room);
     }
-    put_tree_head(rest, configuration, tree_size, root);
+    put_tree_head(&mut buffer[start..], configuration, tree_size, root);
     Ok(length as u64)
 }
 

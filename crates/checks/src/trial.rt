@@ -2,6 +2,7 @@
 // The walk (14) is called by itself, so that nothing of 6 to 13 lies on the stack below it.
 ghost use Rattle.std.specs.Prelude.{◌≡◌, ◌≤◌, length, take};
 ghost use Rattle.rules.specs.Limits.{label_limit};
+ghost use Rattle.inputs.proofs.StateBlockLaws.{Sized};
 ghost use Rattle.checks.specs.Calls.{Is1to14Tried, Checkable, Is6to13Tried, Shapeable, Is9to13Tried, Is14Tried};
 ghost use Rattle.checks.specs.Calls.{Is9to11Tried, IsShape};
 ghost use Rattle.checks.specs.Steps.{records_capacity};
@@ -65,6 +66,7 @@ pub(crate) fn try_1_to_14(
     signed: &[u8],
     values: &mut [u8; LogHead::BLOCK],
 ) -> Result<Passed, Refusal>
+    requires { Sized state.now }
     ensures { Is1to14Tried asked response.now configuration.now state.now
         identifier.now clock outputs.now signed.now result values.new }
 {

@@ -22,7 +22,7 @@ shared_ref_as_front-sought c =
     ladder_held _ _ _ c.of-whole.ensures
     (target_ready c.args.text.now c.args.call c.args.outputs.now c.requires.possible c.requires.kind).0 in
     let l : length c.of-whole.result.versions ≡ 64 = search rules in
-    omega (arith, held.1.0, l)
+    omega (arith, held.1, l)
 
 pub entries_judged-results-requires : goal.entries_judged-results-requires
 entries_judged-results-requires c =

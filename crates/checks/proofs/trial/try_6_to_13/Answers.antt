@@ -1,8 +1,11 @@
 -- `checks::trial::try_6_to_13` meets its contract: 6 to 8 are tried, and 9 to 13 on what they let
 -- pass.
-use mathlib.Core.Path.{sym}
+use mathlib.Core.Path.{◌≡◌, sym, ap}
 use native.Mathlib.Omega.{arith}
 use lib.Seq.{length-take-le}
+use borrow.Author.Rules.{rules}
+use Rattle.std.specs.Prelude.{Err}
+use Rattle.inputs.specs.Refusal.{number_in}
 use Rattle.checks.proofs.Trial6to14Laws.{label-fits, first-refused, first-passed, first-possible}
 use Rattle.checks.proofs.trial.try_6_to_13.Goals as goal
 
@@ -27,10 +30,20 @@ pub slice_bounds-try_9_to_13-end-3 : goal.slice_bounds-try_9_to_13-end-3
 slice_bounds-try_9_to_13-end-3 c = sym (length-take-le _ _ c.requires.versions_within)
 
 pub returns-in_err-try_6_to_8 : goal.returns-in_err-try_6_to_8
-returns-in_err-try_6_to_8 c = let h = c.from_residual in let g = c.in_err-try_6_to_8 in ?
+returns-in_err-try_6_to_8 c =
+    let e : c.from_residual.result ≡ Err c.in_err-try_6_to_8.field-0.0 = search rules in
+    rw e
+    (first-refused c.requires _ _ c.try_6_to_8.ensures c.in_err-try_6_to_8.field-0.0
+    (ap number_in c.in_err-try_6_to_8.was))
 
 pub try_9_to_13-requires : goal.try_9_to_13-requires
-try_9_to_13-requires c = let g = c.in_ok-try_6_to_8 in ?
+try_9_to_13-requires c =
+    let P = c.requires in
+    record {
+      possible = first-possible P _ _ c.try_6_to_8.ensures (ap number_in c.in_ok-try_6_to_8.was);
+      label = label-fits P;
+    }
 
 pub returns : goal.returns
-returns c = ?
+returns c =
+    first-passed c.requires _ _ c.try_6_to_8.ensures (ap number_in c.in_ok-try_6_to_8.was) _ c.try_9_to_13.ensures
