@@ -43,8 +43,7 @@ use Rattle.checks.specs.declared.readings.Call.{Call as CallBlock}
 use Rattle.checks.specs.declared.trial.Checked.{Checked}
 use Rattle.checks.specs.declared.call.Accepted.{Accepted}
 use Rattle.checks.specs.declared.call.Found.{Found}
-use Rattle.checks.specs.declared.map.NewMap.{NewMap}
-use Rattle.checks.specs.Map.{IsMap, Holds, HasPair, HoldsAll, IsNewMap, pairs_in, put_version}
+use Rattle.checks.specs.Map.{IsMap, Holds, HoldsIfRoom, IsNewMap, pairs_in, put_version}
 use Rattle.checks.specs.Calls.{block_after, version_of, answer_of, refused_answer, accepted_answer, answer_from}
 use Rattle.checks.specs.Calls.{rules16, IsFirst, value_by, found_by}
 use Rattle.checks.specs.Calls.{Accepting, IsAcceptedAnswer, AreAcceptedBytes}
@@ -190,15 +189,28 @@ answer_found Monitor version n new h = rw (h refl) refl
 
 -- ---- the new map
 
-module _ (kind : Kind) (n : ℕ) (m : MonitoringMap) (position version : ℕ) (r : NewMap) where
+module _ (kind : Kind) (n : ℕ) (m : MonitoringMap) (position version : ℕ) where
   -- of a search, with its pair
-  pub search-new : kind ≡ Search → HasPair m position version r → IsNewMap kind n m position version r
-  search-new e h = rw e h
+  pub search-new : (r : CodeOption MonitoringMap) → kind ≡ Search → HoldsIfRoom (put_version position version (pairs_in m)) r
+      → IsNewMap kind n m position version r
+  search-new r e h = rw e h
 
   -- of monitoring, moved
-  pub monitoring-new : kind ≡ Monitor → HoldsAll (map_after_monitoring n (pairs_in m)) r
-      → IsNewMap kind n m position version r
-  monitoring-new e h = rw e h
+  pub monitoring-new : (r : MonitoringMap) → IsMap m → kind ≡ Monitor
+      → Holds (map_after_monitoring n (pairs_in m)) r → IsNewMap kind n m position version (Some r)
+  monitoring-new r x e h = rw e (few, h)
+    where
+      few : length (map_after_monitoring n (pairs_in m)) ≤ map_limit
+      few =
+          let ps = take m.count m.positions in
+          let vs = take m.count m.versions in
+          omega (
+            arith,
+            x.few,
+            monitored_length n (pairs_in m),
+            pairs_few ps vs,
+            length-take m.count m.positions,
+          )
 
 -- ---- a call to which none of 1 to 15 applies
 
@@ -245,143 +257,117 @@ module _ (text : Bytes) (k : CallBlock) (b : StateBlock) (r : Checked) (block : 
         monitoring_map_lem c (nothing-found text k.response e c g.parts)
         ∙ ap₂ map_after_monitoring (ap (λ (p : Parts). p.tree_size) g.parts) call-pairs
 
-    -- they have room
-    moved-few : IsMap b.map → k.response.kind ≡ Monitor → length (map_after c) ≤ map_limit
-    moved-few h e =
-        let ps = take b.map.count b.map.positions in
-        let vs = take b.map.count b.map.versions in
-        omega (
-          arith,
-          h.few,
-          ap length (map-moved e),
-          monitored_length k.response.tree_size (pairs_in b.map),
-          pairs_few ps vs,
-          length-take b.map.count b.map.positions,
-        )
-
-    -- whether there is room for the new map, and what holds it
-    new-map : (kind : Kind) → k.response.kind ≡ kind → IsMap b.map → (m : NewMap)
-        → IsNewMap kind k.response.tree_size b.map r.position number m
-        → (m.fits ≡ leb (length (map_after c)) map_limit) × (m.fits ≡ true → Holds (map_after c) m.map)
-    new-map Search e h m n =
-        subst (λ (es : List MapEntry). (m.fits ≡ leb (length es) map_limit) × (m.fits ≡ true → Holds es m.map))
-        (sym (map-put e)) n
-    new-map Monitor e h m (f, n) = (
-      f ∙ sym (le-leb (length (map_after c)) map_limit (moved-few h e)),
-      λ _. subst (λ (es : List MapEntry). Holds es m.map) (sym (map-moved e)) n,
-    )
+    -- the new map holds them, if it has room
+    new-map : (kind : Kind) → k.response.kind ≡ kind → (m : CodeOption MonitoringMap)
+        → IsNewMap kind k.response.tree_size b.map r.position number m → HoldsIfRoom (map_after c) m
+    new-map Search e m n = subst (λ (es : List MapEntry). HoldsIfRoom es m) (sym (map-put e)) n
+    new-map Monitor e m n = subst (λ (es : List MapEntry). HoldsIfRoom es m) (sym (map-moved e)) n
 
   -- ---- the ways out
 
-  module _ (x : Struct b) (m : NewMap)
-      (h : IsNewMap k.response.kind k.response.tree_size b.map r.position number m)
-      (out : Bytes)
-    where
-      -- the answer, and the output bytes
-      abbrev Answers : Result Accepted Refusal → Bytes → Type 0
-      Answers a out' =
-          IsAcceptedAnswer text k b r block (length out) a × AreAcceptedBytes text k b r block out out'
+  module _ (x : Struct b) (out : Bytes) where
+    -- the answer, and the output bytes
+    abbrev Answers : Result Accepted Refusal → Bytes → Type 0
+    Answers a out' =
+        IsAcceptedAnswer text k b r block (length out) a × AreAcceptedBytes text k b r block out out'
 
-      -- room for the map
-      map-room : (c : Call) → Passes (length out) c → m.fits ≡ leb (length (map_after c)) map_limit
-      map-room c g = (new-map c (length out) g k.response.kind refl x.is_map m h).0
+    -- 16 is the answer
+    sixteen : (out' : Bytes) → ((c : Call) → Passes (length out) c → out' ≡ out)
+        → ((c : Call) → Passes (length out) c → room_missing c ≡ true) → Answers (Err Room) out'
+    unfolding answer_from
+    sixteen out' w e = (
+      λ c g. answer_refused b (tried rules16 c) 16 (room_refused c (e c g)),
+      λ c g. w c g ∙ bytes_refused out (tried rules16 c) 16 (room_refused c (e c g)),
+    )
 
-      -- 16 is the answer
-      sixteen : (out' : Bytes) → ((c : Call) → Passes (length out) c → out' ≡ out)
-          → ((c : Call) → Passes (length out) c → room_missing c ≡ true) → Answers (Err Room) out'
-      unfolding answer_from
-      sixteen out' w e = (
-        λ c g. answer_refused b (tried rules16 c) 16 (room_refused c (e c g)),
-        λ c g. w c g ∙ bytes_refused out (tried rules16 c) 16 (room_refused c (e c g)),
-      )
+    -- the map has no room for one pair more
+    pub map-full : IsNewMap k.response.kind k.response.tree_size b.map r.position number None
+        → Answers (Err Room) out
+    unfolding room_missing
+    map-full h = sixteen out (λ c g. refl) λ c g.
+        rw (lt-ltb map_limit (length (map_after c)) (new-map c (length out) g k.response.kind refl None h))
+        (or-true (ltb c.inputs.room (length (bytes_found c))))
 
-      -- the map has no room for one pair more
-      pub map-full : m.fits ≡ false → Answers (Err Room) out
-      unfolding room_missing
-      map-full f = sixteen out (λ c g. refl) λ c g.
-          let n = leb-false (length (map_after c)) map_limit (sym (map-room c g) ∙ f) in
-          rw (lt-ltb map_limit (length (map_after c)) n)
-          (or-true (ltb c.inputs.room (length (bytes_found c))))
+    module _ (f : Bytes) (is_field : f ≡ field) (out' : Bytes)
+        (w : out' ≡ put_any out 0 (value_by k.response.kind f))
+      where
+        -- the offset after what is written
+        abbrev o : Option ℕ
+        o = offset_after_any out 0 (value_by k.response.kind f)
 
-      module _ (f : Bytes) (is_field : f ≡ field) (out' : Bytes)
-          (w : out' ≡ put_any out 0 (value_by k.response.kind f))
-        where
-          -- the offset after what is written
-          abbrev o : Option ℕ
-          o = offset_after_any out 0 (value_by k.response.kind f)
+        -- what is found is put
+        found-put : (c : Call) → Passes (length out) c
+            → (o ≡ offset_after out 0 (bytes_found c)) × (out' ≡ put_at out 0 (bytes_found c))
+        found-put c g =
+            let (a, d) = put_some out 0 (value_by k.response.kind f) (bytes_found c)
+            (ap (value_by k.response.kind) is_field ∙ (finds c (length out) g k.response.kind refl).value) in
+            (a, w ∙ d)
 
-          -- what is found is put
-          found-put : (c : Call) → Passes (length out) c
-              → (o ≡ offset_after out 0 (bytes_found c)) × (out' ≡ put_at out 0 (bytes_found c))
-          found-put c g =
-              let (a, d) = put_some out 0 (value_by k.response.kind f) (bytes_found c)
-              (ap (value_by k.response.kind) is_field ∙ (finds c (length out) g k.response.kind refl).value) in
-              (a, w ∙ d)
+        -- the output bytes are too few
+        pub output-full : (e : Refusal) → Err e ≡ found_by k.response.kind number o → Answers (Err e) out'
+        unfolding room_missing
+        output-full e q =
+            let (lacks, is_room) = found_lacks k.response.kind number o e q in
+            rw is_room
+            (sixteen out'
+            (λ c g. (found-put c g).1 ∙ (put_over out 0 (bytes_found c) (omega (arith, over lacks c g))).1)
+            (λ c g. rw (lt-ltb c.inputs.room (length (bytes_found c)) (omega (arith, g.is_room, over lacks c g))) refl))
+          where
+            over : o ≡ none → (c : Call) → Passes (length out) c → length out < length (bytes_found c)
+            over e c g = offset-over out (bytes_found c) (sym (found-put c g).0 ∙ e)
 
-          -- the output bytes are too few
-          pub output-full : (e : Refusal) → Err e ≡ found_by k.response.kind number o → Answers (Err e) out'
-          unfolding room_missing
-          output-full e q =
-              let (lacks, is_room) = found_lacks k.response.kind number o e q in
-              rw is_room
-              (sixteen out'
-              (λ c g. (found-put c g).1 ∙ (put_over out 0 (bytes_found c) (omega (arith, over lacks c g))).1)
-              (λ c g. rw (lt-ltb c.inputs.room (length (bytes_found c)) (omega (arith, g.is_room, over lacks c g))) refl))
-            where
-              over : o ≡ none → (c : Call) → Passes (length out) c → length out < length (bytes_found c)
-              over e c g = offset-over out (bytes_found c) (sym (found-put c g).0 ∙ e)
+        -- there is room for both: the call is accepted
+        pub both-fit : (m : MonitoringMap)
+            → IsNewMap k.response.kind k.response.tree_size b.map r.position number (Some m)
+            → (found : CodeOption Found) → Ok found ≡ found_by k.response.kind number o
+            → Answers (Ok (record { state = made b k.response.tree_size r.timestamp block m; found = found })) out'
+        unfolding room_missing parts_in answer_from
+        both-fit m h found q = (λ c g. answer c g, λ c g. bytes c g)
+          where
+            n : ℕ
+            n = (found_was k.response.kind number o found q).0
 
-          -- there is room for both: the call is accepted
-          pub both-fit : m.fits ≡ true → (found : CodeOption Found) → Ok found ≡ found_by k.response.kind number o
-              → Answers (Ok (record { state = made b k.response.tree_size r.timestamp block m.map; found = found }))
-              out'
-          unfolding room_missing parts_in answer_from
-          both-fit y found q = (λ c g. answer c g, λ c g. bytes c g)
-            where
-              n : ℕ
-              n = (found_was k.response.kind number o found q).0
+            e : o ≡ some n
+            e = (found_was k.response.kind number o found q).1
 
-              e : o ≡ some n
-              e = (found_was k.response.kind number o found q).1
+            fits : (c : Call) → Passes (length out) c
+                → (length (bytes_found c) ≤ length out) × (length (bytes_found c) ≡ n)
+            fits c g = offset-fits out (bytes_found c) n (sym (found-put c g).0 ∙ e)
 
-              fits : (c : Call) → Passes (length out) c
-                  → (length (bytes_found c) ≤ length out) × (length (bytes_found c) ≡ n)
-              fits c g = offset-fits out (bytes_found c) n (sym (found-put c g).0 ∙ e)
+            go : (c : Call) → Passes (length out) c → tried rules16 c ≡ passed c
+            go c g =
+                let l = (new-map c (length out) g k.response.kind refl (Some m) h).0 in
+                room_passed c (ap₂ ◌||◌
+                (le-ltb c.inputs.room (length (bytes_found c)) (omega (arith, g.is_room, (fits c g).0)))
+                (le-ltb map_limit (length (map_after c)) l))
 
-              go : (c : Call) → Passes (length out) c → tried rules16 c ≡ passed c
-              go c g =
-                  let l = leb-true (length (map_after c)) map_limit (sym (map-room c g) ∙ y) in
-                  room_passed c (ap₂ ◌||◌
-                  (le-ltb c.inputs.room (length (bytes_found c)) (omega (arith, g.is_room, (fits c g).0)))
-                  (le-ltb map_limit (length (map_after c)) l))
+            -- of monitoring nothing is written
+            nothing : (c : Call) → Passes (length out) c → k.response.kind ≡ Monitor → n ≡ 0
+            nothing c g h =
+                let v : value_by Monitor field ≡ some (bytes_found c) =
+                subst (λ (x : Kind). value_by x field ≡ some (bytes_found c)) h
+                (finds c (length out) g k.response.kind refl).value in
+                sym (fits c g).1 ∙ ap length (some-injective _ _ (sym v))
 
-              -- of monitoring nothing is written
-              nothing : (c : Call) → Passes (length out) c → k.response.kind ≡ Monitor → n ≡ 0
-              nothing c g h =
-                  let v : value_by Monitor field ≡ some (bytes_found c) =
-                  subst (λ (x : Kind). value_by x field ≡ some (bytes_found c)) h
-                  (finds c (length out) g k.response.kind refl).value in
-                  sym (fits c g).1 ∙ ap length (some-injective _ _ (sym v))
+            answer : (c : Call) → Passes (length out) c
+                → accepted_answer (made b k.response.tree_size r.timestamp block m) found
+                ≡ answer_of b (tried rules16 c)
+            answer c g =
+                let z = finds c (length out) g k.response.kind refl in
+                let held = (new-map c (length out) g k.response.kind refl (Some m) h).1 in
+                let size : k.response.tree_size ≡ c.parts.tree_size =
+                sym (ap (λ (p : Parts). p.tree_size) g.parts) in
+                let new = made b k.response.tree_size r.timestamp block m in
+                ap (accepted_answer new) (found_was k.response.kind number o found q).2
+                ∙ answer_found k.response.kind number n new (nothing c g)
+                ∙ answer_passed b c (tried rules16 c) new (is_search k.response.kind)
+                (version_by k.response.kind number) n (go c g)
+                (made_next b k.response.tree_size r.timestamp block m c
+                (x.is_struct c.state g.state) size
+                g.leaves.timestamp g.leaves.values held)
+                z.found z.version (sym (fits c g).1)
 
-              answer : (c : Call) → Passes (length out) c
-                  → accepted_answer (made b k.response.tree_size r.timestamp block m.map) found
-                  ≡ answer_of b (tried rules16 c)
-              answer c g =
-                  let z = finds c (length out) g k.response.kind refl in
-                  let held = (new-map c (length out) g k.response.kind refl x.is_map m h).1 y in
-                  let size : k.response.tree_size ≡ c.parts.tree_size =
-                  sym (ap (λ (p : Parts). p.tree_size) g.parts) in
-                  let new = made b k.response.tree_size r.timestamp block m.map in
-                  ap (accepted_answer new) (found_was k.response.kind number o found q).2
-                  ∙ answer_found k.response.kind number n new (nothing c g)
-                  ∙ answer_passed b c (tried rules16 c) new (is_search k.response.kind)
-                  (version_by k.response.kind number) n (go c g)
-                  (made_next b k.response.tree_size r.timestamp block m.map c
-                  (x.is_struct c.state g.state) size
-                  g.leaves.timestamp g.leaves.values held)
-                  z.found z.version (sym (fits c g).1)
-
-              bytes : (c : Call) → Passes (length out) c → out' ≡ output_after out (tried rules16 c)
-              bytes c g =
-                  (found-put c g).1 ∙ (put_fits out 0 (bytes_found c) (omega (arith, (fits c g).0))).1
-                  ∙ bytes_passed out c (tried rules16 c) (go c g)
+            bytes : (c : Call) → Passes (length out) c → out' ≡ output_after out (tried rules16 c)
+            bytes c g =
+                (found-put c g).1 ∙ (put_fits out 0 (bytes_found c) (omega (arith, (fits c g).0))).1
+                ∙ bytes_passed out c (tried rules16 c) (go c g)

@@ -310,18 +310,22 @@ is_shaped c =
     && all (commitment_asked (kind_rules c).is_committed) c.parts.steps
     && entries_asked (kind_rules c).versions_fit (asked c) c.parts.entries
 
--- whether they are; then, of 10 and 11, whether the outputs are there, whether the times fit but
--- for the clock, and the time of the last entry; then the offsets of the commitments
-pub record HasShape (c : Call) (steps : Bytes) (s : Shape) (offsets : List ℕ) : Type 0 where
-  pub shaped : s.asked ≡ is_shaped c
-  pub outputs : s.asked ≡ true → s.outputs ≡ not (output_missing c)
-  pub timestamps : s.asked ≡ true
-      → s.timestamps ≡ (unfalling (entry_timestamps c.parts)
-      && all (timestamp_fits c.state.log) c.parts.entries)
-  pub timestamp : s.asked ≡ true → s.timestamp ≡ last_timestamp c
-  pub stand : s.asked ≡ true → s.outputs ≡ true → CommitmentsBy steps c.outputs offsets c.parts.steps
+-- where they are: of 10 and 11, whether the outputs are there, whether the times fit but for the
+-- clock, and the time of the last entry; then the offsets of the commitments
+pub record Shaped (c : Call) (steps : Bytes) (s : Shape) (offsets : List ℕ) : Type 0 where
+  pub shaped : is_shaped c ≡ true
+  pub outputs : s.outputs ≡ not (output_missing c)
+  pub timestamps : s.timestamps.fit
+      ≡ (unfalling (entry_timestamps c.parts) && all (timestamp_fits c.state.log) c.parts.entries)
+  pub timestamp : s.timestamps.latest ≡ last_timestamp c
+  pub stand : s.outputs ≡ true → CommitmentsBy steps c.outputs offsets c.parts.steps
 
-abbrev pub IsShape : Bytes → CallBlock → List ℕ → List ℕ → Bytes → Shape → List ℕ → Type 0
+-- they are, or are not
+abbrev pub HasShape : Call → Bytes → CodeOption Shape → List ℕ → Type 0
+HasShape c steps None offsets = is_shaped c ≡ false
+HasShape c steps (Some s) offsets = Shaped c steps s offsets
+
+abbrev pub IsShape : Bytes → CallBlock → List ℕ → List ℕ → Bytes → CodeOption Shape → List ℕ → Type 0
 IsShape text k ps vs outputs s offsets =
     (c : Call) → IsCall c k text outputs → c.state.monitoring_map ≡ map_of ps vs
     → HasShape c (steps_text text k) s offsets

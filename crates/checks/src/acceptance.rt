@@ -5,11 +5,12 @@ ghost use Rattle.lists.specs.Choice.{is_some};
 ghost use Rattle.lines.specs.Writing.{offset_after_any, put_any};
 ghost use Rattle.rules.specs.Refusals.{valid_state};
 ghost use Rattle.inputs.specs.State.{state_of};
+ghost use Rattle.inputs.proofs.StateBlockLaws.{Sized};
 ghost use Rattle.checks.specs.Calls.{value_by, found_by, IsAcceptedAnswer, AreAcceptedBytes};
 ghost use Rattle.checks.specs.Map.{IsMap, IsNewMap};
 
 use crate::call::{Accepted, Found};
-use crate::map::{NewMap, moved_pairs, with_pair};
+use crate::map::{moved_pairs, with_pair};
 use crate::readings::Call;
 use crate::trial::Checked;
 use inputs::refusal::Refusal;
@@ -23,23 +24,29 @@ use tree::log_head::LogHead;
 pub(crate) fn accepted(
     text: &[u8],
     call: Call,
-    state: State,
+    state: &State,
     checked: Checked,
     values: [u8; LogHead::BLOCK],
     output: &mut [u8],
 ) -> Result<Accepted, Refusal>
-    requires valid { is_some (valid_state (state_of state)) ≡ true }
-    ensures answer { IsAcceptedAnswer text.now call state checked values
+    requires sized { Sized state.now }
+    requires valid { is_some (valid_state (state_of state.now)) ≡ true }
+    ensures answer { IsAcceptedAnswer text.now call state.now checked values
         (length output.old) result }
-    ensures bytes { AreAcceptedBytes text.now call state checked values
+    ensures bytes { AreAcceptedBytes text.now call state.now checked values
         output.old output.new }
 {
     let response = call.response;
     let version = response.target.version;
-    let map = new_map(response.kind, response.tree_size, state.map, checked.position, version);
-    if !map.fits {
+    let Some(map) = new_map(
+        response.kind,
+        response.tree_size,
+        state.map,
+        checked.position,
+        version,
+    ) else {
         return Err(Refusal::Room);
-    }
+    };
     let found = put_found(response.kind, version, response.target.value.of(text), output)?;
     Ok(Accepted {
         state: State {
@@ -49,21 +56,27 @@ pub(crate) fn accepted(
                 timestamp: checked.timestamp,
                 values,
             },
-            map: map.map,
+            map,
         },
         found,
     })
 }
 
 // The new map: in a search with the version at the position of the first complete entry; in
-// monitoring each pair at the end of its right path.
-fn new_map(kind: Kind, tree_size: u64, map: MonitoringMap, position: u64, version: u32) -> NewMap
+// monitoring each pair at the end of its right path. None where it has no room.
+fn new_map(
+    kind: Kind,
+    tree_size: u64,
+    map: MonitoringMap,
+    position: u64,
+    version: u32,
+) -> Option<MonitoringMap>
     requires { IsMap map }
     ensures { IsNewMap kind tree_size map position version result }
 {
     match kind {
         Kind::Search => with_pair(map, position, version),
-        Kind::Monitor => moved_pairs(tree_size, map),
+        Kind::Monitor => Some(moved_pairs(tree_size, map)),
     }
 }
 

@@ -116,5 +116,5 @@ fn answered(
     if !is_tree_head(signed, configuration, tree_size, passed.checked.root) {
         return Err(Refusal::SignedText);
     }
-    accepted(response, passed.call, *state, passed.checked, values, output)
+    accepted(response, passed.call, state, passed.checked, values, output)
 }

@@ -5,7 +5,6 @@ ghost use Rattle.rules.specs.Limits.{label_limit};
 ghost use Rattle.inputs.proofs.StateBlockLaws.{Sized};
 ghost use Rattle.checks.specs.Calls.{Is1to14Tried, Checkable, Is6to13Tried, Shapeable, Is9to13Tried, Is14Tried};
 ghost use Rattle.checks.specs.Calls.{Is9to11Tried, IsShape};
-ghost use Rattle.checks.specs.Steps.{records_capacity};
 
 use crate::limits::InputLimit;
 use crate::lookups::try_12_and_13;
@@ -14,7 +13,7 @@ use crate::readings::{Call, read_call};
 use crate::request::try_6_to_8;
 use crate::search::search_asked;
 use crate::steps::Commitments;
-use crate::timestamps::near_clock;
+use crate::timestamps::{Timestamps, near_clock};
 use inputs::refusal::Refusal;
 use inputs::response_lines::Kind;
 use inputs::state::State;
@@ -43,14 +42,12 @@ pub(crate) struct Passed {
     pub(crate) checked: Checked,
 }
 
-// Whether steps and entries are as asked; then whether there is an output of each step's version,
-// whether the times of the entries fit each other and what is kept, and the time of the last one.
+// Of a response whose steps and entries are as asked: whether there is an output of each step's
+// version, and the times of the entries.
 #[derive(Clone, Copy)]
 pub(crate) struct Shape {
-    pub(crate) asked: bool,
     pub(crate) outputs: bool,
-    pub(crate) timestamps: bool,
-    pub(crate) timestamp: u64,
+    pub(crate) timestamps: Timestamps,
 }
 
 // Tries 1 to 14 on what a call is given, for the kind of call asked for. The values of the full
@@ -195,17 +192,15 @@ fn try_9_to_11(
     positions: &[u64],
     versions: &[u32],
     outputs: &[u8],
-    commitments: &mut [u32],
+    commitments: &mut [u32; Commitments::RECORDS],
 ) -> Result<u64, Refusal>
     requires possible { Shapeable text.now call positions.now versions.now outputs.now }
-    requires room { length commitments.old ≡ records_capacity }
     ensures { Is9to11Tried text.now call positions.now versions.now
         outputs.now result commitments.new }
 {
-    let shape = asked_by_kind(text, call, positions, versions, outputs, commitments);
-    if !shape.asked {
+    let Some(shape) = asked_by_kind(text, call, positions, versions, outputs, commitments) else {
         return Err(Refusal::Shape);
-    }
+    };
     let nodes = nodes_asked(
         call.response.entries.part.of(text),
         call.response.tree_size,
@@ -217,29 +212,28 @@ fn try_9_to_11(
     if !shape.outputs {
         return Err(Refusal::MissingOutput);
     }
-    if !shape.timestamps {
+    if !shape.timestamps.fit {
         return Err(Refusal::Time);
     }
     let ahead = call.configuration.ahead;
     let behind = call.configuration.behind;
-    if !near_clock(shape.timestamp, call.clock, ahead, behind) {
+    if !near_clock(shape.timestamps.latest, call.clock, ahead, behind) {
         return Err(Refusal::Time);
     }
-    Ok(shape.timestamp)
+    Ok(shape.timestamps.latest)
 }
 
-// Whether the response shows what its kind asks. The offsets of the commitments go into the table
-// lent.
+// What else is told of a response that shows what its kind asks. The offsets of the commitments go
+// into the table lent.
 fn asked_by_kind(
     text: &[u8],
     call: Call,
     positions: &[u64],
     versions: &[u32],
     outputs: &[u8],
-    commitments: &mut [u32],
-) -> Shape
+    commitments: &mut [u32; Commitments::RECORDS],
+) -> Option<Shape>
     requires possible { Shapeable text.now call positions.now versions.now outputs.now }
-    requires room { length commitments.old ≡ records_capacity }
     ensures { IsShape text.now call positions.now versions.now
         outputs.now result commitments.new }
 {

@@ -24,7 +24,7 @@ returns-then-not-is_tree_head c =
     record { answer = it.0; bytes = it.1 }
 
 pub accepted-requires : goal.accepted-requires
-accepted-requires c = record { valid = c.in_ok-passed.ensures.0.valid }
+accepted-requires c = record { sized = c.requires; valid = c.in_ok-passed.ensures.0.valid }
 
 pub returns : goal.returns
 returns c =
