@@ -6,7 +6,7 @@ use Rattle.checks.proofs.ShapeTrialLaws.{timestamps-refused, clock-refused, trie
 use Rattle.checks.proofs.trial.try_9_to_11.Goals as goal
 
 pub returns-in_default : goal.returns-in_default
-returns-in_default c = shape-refused c.requires.possible _ c.in_default.ensures
+returns-in_default c = shape-refused c.requires.possible c.asked_by_kind.new.commitments c.in_default.ensures
 
 pub returns-then-nodes-call : goal.returns-then-nodes-call
 returns-then-nodes-call c =
