@@ -20,7 +20,7 @@ use lines::cursor::{Cursor, NextBytes, NextNumber, NextWord};
 use lines::layout::Word;
 use lines::part::Part;
 
-#[derive(Clone, Copy, PartialEq, Eq)]
+#[derive(Clone, Copy)]
 pub enum Kind {
     Search,
     Monitor,

@@ -20,7 +20,6 @@ use Rattle.hash.specs.Sha256.{digest_length}
 use Rattle.lines.specs.Number.{ascii, is_digit, is_decimal, digits_after, read_number}
 use Rattle.lines.specs.Hex.{dash, is_hex_digit, digit_value, unhex, is_hex, read_hex, hex}
 use Rattle.lines.specs.Field.{exactly, read_field, write_field}
-use Rattle.lines.specs.Readings.{as_digest, digest_in}
 use Rattle.lines.proofs.NumberLaws.{is_digit_lem}
 use Rattle.lines.proofs.HexLaws.{parts_hex, hex_unhex, hex_digits, length_hex, hex_field_some}
 use Rattle.lines.proofs.FieldLaws.{field_read}
@@ -114,32 +113,34 @@ digest_was s v e =
     rw q (omega (arith, length_hex v), hex_digits v b, n, b)
 
 -- a field that encodes no value
-no_digest : (s : Bytes) → ((v : Bytes) → read_field (exactly digest_length) s ≡ some v → ⊥) → digest_in s ≡ as_digest none
-unfolding digest_in
+no_digest : (s : Bytes) → ((v : Bytes) → read_field (exactly digest_length) s ≡ some v → ⊥)
+    → read_field (exactly digest_length) s ≡ none
 no_digest s n = go (read_field (exactly digest_length) s) refl
   where
-    go : (o : Option Bytes) → read_field (exactly digest_length) s ≡ o → as_digest o ≡ as_digest none
+    go : (o : Option Bytes) → read_field (exactly digest_length) s ≡ o → o ≡ none
     go none e = refl
     go (some v) e = absurd (n v e)
 
 -- a field of another length encodes none
-pub digest_long : (s : Bytes) → (length s ≡ 64 → ⊥) → digest_in s ≡ as_digest none
+pub digest_long : (s : Bytes) → (length s ≡ 64 → ⊥) → read_field (exactly digest_length) s ≡ none
 digest_long s n = no_digest s (λ v e. n (digest_was s v e).0)
 
 -- nor does one with a byte that is no digit
-pub digest_other : (s : Bytes) → all is_hex_digit s ≡ false → digest_in s ≡ as_digest none
+pub digest_other : (s : Bytes) → all is_hex_digit s ≡ false → read_field (exactly digest_length) s ≡ none
 digest_other s n = no_digest s (λ v e. false≢true (sym n ∙ (digest_was s v e).1))
 
 -- 64 digits encode the bytes of their pairs
-pub digest_some : (s : Bytes) → length s ≡ 64 → all is_hex_digit s ≡ true → digest_in s ≡ as_digest (some (unhex s))
-unfolding digest_in read_field read_hex dash ascii
+pub digest_some : (s : Bytes) → length s ≡ 64 → all is_hex_digit s ≡ true
+    → read_field (exactly digest_length) s ≡ some (unhex s)
+unfolding read_field read_hex dash ascii
 digest_some s l a =
     let (h, b) = hex_unhex s a (omega arith) in
     let n : length (unhex s) ≡ digest_length = omega (arith, length_hex (unhex s), ap length h) in
     let i = parts_hex s (omega arith) (omega arith) a in
     let d : same s dash ≡ false = differ_same s dash (λ q. let e : length s ≡ 1 = ap length q in omega arith) in
     let r : read_hex s ≡ some (unhex s) = rw d (provided_true (is_hex s) (unhex s) i) in
-    ap as_digest (bind_at (read_hex s) (λ (b : Bytes). eqb (length b) digest_length >> some b) (unhex s) r ∙ test_true _ _ (eq-eqb (length (unhex s)) digest_length n))
+    bind_at (read_hex s) (λ (b : Bytes). eqb (length b) digest_length >> some b) (unhex s) r
+    ∙ test_true _ _ (eq-eqb (length (unhex s)) digest_length n)
 
 module _ (s : Bytes) (i : ℕ) where
   -- a digit is passed over

@@ -1,47 +1,30 @@
 // Decimal numbers (paper 01, Response lines).
 ghost use Rattle.std.specs.Prelude.{◌≡◌};
+ghost use Rattle.lists.specs.Choice.{option_of};
 ghost use Rattle.lines.specs.Number.{read_number};
-ghost use Rattle.lines.specs.Readings.{number_of};
-
-// A number that was read, or none.
-#[derive(Clone, Copy)]
-pub enum Number {
-    Value(u64),
-    Unread,
-}
 
 // The number that s encodes, if it is a decimal number not above the bound; reading ends at the
 // first byte that makes it none.
-pub fn read_number(s: &[u8], bound: u64) -> Number
-    ensures { number_of result ≡ read_number bound s.now }
+pub fn read_number(s: &[u8], bound: u64) -> Option<u64>
+    ensures { option_of result ≡ read_number bound s.now }
 {
-    if s.len() == 0 {
-        return Number::Unread;
+    if s.is_empty() {
+        return None;
     }
     if 1 < s.len() {
         if s[0] == b'0' {
-            return Number::Unread;
+            return None;
         }
     }
     let mut value: u64 = 0;
-    let mut i: usize = 0;
-    while i < s.len() {
-        let b = s[i];
-        if b < b'0' {
-            return Number::Unread;
+    for b in s {
+        if !b.is_ascii_digit() {
+            return None;
         }
-        if b'9' < b {
-            return Number::Unread;
+        value = value.checked_mul(10)?.checked_add((*b - b'0') as u64)?;
+        if bound < value {
+            return None;
         }
-        let digit = (b - b'0') as u64;
-        if bound / 10 < value {
-            return Number::Unread;
-        }
-        if bound - value * 10 < digit {
-            return Number::Unread;
-        }
-        value = value * 10 + digit;
-        i += 1;
     }
-    Number::Value(value)
+    Some(value)
 }

@@ -31,18 +31,9 @@ impl Part {
 }
 
 // Whether two texts are the same.
+#[tactic(auto, using(lists::proofs::SameLaws::slices_same))]
 pub fn equal(a: &[u8], b: &[u8]) -> bool
     ensures { result ≡ same a.now b.now }
 {
-    if a.len() != b.len() {
-        return false;
-    }
-    let mut i: usize = 0;
-    while i < a.len() {
-        if a[i] != b[i] {
-            return false;
-        }
-        i += 1;
-    }
-    true
+    a == b
 }

@@ -10,6 +10,7 @@ use lib.Dec.{eqb, eqb-zero-suc, eqb-suc-suc}
 use lib.ListN.{length, get_or, drop, drop_of_length-le}
 use lib.Seq.{drop-cons, drop-drop}
 use borrow.Author.Tests.{eq-eqb, ne_eqb}
+use lib.Pointwise.{pointwise}
 use Rattle.lists.specs.Lists.{same, begins}
 use Rattle.lists.proofs.ListLaws.{differ_same}
 
@@ -38,6 +39,14 @@ module _ (a b : List ℕ) (i : ℕ) where
 -- lists of which one is longer differ
 pub same_longer : (a b : List ℕ) → (length a ≡ length b → ⊥) → false ≡ same a b
 same_longer a b h = sym (differ_same a b (λ e. h (ap length e)))
+
+-- the code's equality of slices of numbers
+pub slices_same : (a b : List ℕ) → pointwise eqb a b ≡ same a b
+unfolding same
+slices_same [] [] = refl
+slices_same [] (y ∷ b) = refl
+slices_same (x ∷ a) [] = refl
+slices_same (x ∷ a) (y ∷ b) = ap (λ (t : Bool). eqb x y && t) (slices_same a b)
 
 -- ---- the front of a list
 

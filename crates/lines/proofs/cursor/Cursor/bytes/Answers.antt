@@ -2,19 +2,20 @@
 use mathlib.Core.Path.{sym, ◌∙◌, ap}
 use native.Mathlib.Omega.{arith}
 use Rattle.lines.specs.Hex.{decoded_length}
-use Rattle.lines.specs.Readings.{hex_length_of}
+use Rattle.lists.specs.Choice.{option_of}
+use Rattle.lines.specs.Readings.{read_of}
 use Rattle.lines.proofs.CursorLaws.{read-beyond, read_none, read_some}
 use Rattle.lines.proofs.cursor.Cursor.bytes.Goals as goal
 
-pub returns-then-line-at : goal.returns-then-line-at
-returns-then-line-at c = sym (read-beyond decoded_length _ _ (omega arith))
+pub returns-then-line-self : goal.returns-then-line-self
+returns-then-line-self c = sym (read-beyond decoded_length _ _ (omega arith))
 
-pub returns-in-Read : goal.returns-in-Read
-returns-in-Read c =
-    let e = sym c.decoded_length.ensures ∙ ap hex_length_of c.in-Read.is in
+pub returns : goal.returns
+returns c =
+    let e = sym c.decoded_length.ensures ∙ ap option_of c.in_ok-length.was in
     sym (read_some decoded_length _ _ _ c.field-f.ensures (omega arith) _ e)
 
-pub returns-in-Unread : goal.returns-in-Unread
-returns-in-Unread c =
-    let e = sym c.decoded_length.ensures ∙ ap hex_length_of c.in-Unread.is in
-    sym (read_none decoded_length _ _ _ c.field-f.ensures (omega arith) e)
+pub returns-in_err-length : goal.returns-in_err-length
+returns-in_err-length c =
+    let e = sym c.decoded_length.ensures ∙ ap option_of c.in_err-length.was in
+    ap read_of c.from_residual.ensures ∙ sym (read_none decoded_length _ _ _ c.field-f.ensures (omega arith) e)

@@ -8,8 +8,8 @@ use Rattle.lines.proofs.OffsetLaws.{before_at}
 use Rattle.lines.proofs.CursorLaws.{field_beyond}
 use Rattle.lines.proofs.cursor.Cursor.field.Goals as goal
 
-pub returns-then-line-at : goal.returns-then-line-at
-returns-then-line-at c = sym (field_beyond _ _ (omega arith))
+pub returns-then-line-self : goal.returns-then-line-self
+returns-then-line-self c = sym (field_beyond _ _ (omega arith))
 
 pub returns : goal.returns
 unfolding field_at

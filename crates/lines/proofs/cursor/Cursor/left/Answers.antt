@@ -4,10 +4,6 @@ use lib.ListN.{length-drop}
 use Rattle.lines.specs.Cursor.{left_at}
 use Rattle.lines.proofs.cursor.Cursor.left.Goals as goal
 
-pub returns-then-text-at : goal.returns-then-text-at
-unfolding left_at
-returns-then-text-at c = let p = c.args in omega (arith, length-drop p.self.at p.text.now)
-
 pub returns : goal.returns
 unfolding left_at
 returns c = let p = c.args in omega (arith, length-drop p.self.at p.text.now)
