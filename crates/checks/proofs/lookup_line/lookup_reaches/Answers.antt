@@ -1,4 +1,4 @@
--- `checks::lookups::lookup_reaches` meets its contract: the letters of the line tell its result,
+-- `checks::lookup_line::lookup_reaches` meets its contract: the letters of the line tell its result,
 -- and what follows its version the rest.
 use mathlib.Core.Path.{◌≡◌, sym, ◌∙◌, ap}
 use mathlib.Core.Option.{some}
@@ -12,7 +12,7 @@ use Rattle.tree.specs.Lookups.{terminal_at, terminal_of}
 use Rattle.rules.specs.Limits.{version_bound}
 use Rattle.checks.proofs.LookupLineLaws.{version-misses, rest-misses, in-reaches, no-reaches}
 use Rattle.checks.proofs.LookupLineLaws.{nl-reaches}
-use Rattle.checks.proofs.lookups.lookup_reaches.Goals as goal
+use Rattle.checks.proofs.lookup_line.lookup_reaches.Goals as goal
 
 pub returns-in_default : goal.returns-in_default
 returns-in_default c l h = absurd (version-misses _ l h (sym c.number.ensures ∙ ap next_number_of c.in_default.is))

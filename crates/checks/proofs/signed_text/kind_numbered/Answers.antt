@@ -1,10 +1,10 @@
--- `checks::signed_text::numbered` meets its contract: 0 is a search, 1 is monitoring, and no other
--- number is a kind.
+-- `checks::signed_text::kind_numbered` meets its contract: 0 is a search, 1 is monitoring, and no
+-- other number is a kind.
 use mathlib.Core.Path.{sym, ap}
 use Rattle.rules.specs.Calls.{kind_numbered}
 use Rattle.checks.specs.Calls.{asked_kind}
 use Rattle.checks.proofs.SignedTextLaws.{no_kind}
-use Rattle.checks.proofs.signed_text.numbered.Goals as goal
+use Rattle.checks.proofs.signed_text.kind_numbered.Goals as goal
 
 pub returns-then-kind-eq0 : goal.returns-then-kind-eq0
 unfolding asked_kind kind_numbered

@@ -1,9 +1,9 @@
--- `checks::lookups::leaf_reaches` meets its contract: the two values and the siblings stand at
+-- `checks::lookup_line::leaf_reaches` meets its contract: the two values and the siblings stand at
 -- their offsets.
 use mathlib.Core.Path.{sym, ◌∙◌}
 use Rattle.tree.specs.Lookups.{terminal_at, terminal_of}
 use Rattle.checks.proofs.LookupLineLaws.{leaf-short, leaf-leads}
-use Rattle.checks.proofs.lookups.leaf_reaches.Goals as goal
+use Rattle.checks.proofs.lookup_line.leaf_reaches.Goals as goal
 
 pub returns-then-rest : goal.returns-then-rest
 returns-then-rest c = sym (leaf-short _ _ _ c.if-rest.true)
