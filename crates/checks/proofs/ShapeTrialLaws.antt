@@ -22,7 +22,10 @@ use Rattle.inputs.specs.State.{map_of}
 use Rattle.inputs.specs.Response.{parts_in}
 use Rattle.checks.specs.declared.readings.Call.{Call as CallBlock}
 use Rattle.checks.specs.declared.trial.Shape.{Shape}
-use Rattle.checks.specs.declared.trial.Tried9to11.{Tried9to11}
+use Rattle.std.specs.Prelude.{Ok, Err, Result}
+use Rattle.inputs.specs.declared.refusal.Refusal.{Refusal}
+use Rattle.inputs.specs.declared.refusal.Refusal.TheVariants.{Shape as WrongShape, MissingOutput, Time}
+use Rattle.inputs.specs.Refusal.{refusal_number, number_in}
 use Rattle.checks.specs.Entries.{near_clock}
 use Rattle.checks.specs.Calls.{IsCall, entries_text, number_tried, rules9to11}
 use Rattle.checks.specs.Calls.{Shapeable, is_shaped, IsShape, Is9to11Tried}
@@ -107,17 +110,16 @@ module _ {text : Bytes} {k : CallBlock} {ps vs : List ℕ} {outputs : Bytes}
     Each P = (c : Call) → IsCall c k text outputs → c.state.monitoring_map ≡ map_of ps vs → P c
 
     -- what comes of 9 to 11
-    abbrev Told : Tried9to11 → Type 0
-    Told s = Is9to11Tried text k ps vs outputs s offsets
+    abbrev Told : Result ℕ Refusal → Type 0
+    Told r = Is9to11Tried text k ps vs outputs r offsets
 
     -- a refusal
-    told-refused : {s : Tried9to11} {n : ℕ} → s.number ≡ n → 1 ≤ n → Each (λ c. n ≡ number_tried rules9to11 c)
-        → Told s
-    told-refused e l f c i m = (e ∙ f c i m, λ z. absurd (omega (arith, e, z, l)))
+    told-refused : (e : Refusal) → Each (λ c. refusal_number e ≡ number_tried rules9to11 c) → Told (Err e)
+    told-refused e f c i m = (f c i m, tt)
 
     -- steps, commitments or entries are not as asked
-    pub shape-refused : IsShape text k ps vs outputs None offsets → (s : Tried9to11) → s.number ≡ 9 → Told s
-    shape-refused h s e = told-refused e (omega arith) λ c i m. number-first 9 not_as_asked _ c
+    pub shape-refused : IsShape text k ps vs outputs None offsets → Told (Err WrongShape)
+    shape-refused h = told-refused WrongShape λ c i m. number-first 9 not_as_asked _ c
         (nine_parts c ∙ ap (λ (b : Bool). not (b && are_nodes_asked c)) (h c i m))
 
     module _ {shape : Shape} (h : IsShape text k ps vs outputs (Some shape) offsets) {s : Bytes} {n : ℕ} (is_entries : s ≡ entries_text text k)
@@ -135,8 +137,8 @@ module _ {text : Bytes} {k : CallBlock} {ps vs : List ℕ} {outputs : Bytes}
             nine_parts c ∙ ap₂ (λ (b d : Bool). not (b && d)) a (ap₂ eqb given wanted)
 
         -- the nodes are not as many as asked
-        pub nodes-refused : (n ≡ k.response.nodes.count → ⊥) → (s : Tried9to11) → s.number ≡ 9 → Told s
-        nodes-refused f s e = told-refused e (omega arith) λ c i m. number-first 9 not_as_asked _ c
+        pub nodes-refused : (n ≡ k.response.nodes.count → ⊥) → Told (Err WrongShape)
+        nodes-refused f = told-refused WrongShape λ c i m. number-first 9 not_as_asked _ c
             (nine-left c i m ∙ ap not (ne_eqb _ _ (λ z. f (sym z))))
 
         module _ (same_count : n ≡ k.response.nodes.count) where
@@ -145,8 +147,8 @@ module _ {text : Bytes} {k : CallBlock} {ps vs : List ℕ} {outputs : Bytes}
           nine-passed c i m = nine-left c i m ∙ ap not (eq-eqb _ _ (sym same_count))
 
           -- an output is missing
-          pub outputs-refused : shape.outputs ≡ false → (s : Tried9to11) → s.number ≡ 10 → Told s
-          outputs-refused f s e = told-refused e (omega arith) λ c i m.
+          pub outputs-refused : shape.outputs ≡ false → Told (Err MissingOutput)
+          outputs-refused f = told-refused MissingOutput λ c i m.
               number-first 10 output_missing _ c (not-false _ (sym (h c i m).outputs ∙ f))
               ∙ number-next 9 not_as_asked _ c (nine-passed c i m)
 
@@ -165,8 +167,8 @@ module _ {text : Bytes} {k : CallBlock} {ps vs : List ℕ} {outputs : Bytes}
                 (sym (h c i m).timestamps) (sym (h c i m).timestamp)
 
             -- the times of the entries do not fit
-            pub timestamps-refused : shape.timestamps.fit ≡ false → (s : Tried9to11) → s.number ≡ 11 → Told s
-            timestamps-refused f s e = told-refused e (omega arith) λ c i m.
+            pub timestamps-refused : shape.timestamps.fit ≡ false → Told (Err Time)
+            timestamps-refused f = told-refused Time λ c i m.
                 number-first 11 timestamps_wrong _ c
                 (eleven-left c i m ∙ ap (λ (b : Bool). not (b && is_near k shape.timestamps.latest)) f)
                 ∙ timestamps-left c i m
@@ -177,14 +179,14 @@ module _ {text : Bytes} {k : CallBlock} {ps vs : List ℕ} {outputs : Bytes}
               clock-left c i m = eleven-left c i m ∙ ap₂ (λ (x y : Bool). not (x && y)) fit (sym is_clock)
 
               -- the time of the last entry is too far from it
-              pub clock-refused : b ≡ false → (s : Tried9to11) → s.number ≡ 11 → Told s
-              clock-refused f s e = told-refused e (omega arith) λ c i m.
+              pub clock-refused : b ≡ false → Told (Err Time)
+              clock-refused f = told-refused Time λ c i m.
                   number-first 11 timestamps_wrong _ c (clock-left c i m ∙ ap not f) ∙ timestamps-left c i m
 
               -- none of 9 to 11 applies
-              pub tried_passed : b ≡ true → Told (record { number = 0; timestamp = shape.timestamps.latest })
+              pub tried_passed : b ≡ true → Told (Ok shape.timestamps.latest)
               tried_passed f c i m = (
                 number_none c ∙ number-next 11 timestamps_wrong _ c (clock-left c i m ∙ ap not f)
                     ∙ timestamps-left c i m,
-                λ _. ((h c i m).timestamp, (h c i m).stand there),
+                ((h c i m).timestamp, (h c i m).stand there),
               )

@@ -94,12 +94,8 @@ fn smallest_of(versions: &[u32]) -> u32
     ensures { result ≡ smallest versions.now }
 {
     let mut least = NONE;
-    let mut i = versions.len();
-    while 0 < i {
-        i -= 1;
-        if versions[i] < least {
-            least = versions[i];
-        }
+    for version in versions {
+        least = least.min(*version);
     }
     least
 }
@@ -110,11 +106,9 @@ fn step_on(versions: &[u32], next: &mut [u32], from: u32)
     requires versions { all (λ (v : ℕ). leb v greatest_version) versions.now ≡ true }
     ensures { next.new ≡ stepped_on versions.now next.old from }
 {
-    let mut i: usize = 0;
-    while i < versions.len() {
+    for (i, version) in versions.iter().enumerate() {
         if next[i] < from {
-            next[i] = next_not_above(versions[i], from);
+            next[i] = next_not_above(*version, from);
         }
-        i += 1;
     }
 }

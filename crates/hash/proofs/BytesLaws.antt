@@ -1,14 +1,14 @@
 -- Laws of numbers as bytes and of lists filled up with zeros (specs/Bytes.antt). A buffer that
 -- starts all zero and is filled from its front is a `padded` list at each step.
-use Rattle.std.proofs.Common.{◌≡◌, ℕ, zero, suc, ◌+◌, ◌-◌, ◌/◌, ◌%◌, ◌<◌, ◌≤◌, List, [], ◌∷◌, ◌++◌, map, length, get_or, take, drop, set, replicate, sym, refl, ap, ◌∙◌, append_assoc, append-nil, le_of_eq, arith, length-append, length-drop, length-take, length-take-le, take_all, take_at, drop_at, Bor, add-one, take-suc, ◌*◌, ◌^◌}
-use lib.ListN.{length-replicate, length-map, replicate-append-replicate}
+use Rattle.std.proofs.Common.{◌≡◌, ℕ, zero, suc, ◌+◌, ◌-◌, ◌/◌, ◌%◌, ◌<◌, ◌≤◌, List, [], ◌∷◌, ◌++◌, length, get_or, take, drop, set, replicate, sym, refl, ap, ◌∙◌, append_assoc, append-nil, le_of_eq, arith, length-append, length-drop, length-take, length-take-le, take_all, take_at, drop_at, Bor, add-one, take-suc, ◌^◌}
+use lib.ListN.{length-replicate, replicate-append-replicate}
 use lib.Seq.{paste, drop-append-add, set_at, take-length}
 use Rattle.std.proofs.lemmas.Slice.{put_mid-paste}
 use Rattle.std.proofs.lemmas.List.Concat.{flat_map-append}
 use Rattle.std.proofs.lemmas.List.Folds.{length-flat_map-take}
 use borrow.Rule.Slice.PartMut.{put_mid}
 use Rattle.std.proofs.Math.Nat.{div-div-eq-div-mul, pow-succ'}
-use Rattle.std.specs.Int.{byte_at as byte_from_end, bytes_high_first, from_be_bytes, w32}
+use Rattle.std.specs.Int.{byte_at as byte_from_end, bytes_high_first}
 use Rattle.hash.specs.Bytes.{AreBytes, big_endian, joined, padded}
 
 -- ---- bytes
@@ -64,10 +64,6 @@ pub be_bytes : (n x : ℕ) → bytes_high_first n x ≡ big_endian n x
 unfolding big_endian
 be_bytes zero x = refl
 be_bytes (suc n) x = be_bytes_last n x ∙ rw (be_bytes n (x / 256))
-
--- and std's number of four bytes
-pub from_be_bytes_4 : (a b c d : ℕ) → from_be_bytes w32 (a ∷ b ∷ c ∷ d ∷ []) ≡ ((a * 256 + b) * 256 + c) * 256 + d
-from_be_bytes_4 a b c d = omega arith
 
 -- ---- buffers
 
@@ -148,10 +144,6 @@ padded_part ps n i at end d b c h k ha hb hc he =
       he ∙ rw (more, length-append (joined (take i ps)) c, ha),
       padded_copy n at end (joined (take i ps)) c b hb (sym ha) he (omega arith) ∙ rw (← more),
     )
-
--- a struct's array field has the length that its type says
-pub field_length : (b : List ℕ) (n : ℕ) → length (map (λ x. x) b) ≡ n → length b ≡ n
-field_length b n e = sym (length-map b (λ (x : ℕ). x)) ∙ e
 
 -- ---- parts of a slice, as the code lends them
 

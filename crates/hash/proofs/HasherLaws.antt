@@ -119,7 +119,3 @@ taken_law v x s rest c count hx hr hc hn =
     let e : c ≡ padded 64 rest = rw (append-nil rest) at hc in
     let m : count % 2 ^ 64 ≡ count = omega arith in
     rw (← hx, ← hr, ← e, m)
-
-pub closed_law : (h : Hasher) (d : List ℕ) → d ≡ finished h.value h.count (take (h.count % 64) h.block) → d ≡ closed h
-unfolding closed pending
-closed_law h d e = e

@@ -133,6 +133,7 @@ fn sixteen_rounds(v: HashValue, k: &[u32; 16], w: &[u32; 16]) -> HashValue
 }
 
 // Step 4.
+#[tactic(auto, unfolding(crate::specs::Block::added))]
 fn add(x: HashValue, y: HashValue) -> HashValue
     ensures { result ≡ Block.added x y }
 {

@@ -1,5 +1,5 @@
 // Bytes put one after the other, and numbers as bytes, the highest first.
-ghost use Rattle.std.specs.Prelude.{◌≡◌, ◌+◌, ◌*◌, ◌≤◌, length};
+ghost use Rattle.std.specs.Prelude.{◌≡◌, ◌≤◌, length};
 ghost use Rattle.hash.specs.Bytes.{big_endian, joined, padded};
 
 // The parts one after the other, and zeros after them.
@@ -15,13 +15,6 @@ pub(crate) fn buffer_of<const N: usize>(parts: &[&[u8]]) -> [u8; N]
         at += part.len();
     }
     buffer
-}
-
-// The number that four bytes encode.
-pub fn number4(a: u8, b: u8, c: u8, d: u8) -> u32
-    ensures { result ≡ ((a * 256 + b) * 256 + c) * 256 + d }
-{
-    u32::from_be_bytes([a, b, c, d])
 }
 
 // The eight bytes of a number.

@@ -8,6 +8,7 @@ use crate::sha256::{blocks, finish, initial};
 
 // The hash value after the whole blocks of what has come, the bytes after them with zeros after,
 // and how many bytes have come, modulo 2^64.
+// The bytes pending stand in an array with a count beside it: memory is fixed, and no part is kept.
 #[derive(Clone, Copy)]
 pub struct Hasher {
     pub value: HashValue,
@@ -17,6 +18,7 @@ pub struct Hasher {
 
 impl Hasher {
     // Nothing has come.
+    #[tactic(auto, unfolding(crate::specs::Hasher::started))]
     pub fn new() -> Self
         ensures { result ≡ Hasher·.started }
     {
@@ -51,6 +53,7 @@ impl Hasher {
     }
 
     // The digest of all that has come.
+    #[tactic(auto, unfolding(crate::specs::Hasher::closed, crate::specs::Hasher::pending))]
     pub fn finish(self) -> [u8; 32]
         ensures { result ≡ Hasher·.closed self }
     {

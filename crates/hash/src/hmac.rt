@@ -7,6 +7,7 @@ use crate::hasher::Hasher;
 use crate::sha256::digest;
 
 // The code of a text under a key of any length.
+#[tactic(auto, using(crate::proofs::HmacLaws::hmac_parts))]
 pub fn mac(key: &[u8], text: &[u8]) -> [u8; 32]
     ensures { result ≡ Hmac.hmac key.now text.now }
 {
@@ -14,6 +15,7 @@ pub fn mac(key: &[u8], text: &[u8]) -> [u8; 32]
 }
 
 // A hasher that then takes the text, part by part.
+#[tactic(auto, unfolding(crate::specs::Hmac::begun, crate::specs::Hmac::inner_key))]
 pub fn start(key: &[u8]) -> Hasher
     ensures { result ≡ Hmac.begun key.now }
 {

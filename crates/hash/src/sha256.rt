@@ -8,6 +8,7 @@ use crate::block::{HashValue, compress};
 use crate::bytes::buffer_of;
 
 // 5.3.3
+#[tactic(auto, unfolding(crate::specs::Sha256::initial))]
 pub(crate) fn initial() -> HashValue
     ensures { result ≡ Sha256.initial }
 {

@@ -20,7 +20,7 @@ use lines::cursor::{Cursor, NextBytes, NextNumber, NextWord};
 use lines::layout::Word;
 use lines::part::Part;
 
-#[derive(Clone, Copy)]
+#[derive(Clone, Copy, PartialEq, Eq)]
 pub enum Kind {
     Search,
     Monitor,

@@ -6,29 +6,28 @@ use Rattle.checks.proofs.ShapeTrialLaws.{timestamps-refused, clock-refused, trie
 use Rattle.checks.proofs.trial.try_9_to_11.Goals as goal
 
 pub returns-in_default : goal.returns-in_default
-returns-in_default c = shape-refused c.requires.possible _ c.in_default.ensures _ c.refused_shape.ensures
+returns-in_default c = shape-refused c.requires.possible c.asked_by_kind.new.commitments c.in_default.ensures
 
 pub returns-then-nodes-call : goal.returns-then-nodes-call
 returns-then-nodes-call c =
     nodes-refused c.requires.possible _ c.in-Some.ensures c.of.ensures c.nodes_asked-nodes.ensures
-    c.if-nodes-call.true _ c.refused_shape-then-nodes-call.ensures
+    c.if-nodes-call.true
 
 pub returns-then-not-shape : goal.returns-then-not-shape
 returns-then-not-shape c =
     outputs-refused c.requires.possible _ c.in-Some.ensures c.of.ensures c.nodes_asked-nodes.ensures
-    c.if-nodes-call.false (not-true _ c.if-not-shape.true) _ c.refused_shape-then-not-shape.ensures
+    c.if-nodes-call.false (not-true _ c.if-not-shape.true)
 
 pub returns-then-not-shape-2 : goal.returns-then-not-shape-2
 returns-then-not-shape-2 c =
     timestamps-refused c.requires.possible _ c.in-Some.ensures c.of.ensures c.nodes_asked-nodes.ensures
-    c.if-nodes-call.false (not-false _ c.if-not-shape.false) (not-true _ c.if-not-shape-2.true) _
-    c.refused_shape-then-not-shape-2.ensures
+    c.if-nodes-call.false (not-false _ c.if-not-shape.false) (not-true _ c.if-not-shape-2.true)
 
 pub returns-then-not-near_clock : goal.returns-then-not-near_clock
 returns-then-not-near_clock c =
     clock-refused c.requires.possible _ c.in-Some.ensures c.of.ensures c.nodes_asked-nodes.ensures
     c.if-nodes-call.false (not-false _ c.if-not-shape.false) (not-false _ c.if-not-shape-2.false)
-    c.near_clock.ensures c.if-not-near_clock.true _ c.refused_shape-then-not-near_clock.ensures
+    c.near_clock.ensures c.if-not-near_clock.true
 
 pub returns : goal.returns
 returns c =

@@ -1,7 +1,6 @@
 -- `hash::bytes::buffer_of` meets its contract: each part finds room after the parts before it, and
 -- stands after them.
-use Rattle.std.proofs.Common.{ℕ, List, [], length, Bor, refl, ap, ◌∙◌, arith, rules, take_all}
-use Rattle.hash.specs.Bytes.{joined, padded}
+use Rattle.std.proofs.Common.{[], length, refl, ap, arith, rules}
 use Rattle.hash.proofs.BytesLaws.{padded_nil, padded_part, part_room}
 use Rattle.hash.proofs.bytes.buffer_of.Goals as goal
 
@@ -22,7 +21,3 @@ pub loop-part-preserved : goal.loop-part-preserved
 loop-part-preserved g c =
     padded_part c.args.parts.now g.row.N c.loop-part.part-index c.loop-part.at _ record { ref_ptr = (0, 0); now = [] } c.loop-part.bytes c.copy_from_slice.new.self
     c.loop-part-test.true c.requires c.loop-part.invariant.0 c.loop-part.invariant.1 c.copy_from_slice.ensures.after (omega (arith, ap length c.copy_from_slice.ensures.after))
-
-pub returns : goal.returns
-returns g c =
-    c.loop-part.invariant.1 ∙ ap (λ (ps : List (Bor (List ℕ))). padded g.row.N (joined ps)) (take_all c.loop-part.part-index c.args.parts.now c.loop-part-test.false)

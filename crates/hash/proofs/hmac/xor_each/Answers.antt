@@ -1,12 +1,9 @@
 -- `hash::hmac::xor_each` meets its contract: the bytes passed are those of the definition.
-use Rattle.std.proofs.Common.{map, get_or, bit_xor, refl, ◌∙◌, append-nil, arith, length-set, take_all}
+use Rattle.std.proofs.Common.{map, get_or, bit_xor, ◌∙◌, append-nil, arith, length-set, take_all}
 use Rattle.std.proofs.lemmas.List.{drop_all, get_or_default}
 use Rattle.std.proofs.lemmas.List.Edits.{map_over_more}
 use Rattle.hash.specs.Hmac.{xored}
 use Rattle.hash.proofs.hmac.xor_each.Goals as goal
-
-pub loop-b-init : goal.loop-b-init
-loop-b-init c = (c.well_formed.0.1.0.1, c.well_formed.0.1.0.1, refl)
 
 pub loop-b-preserved : goal.loop-b-preserved
 loop-b-preserved c =
