@@ -37,7 +37,7 @@ use Rattle.inputs.proofs.RefusalNumberLaws.{above_zero}
 use Rattle.checks.specs.declared.call.Accepted.{Accepted}
 use Rattle.checks.specs.declared.call.Found.{Found}
 use Rattle.checks.specs.Calls.{asked_kind, block_after, version_of, Answer, answer_of, accepted_answer, answer_in}
-use Rattle.checks.proofs.AfterCallLaws.{text_accepted}
+use Rattle.checks.proofs.AfterCallLaws.{text_accepted, accepted_number, accepted_state}
 use Rattle.verifier.specs.declared.request.Request.{Request as RequestBlock}
 use Rattle.verifier.specs.Request.{request_in}
 use Rattle.verifier.specs.declared.files.Outcome.{Outcome}
@@ -97,16 +97,7 @@ abbrev pub length_found : CodeOption Found → CodeOption ℕ
 length_found None = None
 length_found (Some f) = Some f.length
 
--- what is known of an answer that accepts: its state, and its number
-accepted_state : (b : StateBlock) (f : CodeOption Found) → (accepted_answer b f).state ≡ b
-accepted_state b None = refl
-accepted_state b (Some f) = refl
-
-accepted_number : (b : StateBlock) (f : CodeOption Found) → (accepted_answer b f).number ≡ 0
-accepted_number b None = refl
-accepted_number b (Some f) = refl
-
--- its line
+-- the line of an answer that accepts
 accepted_said : (b : StateBlock) (f : CodeOption Found) → accepted_line f b.log.size b.map.count ≡ accepting (accepted_answer b f)
 accepted_said b None = refl
 accepted_said b (Some f) = refl
