@@ -41,7 +41,8 @@ use Rattle.checks.proofs.AfterCallLaws.{text_accepted, accepted_number, accepted
 use Rattle.verifier.specs.declared.request.Request.{Request as RequestBlock}
 use Rattle.verifier.specs.Request.{request_in}
 use Rattle.verifier.specs.declared.files.Outcome.{Outcome}
-use Rattle.verifier.specs.Files.{file_read, files_read, Outcome as Numbers, outcome_of, accepted_outcome, outcome_in, are_within, Left, IsRefusal}
+use Rattle.verifier.specs.Files.{file_read, files_read, Outcome as Numbers, outcome_of, accepted_outcome, outcome_in, are_within, length_found}
+use Rattle.verifier.specs.Files.{Left, IsRefusal}
 use Rattle.verifier.specs.Files.{accepted_line, version_field}
 
 -- what is written from byte 0 on stops at its length
@@ -92,20 +93,17 @@ accepting_printed b c =
     ap (λ (v : Bytes). line_of (ascii "yes" ∷ v ∷ decimal c.parts.tree_size ∷ decimal (length (map_after c)) ∷ []))
     (version_printed (target_of c.parts.finding))
 
--- how many bytes the value that was found has
-abbrev pub length_found : CodeOption Found → CodeOption ℕ
-length_found None = None
-length_found (Some f) = Some f.length
-
 -- the line of an answer that accepts
 accepted_said : (b : StateBlock) (f : CodeOption Found) → accepted_line f b.log.size b.map.count ≡ accepting (accepted_answer b f)
 accepted_said b None = refl
 accepted_said b (Some f) = refl
 
--- and its lengths
+-- and its lengths, with those of the line and of the new text
+abbrev lengths : ℕ → Answer → ℕ → Numbers
+lengths stop r n = record { number = 0; line = stop; found = r.found; value = r.length; text = n }
+
 accepted_lengths : (b : StateBlock) (f : CodeOption Found) (stop n : ℕ)
-    → accepted_outcome stop (length_found f) n
-    ≡ (record { number = 0; line = stop; found = (accepted_answer b f).found; value = (accepted_answer b f).length; text = n } : Numbers)
+    → accepted_outcome stop (length_found f) n ≡ lengths stop (accepted_answer b f) n
 accepted_lengths b None stop n = refl
 accepted_lengths b (Some f) stop n = refl
 

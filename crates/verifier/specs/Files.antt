@@ -95,6 +95,11 @@ abbrev pub IsRefusal : ℕ → OutcomeBlock → Bytes → Bytes → Type 0
 IsRefusal number r line line' =
     (outcome_in r ≡ outcome_of (refused number)) × (line' ≡ written line 0 (printed (refused number)))
 
+-- how many bytes the value that was found has
+abbrev pub length_found : CodeOption Found → CodeOption ℕ
+length_found None = None
+length_found (Some f) = Some f.length
+
 -- the field of the version that was found, or of none
 abbrev pub version_field : CodeOption Found → Bytes
 version_field None = ascii "-"

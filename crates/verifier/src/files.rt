@@ -9,11 +9,11 @@ ghost use Rattle.inputs.specs.Refusal.{refusal_number};
 ghost use Rattle.inputs.specs.State.{state_of};
 ghost use Rattle.checks.specs.Calls.{asked_kind};
 ghost use Rattle.verifier.specs.Request.{identifier_room, request_in};
-ghost use Rattle.verifier.specs.Files.{files_read, outcome_of, outcome_in, are_within, Left, IsRefusal};
+ghost use Rattle.verifier.specs.Files.{files_read, outcome_of, outcome_in, are_within, length_found, Left, IsRefusal};
 
 use crate::answer_line::{LINE, put_accepted, put_refusal};
 use crate::request::{Request, read_request};
-use checks::call::judge;
+use checks::call::{Found, judge};
 use checks::limits::InputLimit;
 use inputs::refusal::Refusal;
 use inputs::response_lines::Target;
@@ -118,12 +118,22 @@ fn files_fit(
     ensures { result ≡ are_within request.now response.now
         configuration.now state.now outputs.now signed.now }
 {
-    request.len() <= FileLimit::REQUEST
-        && response.len() <= FileLimit::RESPONSE
-        && configuration.len() <= InputLimit::CONFIGURATION
-        && state.len() <= State::TEXT
-        && outputs.len() <= InputLimit::VRF_OUTPUTS
-        && signed.len() <= InputLimit::SIGNED_TEXT
+    if FileLimit::REQUEST < request.len() {
+        return false;
+    }
+    if FileLimit::RESPONSE < response.len() {
+        return false;
+    }
+    if InputLimit::CONFIGURATION < configuration.len() {
+        return false;
+    }
+    if State::TEXT < state.len() {
+        return false;
+    }
+    if InputLimit::VRF_OUTPUTS < outputs.len() {
+        return false;
+    }
+    signed.len() <= InputLimit::SIGNED_TEXT
 }
 
 // The outcome of a request, for a state.
@@ -162,13 +172,20 @@ fn judged(
             Outcome {
                 line: put_accepted(line, accepted.found, new.log.size, new.map.count),
                 judged: Ok(Written {
-                    value: accepted.found.map(|value| value.length),
+                    value: length_found(accepted.found),
                     text: write_state(new, text),
                 }),
             }
         }
         Err(answer) => refused(answer.refusal, line),
     }
+}
+
+// How many bytes the value that was found has.
+fn length_found(found: Option<Found>) -> Option<usize>
+    ensures { result ≡ length_found found }
+{
+    found.map(|value| value.length)
 }
 
 // The outcome of a refusal.

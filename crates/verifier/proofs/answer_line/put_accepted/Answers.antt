@@ -3,7 +3,7 @@
 use Rattle.verifier.proofs.answer_line.put_accepted.Goals as goal
 
 pub returns-in-Some : goal.returns-in-Some
-returns-in-Some c = c.put_found.ensures
+returns-in-Some c = rw c.in-Some.is c.put_found.ensures
 
 pub returns-in-None : goal.returns-in-None
-returns-in-None c = c.put_monitored.ensures
+returns-in-None c = rw c.in-None.is c.put_monitored.ensures
