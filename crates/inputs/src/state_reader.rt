@@ -108,10 +108,11 @@ fn state_from_lines(first: SizeLine, keeps: Keeps, pairs: Pairs) -> Option<State
     if State::PAIRS < pairs.map.count {
         return None;
     }
+    let values = keeps.values;
     let log = KeptLog {
         size: first.size,
         timestamp: first.timestamp,
-        values: keeps.values,
+        values,
     };
     let state = State {
         label: first.label,
@@ -214,7 +215,8 @@ fn read_keeps(text: &[u8], from: usize) -> Keeps
     let mut values = [0u8; LogHead::BLOCK];
     let mut count: usize = 0;
     let mut at = from;
-    while let Some((value, next)) = keep_from(text, at) {
+    while let Some(keep) = keep_from(text, at) {
+        let (value, next) = keep;
         put_bytes(&mut values, VALUE * count, &value);
         count += 1;
         at = next;

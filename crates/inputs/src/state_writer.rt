@@ -18,7 +18,7 @@ ghost use Rattle.inputs.specs.StateWriter.{text_for, Wrote};
 
 use crate::state::State;
 use lines::layout::Word;
-use lines::writing::{next_offset, put_bytes, put_decimal, put_hex};
+use lines::writing::{put_bytes, put_decimal, put_hex};
 
 // The bytes of a value.
 const VALUE: usize = 32;
@@ -145,7 +145,7 @@ fn put_number(out: &mut [u8], at: usize, n: u64) -> usize
     ensures { Wrote out.old at (tab ∷ decimal n) result out.new }
 {
     let offset = put_all(out, at, b"\t");
-    next_offset(put_decimal(out, offset, n), offset)
+    put_decimal(out, offset, n).unwrap_or(offset)
 }
 
 // A byte string as a field, after its tab.
@@ -154,7 +154,7 @@ fn put_field(out: &mut [u8], at: usize, s: &[u8]) -> usize
     ensures { Wrote out.old at (tab ∷ hex_field s.now) result out.new }
 {
     let offset = put_all(out, at, b"\t");
-    next_offset(put_hex(out, offset, s), offset)
+    put_hex(out, offset, s).unwrap_or(offset)
 }
 
 // Bytes as they are.
@@ -162,5 +162,5 @@ fn put_all(out: &mut [u8], at: usize, s: &[u8]) -> usize
     requires { at + length s.now ≤ length out.old }
     ensures { Wrote out.old at s.now result out.new }
 {
-    next_offset(put_bytes(out, at, s), at)
+    put_bytes(out, at, s).unwrap_or(at)
 }
