@@ -8,6 +8,7 @@ use native.Mathlib.Omega.{arith}
 use lib.Dec.{eqb}
 use lib.ListN.{length, drop}
 use borrow.Author.Tests.{eq-eqb, ne_eqb, eqb-true, eqb-false}
+use Rattle.std.specs.Prelude.{Some}
 use Rattle.lists.specs.Lists.{Bytes}
 use Rattle.lines.specs.Layout.{entry_fields}
 use Rattle.tree.specs.LogTree.{LogEntry}
@@ -22,7 +23,6 @@ use Rattle.inputs.specs.Response.{entries_in, loose_in}
 use Rattle.inputs.specs.declared.response_lines.Kind.{Kind}
 use Rattle.checks.specs.declared.timestamps.Timestamps.{Timestamps}
 use Rattle.checks.specs.declared.entries.EntriesAsked.{EntriesAsked}
-use Rattle.checks.specs.declared.sections.NextEntry.TheVariants.{Entry as EntryAt}
 use Rattle.checks.specs.Sections.{EntryLines, IsNextEntry, AfterLookups}
 use Rattle.checks.specs.Entries.{versions_of, are_asked, AreTimestamps, no_timestamps, timestamps_after}
 use Rattle.checks.specs.MonitoredVersions.{ArePairsAsked, AreMarks, IsMarkedBy, AreMarkedBy}
@@ -141,7 +141,7 @@ module _ (kind : Kind) (s : Bytes) (n size timestamp : ℕ) (ladder ps vs : List
           unasked marks c.marks
           (c.asked ∙ rw (here, e) (asked-at-short (fit_by kind) (wanted_by kind ladder n ps vs) a rest))
 
-      module _ (first : ℕ) (e : IsNextEntry s at (EntryAt first)) where
+      module _ (first : ℕ) (e : IsNextEntry s at (Some first)) where
         -- all are as asked where the next one has the position and the lookups that are asked, and
         -- those after it are as asked
         next-asked : are_asked kind ladder n ps vs (entries_in s)

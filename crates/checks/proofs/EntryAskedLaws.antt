@@ -12,21 +12,8 @@ use Rattle.rules.specs.Response.{Lookup}
 use Rattle.rules.specs.Search.{is_beginning}
 use Rattle.inputs.specs.declared.response_lines.Kind.{Kind}
 use Rattle.inputs.specs.declared.response_lines.Kind.TheVariants.{Search, Monitor}
-use Rattle.checks.specs.declared.monitored_versions.LargestPair.{LargestPair}
-use Rattle.checks.specs.declared.monitored_versions.LargestPair.TheVariants.{Pair, NoPair}
 use Rattle.checks.specs.Entries.{versions_of}
 use Rattle.checks.specs.MonitoredVersions.{IsLargest, shown_at, wanted_by, fit_by, IsMarkedFor, IsMarkedBy}
-
--- ---- the pair
-
-module _ (n : ℕ) (ps vs : List ℕ) (x : ℕ) (r : LargestPair) where
-  -- what is known of the pair, once one was found
-  pub pair_found : (i : ℕ) → r ≡ Pair i → IsLargest n ps vs x r → IsLargest n ps vs x (Pair i)
-  pair_found i e h = subst (λ (p : LargestPair). IsLargest n ps vs x p) e h
-
-  -- or once none was found
-  pub pair-missing : r ≡ NoPair → IsLargest n ps vs x r → IsLargest n ps vs x NoPair
-  pair-missing e h = subst (λ (p : LargestPair). IsLargest n ps vs x p) e h
 
 -- ---- the lookups of monitoring
 

@@ -7,6 +7,7 @@ use Prim.Native.Nat.{ℕ, ◌+◌, ◌-◌, ◌≤◌, ◌<◌}
 use native.Mathlib.Omega.{arith}
 use lib.Dec.{eqb}
 use lib.ListN.{length, take, drop}
+use Rattle.std.specs.Prelude.{Some}
 use Rattle.lists.specs.Lists.{Bytes, begins}
 use Rattle.lists.proofs.SameLaws.{begins_none, begins_next}
 use Rattle.lines.specs.Line.{ended_lines, leading}
@@ -15,11 +16,6 @@ use Rattle.rules.specs.ResponseText.{Item, entry_item, lookup_item, read_item, g
 use Rattle.rules.specs.Kinds.{Asked, asked_at}
 use Rattle.rules.specs.Refusals.{entries_asked}
 use Rattle.inputs.specs.Response.{entries_in, loose_in}
-use Rattle.checks.specs.declared.sections.NextEntry.{NextEntry}
-use Rattle.checks.specs.declared.sections.NextEntry.TheVariants.{Entry as EntryAt, Unread as NoEntry}
-use Rattle.checks.specs.declared.sections.NextLookup.{NextLookup}
-use Rattle.checks.specs.declared.sections.NextLookup.TheVariants.{Lookup as LookupAt}
-use Rattle.checks.specs.declared.sections.NextLookup.TheVariants.{Unread as NoLookup}
 use Rattle.checks.specs.Sections.{EntryLines, with_lookups, IsNextEntry, IsNextLookup}
 use Rattle.checks.specs.Sections.{AfterLookups, OfLookup}
 use Rattle.checks.specs.Entries.{versions_of}
@@ -40,16 +36,6 @@ pub record Compared (s : Bytes) (from : ℕ) (wanted : List ℕ) (at count : ℕ
   pub begun : are_begun s from wanted ≡ (begin && are_begun s at (drop count wanted))
   pub counted : length (loose_in (drop from s)) ≡ count + length (loose_in (drop at s))
 
--- what is known of the lookup at an offset, once one was found
-pub lookup_found : (s : Bytes) (at : ℕ) (r : NextLookup) (stop next : ℕ)
-    → r ≡ LookupAt stop next → IsNextLookup s at r → IsNextLookup s at (LookupAt stop next)
-lookup_found s at r stop next e h = subst (λ (n : NextLookup). IsNextLookup s at n) e h
-
--- or once none was found
-pub lookup_missing : (s : Bytes) (at : ℕ) (r : NextLookup)
-    → r ≡ NoLookup → IsNextLookup s at r → loose_in (drop at s) ≡ []
-lookup_missing s at r e h = subst (λ (n : NextLookup). IsNextLookup s at n) e h
-
 module _ (s : Bytes) (from : ℕ) (wanted : List ℕ) where
   -- at first none was compared
   pub compared-start : EntryLines (drop from s) → from ≤ length s → Compared s from wanted from 0 true
@@ -65,7 +51,7 @@ module _ (s : Bytes) (from : ℕ) (wanted : List ℕ) where
 
   module _ (at count : ℕ) (begin : Bool) (c : Compared s from wanted at count begin) where
     -- the lookup at the offset is compared too
-    pub compared-next : (stop next : ℕ) → IsNextLookup s at (LookupAt stop next)
+    pub compared-next : (stop next : ℕ) → IsNextLookup s at (Some (stop, next))
         → (v : ℕ) → OfLookup (take (stop - at) (drop at s)) (λ (l : Lookup). l.version) v
         → (stands : Bool) → stands ≡ begins (v ∷ []) (drop count wanted)
         → Compared s from wanted next (count + 1) (begin && stands)
@@ -123,16 +109,6 @@ some_entries s at l e h f =
     some-line read_item s at l h (no_items (leading read_item (ended_lines (drop at s))).0 e f)
 
 -- ---- the next entry
-
--- what is known of the entry at an offset, once one was found
-pub entry_found : (s : Bytes) (at : ℕ) (r : NextEntry) (next : ℕ)
-    → r ≡ EntryAt next → IsNextEntry s at r → IsNextEntry s at (EntryAt next)
-entry_found s at r next e h = subst (λ (n : NextEntry). IsNextEntry s at n) e h
-
--- or once none was found
-pub entry_missing : (s : Bytes) (at : ℕ) (r : NextEntry)
-    → r ≡ NoEntry → IsNextEntry s at r → entries_in (drop at s) ≡ []
-entry_missing s at r e h = subst (λ (n : NextEntry). IsNextEntry s at n) e h
 
 -- a position is that of the log's entry
 pub log_position : (e : Entry) → (log_entry e).position ≡ e.position

@@ -11,6 +11,7 @@ use lib.Dec.{eqb}
 use lib.ListN.{length, length-append, length-drop, take, drop, get_or}
 use lib.Seq.{length-take-le, drop-drop, drop-append_seam}
 use borrow.Author.Tests.{eq-eqb, ne_eqb, eqb-true}
+use Rattle.std.specs.Prelude.{Some}
 use Rattle.lists.specs.Choice.{is_some, or_else}
 use Rattle.lists.specs.Lists.{Bytes}
 use Rattle.lists.proofs.ChoiceLaws.{or_holds, provided_some, bind_some, bind_by, map_some}
@@ -39,9 +40,6 @@ use Rattle.rules.specs.ResponseText.{read_item, grouped}
 use Rattle.inputs.specs.Response.{steps_in, loose_in, entries_in, AllRead}
 use Rattle.checks.specs.Sections.{StepLines, EntryLines, CommitmentAt, IsNextStep, with_lookups}
 use Rattle.checks.specs.Sections.{IsNextEntry, read_lookup, IsNextLookup}
-use Rattle.checks.specs.declared.sections.NextStep.TheVariants.{Step as StepAt}
-use Rattle.checks.specs.declared.sections.NextEntry.TheVariants.{Entry as EntryAt}
-use Rattle.checks.specs.declared.sections.NextLookup.TheVariants.{Lookup as LookupAt}
 use Rattle.checks.proofs.LookupLineLaws.{first_letter, lookup-line, letter_other}
 
 -- ---- lines of one word and fields
@@ -236,7 +234,13 @@ module _ (s : Bytes) (at : ℕ) (a : StepLines (drop at s)) where
   module _ (stop next : ℕ) (e : line_at s at ≡ some (stop, next)) where
     -- the line at an offset of step lines is that of the next step
     pub step-next : (v field : ℕ) → read_at (read_number version_bound) (take (stop - at) (drop at s)) step_fields ≡ some (v, field)
-        → IsNextStep s at (StepAt v (eqb (length (take (stop - at) (drop at s))) (field + value_digits)) (at + field) next)
+        → IsNextStep s at
+        (Some (record {
+          version = v;
+          committed = eqb (length (take (stop - at) (drop at s))) (field + value_digits);
+          commitment = at + field;
+          next = next;
+        }))
     unfolding steps_in ascii
     step-next v field r =
         let l = take (stop - at) (drop at s) in
@@ -336,11 +340,11 @@ entry_told l rest x h =
 module _ (s : Bytes) (at : ℕ) (a : EntryLines (drop at s)) where
   module _ (stop next : ℕ) (e : line_at s at ≡ some (stop, next)) where
     -- where no lookup stands, the line at an offset is that of the next entry
-    pub entry_next : loose_in (drop at s) ≡ [] → IsNextEntry s at (EntryAt next)
+    pub entry_next : loose_in (drop at s) ≡ [] → IsNextEntry s at (Some next)
     entry_next n = let f = first-line read_item s at stop next e a in go f.value f.values (item_was _ f.value f.reads) f
       where
         go : (i : Item) → (leading read_item (ended_lines (drop at s))).0 ≡ i ∷ (leading read_item (ended_lines (drop next s))).0
-            → ItemLine (take (stop - at) (drop at s)) i → FirstLine read_item s at stop next → IsNextEntry s at (EntryAt next)
+            → ItemLine (take (stop - at) (drop at s)) i → FirstLine read_item s at stop next → IsNextEntry s at (Some next)
         go (lookup_item x) v r f = let k = ap length (sym n ∙ (lookup-grouped s at next x v).0) in absurd (omega arith)
         go (entry_item x) v r f =
             let h = f.here in
@@ -359,11 +363,11 @@ module _ (s : Bytes) (at : ℕ) (a : EntryLines (drop at s)) where
             )
 
     -- where the byte at an offset does not begin an entry line, the line is that of the next lookup
-    pub lookup-next : (get_or s at 0 ≡ 101 → ⊥) → IsNextLookup s at (LookupAt stop next)
+    pub lookup-next : (get_or s at 0 ≡ 101 → ⊥) → IsNextLookup s at (Some (stop, next))
     lookup-next n = let f = first-line read_item s at stop next e a in go f.value f.values (item_was _ f.value f.reads) f
       where
         go : (i : Item) → (leading read_item (ended_lines (drop at s))).0 ≡ i ∷ (leading read_item (ended_lines (drop next s))).0
-            → ItemLine (take (stop - at) (drop at s)) i → FirstLine read_item s at stop next → IsNextLookup s at (LookupAt stop next)
+            → ItemLine (take (stop - at) (drop at s)) i → FirstLine read_item s at stop next → IsNextLookup s at (Some (stop, next))
         go (lookup_item x) v r f =
             let h = f.here in
             let (p, q) = lookup-grouped s at next x v in

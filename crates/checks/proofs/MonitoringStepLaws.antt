@@ -8,13 +8,14 @@ use native.Mathlib.Omega.{arith}
 use lib.Dec.{eqb}
 use lib.ListN.{length, drop}
 use borrow.Author.Tests.{eqb-true, eqb-false, not-true, not-false}
+use Rattle.std.specs.Prelude.{Some}
 use Rattle.lists.specs.Lists.{Bytes}
 use Rattle.lists.proofs.ChoiceLaws.{or_holds, or_fails}
 use Rattle.tree.specs.SearchTree.{next_from}
 use Rattle.tree.proofs.NextLaws.{listed_from, from_all, from_none, next_above, from_next}
 use Rattle.rules.specs.Limits.{vrf_outputs_limit, version_bound}
 use Rattle.inputs.specs.Response.{steps_in}
-use Rattle.checks.specs.declared.sections.NextStep.TheVariants.{Step as StepAt}
+use Rattle.checks.specs.declared.sections.NextStep.{NextStep}
 use Rattle.checks.specs.Sections.{StepLines, IsNextStep}
 use Rattle.checks.specs.Steps.{records_capacity, IsNoted}
 use Rattle.checks.specs.MonitoredVersions.{counted, smallest, stepped_on, AreMarks}
@@ -109,28 +110,27 @@ module _ {s outputs : Bytes} {ms vs next offsets : List ℕ} {at : ℕ} {there :
         go true q = read-end r.read n (wanted-none (eqb-true w version_bound q))
         go false q = read_short r.read n (wanted-first (eqb-false w version_bound q))
 
-    module _ {version : ℕ} {present : Bool} {offset after : ℕ}
-        (k : IsNextStep s at (StepAt version present offset after)) where
+    module _ {x : NextStep} (k : IsNextStep s at (Some x)) where
       -- where a step is left and no version is, they are not as asked
       pub stepping-more : w ≡ version_bound → SteppingAnswered s outputs ms vs false there offsets
       stepping-more b = read_more r.read (λ n. omega (arith, ap length (sym k.1 ∙ n))) (wanted-none b)
 
       module _ (b : w ≡ version_bound → ⊥) where
         -- nor where the next step has not the next version or has no commitment
-        pub stepping-other : mismatch version w present ≡ true → SteppingAnswered s outputs ms vs false there offsets
-        stepping-other h = read_other r.read k (wanted-first b) (mismatched version w present h)
+        pub stepping-other : mismatch x.version w x.committed ≡ true → SteppingAnswered s outputs ms vs false there offsets
+        stepping-other h = read_other r.read k (wanted-first b) (mismatched x.version w x.committed h)
 
-        module _ (m : mismatch version w present ≡ false) where
+        module _ (m : mismatch x.version w x.committed ≡ false) where
           -- otherwise its version is below the bound
-          pub stepping-fit : version < version_bound
-          stepping-fit = omega (arith, wanted-below b, (matched version w present m).0)
+          pub stepping-fit : x.version < version_bound
+          stepping-fit = omega (arith, wanted-below b, (matched x.version w x.committed m).0)
 
           -- and it is one of those read
           pub stepping-next : length outputs ≤ vrf_outputs_limit → {found : Bool} {next' offsets' : List ℕ}
-              → IsNoted outputs version offset offsets found offsets' → length offsets' ≡ length offsets
-              → next' ≡ stepped_on vs next (version + 1) → Stepping s outputs ms vs next' offsets' after (there && found)
+              → IsNoted outputs x.version x.commitment offsets found offsets' → length offsets' ≡ length offsets
+              → next' ≡ stepped_on vs next (x.version + 1) → Stepping s outputs ms vs next' offsets' x.next (there && found)
           stepping-next l i z n =
-              let (q, g) = matched version w present m in
+              let (q, g) = matched x.version w x.committed m in
               record {
                 from = w + 1;
                 read =

@@ -22,7 +22,7 @@ use Rattle.inputs.specs.Response.{entries_in, loose_in}
 use Rattle.checks.specs.declared.lookups.Sought.{Sought}
 use Rattle.checks.specs.declared.lookups.Summary.{Summary}
 use Rattle.checks.specs.declared.lookups.Results.{Results}
-use Rattle.checks.specs.declared.sections.NextEntry.TheVariants.{Entry as EntryAt, Unread as NoEntry}
+use Rattle.std.specs.Prelude.{Some, None}
 use Rattle.checks.specs.Sections.{EntryLines, with_lookups, IsNextEntry, AfterLookups}
 use Rattle.checks.specs.Lookups.{TriedWith, IsSummary, no_entries, fit_so_far, AllSteps, AreResults}
 use Rattle.checks.specs.Lookups.{AreNextResults}
@@ -293,7 +293,7 @@ module _ (s : Bytes) (sought : Sought) (outputs steps : Bytes) (offsets ladder :
   module _ (at : ℕ) (x : Results) (h : EntriesJudged s sought outputs steps offsets ladder at x) where
     -- the entry at the offset is judged too
     pub judged-next : (after next : ℕ) (root : Bytes) (position wanted : ℕ) (entry : Summary) (y : Results)
-        → IsNextEntry s at (EntryAt after) → root ≡ (entry_in (drop (at + entry_fields) s)).prefix_root
+        → IsNextEntry s at (Some after) → root ≡ (entry_in (drop (at + entry_fields) s)).prefix_root
         → position ≡ (entry_in (drop (at + entry_fields) s)).position → wanted ≡ length ladder
         → IsSummary sought outputs steps offsets ladder root (loose_in (drop after s)) entry
         → AfterLookups s after next
@@ -319,7 +319,7 @@ module _ (s : Bytes) (sought : Sought) (outputs steps : Bytes) (offsets ladder :
         }
 
     -- where none is left, all are
-    pub judged-all : IsNextEntry s at NoEntry → AreResults sought outputs steps offsets ladder (entries_in s) x
+    pub judged-all : IsNextEntry s at None → AreResults sought outputs steps offsets ladder (entries_in s) x
     judged-all n =
         let e : entries_in s ≡ h.done =
         h.split ∙ ap (λ (es : List Entry). h.done ++ es) n ∙ append-nil h.done in

@@ -8,6 +8,7 @@ use native.Mathlib.Omega.{arith}
 use lib.Dec.{eqb, ltb}
 use lib.ListN.{length, get_or, drop}
 use borrow.Author.Tests.{eqb-true, eqb-false, not-true, not-false}
+use Rattle.std.specs.Prelude.{Some}
 use Rattle.lists.specs.Lists.{Bytes}
 use Rattle.lists.proofs.ChoiceLaws.{or_holds, or_fails}
 use Rattle.lines.proofs.OffsetLaws.{at_cons, at_end}
@@ -16,7 +17,7 @@ use Rattle.tree.proofs.LadderLaws.{ladder_distinct}
 use Rattle.rules.specs.Limits.{vrf_outputs_limit}
 use Rattle.rules.specs.ResponseText.{read_step}
 use Rattle.inputs.specs.Response.{steps_in}
-use Rattle.checks.specs.declared.sections.NextStep.TheVariants.{Step as StepAt}
+use Rattle.checks.specs.declared.sections.NextStep.{NextStep}
 use Rattle.checks.specs.Sections.{StepLines, IsNextStep}
 use Rattle.checks.specs.Steps.{records_capacity, IsNoted}
 use Rattle.checks.proofs.LineStepLaws.{no-line-end, some-line}
@@ -79,20 +80,19 @@ module _ {s outputs : Bytes} (t : ℕ) (wanted : List ℕ) {offsets : List ℕ} 
   pub ladder-short : i < length wanted → steps_in (drop at s) ≡ [] → LadderAnswered s outputs t false there offsets
   ladder-short h n = read_short r n (at_cons wanted i h)
 
-  module _ {version : ℕ} {present : Bool} {offset next : ℕ} (k : IsNextStep s at (StepAt version present offset next))
-      (h : i < length wanted) where
+  module _ {x : NextStep} (k : IsNextStep s at (Some x)) (h : i < length wanted) where
     -- nor where the next step is another
-    pub ladder-other : differs version (get_or wanted i 0) present (ltb version t) ≡ true
+    pub ladder-other : differs x.version (get_or wanted i 0) x.committed (ltb x.version t) ≡ true
         → LadderAnswered s outputs t false there offsets
-    ladder-other d = read_other r k (at_cons wanted i h) (not_both version (get_or wanted i 0) present (ltb version t) d)
+    ladder-other d = read_other r k (at_cons wanted i h) (not_both x.version (get_or wanted i 0) x.committed (ltb x.version t) d)
 
     -- otherwise it is one of those read
-    pub ladder-next : differs version (get_or wanted i 0) present (ltb version t) ≡ false
+    pub ladder-next : differs x.version (get_or wanted i 0) x.committed (ltb x.version t) ≡ false
         → length outputs ≤ vrf_outputs_limit → {b : Bool} {offsets' : List ℕ}
-        → IsNoted outputs version offset offsets b offsets' → length offsets' ≡ length offsets
-        → LadderRead s outputs t wanted offsets' next (i + 1) (there && b)
+        → IsNoted outputs x.version x.commitment offsets b offsets' → length offsets' ≡ length offsets
+        → LadderRead s outputs t wanted offsets' x.next (i + 1) (there && b)
     ladder-next d l n z =
-        let (e, g) = both version (get_or wanted i 0) present (ltb version t) d in
+        let (e, g) = both x.version (get_or wanted i 0) x.committed (ltb x.version t) d in
         read_next r k (ladder_distinct t) l (at_cons wanted i h ∙ ap (λ (v : ℕ). v ∷ drop (i + 1) wanted) (sym e)) g n z
 
   -- after the last version they are as asked where no step is left

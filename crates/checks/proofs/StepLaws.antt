@@ -15,6 +15,7 @@ use lib.Dec.{eqb, ltb}
 use lib.ListN.{length, get_or, drop, set, length-map}
 use lib.Seq.{append_snoc, get_or-set_same, get_or-set_other}
 use borrow.Author.Tests.{eqb-true, le-ltb, not-true}
+use Rattle.std.specs.Prelude.{Some}
 use Rattle.lists.specs.Choice.{is_some}
 use Rattle.lists.specs.Lists.{Bytes, all, same, rising, runs}
 use Rattle.lists.proofs.ChoiceLaws.{and_holds, holds_and, never_holds, provided_some}
@@ -31,7 +32,7 @@ use Rattle.inputs.specs.declared.vrf_outputs.FoundOutput.{FoundOutput}
 use Rattle.inputs.specs.VrfOutputs.{records_below, IsRecordOf}
 use Rattle.inputs.specs.Response.{steps_in}
 use Rattle.inputs.proofs.VrfOutputLaws.{found_is, found_index, fewer_below}
-use Rattle.checks.specs.declared.sections.NextStep.TheVariants.{Step as StepAt}
+use Rattle.checks.specs.declared.sections.NextStep.{NextStep}
 use Rattle.checks.specs.Sections.{StepLines, CommitmentAt, IsNextStep}
 use Rattle.checks.specs.Steps.{versions_of, records_capacity, CommitmentsBy, IsNoted}
 use Rattle.checks.specs.Steps.{AreOutputsThere, AreCommitmentsBy}
@@ -254,11 +255,10 @@ module _ {s outputs : Bytes} {wanted : List ℕ} {f : ℕ → Bool} {left offset
   pub read_more : (steps_in (drop at s) ≡ [] → ⊥) → left ≡ [] → Answered s outputs wanted f false there offsets
   read_more n e = refuted (λ v c. n (no_versions (steps_in (drop at s)) (v ∙ e)))
 
-  module _ {version : ℕ} {present : Bool} {offset next : ℕ}
-      (k : IsNextStep s at (StepAt version present offset next)) where
+  module _ {n : NextStep} (k : IsNextStep s at (Some n)) where
     -- nor where the next step has another version than the next one left, or a commitment that is
     -- not asked, or lacks one that is
-    pub read_other : {v : ℕ} {rest : List ℕ} → left ≡ v ∷ rest → (version ≡ v → present ≡ f version → ⊥)
+    pub read_other : {v : ℕ} {rest : List ℕ} → left ≡ v ∷ rest → (n.version ≡ v → n.committed ≡ f n.version → ⊥)
         → Answered s outputs wanted f false there offsets
     read_other {v} e h = refuted (λ w c.
         h (sym k.2 ∙ ap (λ (l : List ℕ). get_or l 0 0) (sym (ap versions_of k.1) ∙ w ∙ e))
@@ -269,21 +269,21 @@ module _ {s outputs : Bytes} {wanted : List ℕ} {f : ℕ → Bool} {left offset
 
     -- otherwise it is one of those read, once its commitment is noted
     pub read_next : {rest offsets' : List ℕ} {b : Bool} → Nodup wanted → length outputs ≤ vrf_outputs_limit
-        → left ≡ version ∷ rest → present ≡ f version → IsNoted outputs version offset offsets b offsets'
-        → length offsets' ≡ length offsets → StepsRead s outputs wanted f rest offsets' next (there && b)
+        → left ≡ n.version ∷ rest → n.committed ≡ f n.version → IsNoted outputs n.version n.commitment offsets b offsets'
+        → length offsets' ≡ length offsets → StepsRead s outputs wanted f rest offsets' n.next (there && b)
     read_next {rest} {offsets'} {b} d l e g i z = record {
       done = r.done ++ x ∷ [];
       split =
           r.split ∙ ap (λ (l : List Step). r.done ++ l) k.1
-          ∙ sym (append_snoc r.done x (steps_in (drop next s)));
+          ∙ sym (append_snoc r.done x (steps_in (drop n.next s)));
       versions =
-          both ∙ sym (append_snoc (versions_of r.done) version rest)
+          both ∙ sym (append_snoc (versions_of r.done) n.version rest)
           ∙ ap (λ (l : List ℕ). l ++ rest)
           (sym (versions_snoc r.done x ∙ ap (λ (v : ℕ). versions_of r.done ++ v ∷ []) k.2));
       asked = all_with (commitment_asked f) r.done x (commitment-right f x (k.3 ∙ g ∙ ap f (sym k.2))) ∙ r.asked;
       room = z ∙ r.room;
       placed =
-          placed-next s outputs offsets there r.done r.placed r.room l x offset b offsets' (rw k.2 i) k.4
+          placed-next s outputs offsets there r.done r.placed r.room l x n.commitment b offsets' (rw k.2 i) k.4
           other;
       lines = k.5;
     }
@@ -291,11 +291,11 @@ module _ {s outputs : Bytes} {wanted : List ℕ} {f : ℕ → Bool} {left offset
         x : Step
         x = k.0
 
-        both : wanted ≡ versions_of r.done ++ version ∷ rest
+        both : wanted ≡ versions_of r.done ++ n.version ∷ rest
         both = r.versions ∙ ap (λ (l : List ℕ). versions_of r.done ++ l) e
 
         other : (y : Step) → Memᴰ y r.done → y.version ≡ x.version → ⊥
         other y m q =
-            never_before (versions_of r.done) version rest (subst (λ (l : List ℕ). Nodup l) both d)
+            never_before (versions_of r.done) n.version rest (subst (λ (l : List ℕ). Nodup l) both d)
             (subst (λ (v : ℕ). Memᴰ v (versions_of r.done)) (q ∙ k.2)
             (mapped_at (λ (x : Step). x.version) r.done y m))

@@ -16,7 +16,7 @@ use Rattle.rules.specs.Refusals.{lookup_passes}
 use Rattle.inputs.specs.Response.{entries_in, loose_in}
 use Rattle.checks.specs.declared.lookups.Sought.{Sought}
 use Rattle.checks.specs.declared.lookups.Summary.{Summary}
-use Rattle.checks.specs.declared.sections.NextLookup.TheVariants.{Lookup as LookupAt}
+use Rattle.std.specs.Prelude.{Some}
 use Rattle.checks.specs.Sections.{EntryLines, IsNextLookup, AfterLookups, OfLookup}
 use Rattle.checks.specs.Entries.{versions_of}
 use Rattle.checks.specs.Lookups.{Passes, no_lookups, IsSummary, IsNextSummary}
@@ -172,7 +172,7 @@ module _ (s : Bytes) (from : ℕ) (sought : Sought) (outputs steps : Bytes) (off
 
   module _ (at : ℕ) (x : Summary) (h : LookupsSummed s from sought outputs steps offsets ladder root at x) where
     -- the lookup at the offset is summed up too
-    pub summed-next : (stop next : ℕ) (y : Summary) → IsNextLookup s at (LookupAt stop next)
+    pub summed-next : (stop next : ℕ) (y : Summary) → IsNextLookup s at (Some (stop, next))
         → IsNextSummary sought outputs steps offsets ladder (take (stop - at) (drop at s)) x y
         → LookupsSummed s from sought outputs steps offsets ladder root next y
     summed-next stop next y (l, q, loose, entries, lines, f, g, w) n =

@@ -1,6 +1,7 @@
 -- The versions that monitoring looks up, from the pairs of the map, and what each kind wants of an
 -- entry: for contracts of private functions alone.
 use Rattle.std.specs.Prelude.{◌≡◌, ◌⊎◌, Bool, true, cond, ℕ, min, ◌≤◌, ◌<◌, eqb, leb, ltb, length, get_or, replicate, set}
+use Rattle.std.specs.Prelude.{Some, None, Option as CodeOption}
 use mathlib.Core.List.{List, [], ◌∷◌, Memᴰ}
 use Rattle.lists.specs.Choice.{choose}
 use Rattle.lists.specs.Lists.{all, select, insert_all, same}
@@ -13,8 +14,6 @@ use Rattle.rules.specs.Monitoring.{versions_of as versions_asked}
 use Rattle.inputs.specs.State.{map_of}
 use Rattle.inputs.specs.declared.response_lines.Kind.{Kind}
 use Rattle.inputs.specs.declared.response_lines.Kind.TheVariants.{Search, Monitor}
-use Rattle.checks.specs.declared.monitored_versions.LargestPair.{LargestPair}
-use Rattle.checks.specs.declared.monitored_versions.LargestPair.TheVariants.{Pair, NoPair}
 
 -- the versions of a version's ladder that are not above it
 unfoldable pub not_above : ℕ → List ℕ
@@ -25,9 +24,9 @@ abbrev pub shown_at : ℕ → List ℕ → List ℕ → ℕ → List ℕ
 shown_at n ps vs x = versions_shown (versions_reaching n (map_of ps vs) x)
 
 -- the pair whose version is looked up in an entry, if one is
-abbrev pub IsLargest : ℕ → List ℕ → List ℕ → ℕ → LargestPair → Type 0
-IsLargest n ps vs x (Pair i) = (i < length vs) × (shown_at n ps vs x ≡ not_above (get_or vs i 0))
-IsLargest n ps vs x NoPair = shown_at n ps vs x ≡ []
+abbrev pub IsLargest : ℕ → List ℕ → List ℕ → ℕ → CodeOption ℕ → Type 0
+IsLargest n ps vs x (Some i) = (i < length vs) × (shown_at n ps vs x ≡ not_above (get_or vs i 0))
+IsLargest n ps vs x None = shown_at n ps vs x ≡ []
 
 -- ---- versions together
 

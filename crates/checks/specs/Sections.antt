@@ -1,6 +1,7 @@
 -- The lines of a response's sections, one after the other, once the response has been read: for
 -- contracts of private functions alone.
 use Rattle.std.specs.Prelude.{◌≡◌, List, [], ◌∷◌, ℕ, ◌+◌, ◌-◌, ◌≤◌, ◌<◌, length, take, drop}
+use Rattle.std.specs.Prelude.{Some, None, Option as CodeOption}
 use Rattle.std.proofs.Math.Option.{Option, none, some}
 use Rattle.lists.specs.Choice.{is_some, or_else}
 use Rattle.lists.specs.Lists.{Bytes}
@@ -10,12 +11,6 @@ use Rattle.rules.specs.Response.{Step, Lookup, Entry, log_entry}
 use Rattle.rules.specs.ResponseText.{read_step, read_in, read_no, read_nl, read_item}
 use Rattle.inputs.specs.Response.{steps_in, entries_in, AllRead, loose_in}
 use Rattle.checks.specs.declared.sections.NextStep.{NextStep}
-use Rattle.checks.specs.declared.sections.NextStep.TheVariants.{Step as StepAt, Unread as NoStep}
-use Rattle.checks.specs.declared.sections.NextEntry.{NextEntry}
-use Rattle.checks.specs.declared.sections.NextEntry.TheVariants.{Entry as EntryAt, Unread as NoEntry}
-use Rattle.checks.specs.declared.sections.NextLookup.{NextLookup}
-use Rattle.checks.specs.declared.sections.NextLookup.TheVariants.{Lookup as LookupAt}
-use Rattle.checks.specs.declared.sections.NextLookup.TheVariants.{Unread as NoLookup}
 
 -- a text of step lines, and one of entry lines with their lookups
 abbrev pub StepLines : Bytes → Type 0
@@ -32,13 +27,13 @@ CommitmentAt s offset none = Unit {0}
 CommitmentAt s offset (some c) = value_in (take value_digits (drop offset s)) ≡ c
 
 -- the step at an offset: its version, whether it has a commitment, and where; the offset after it
-abbrev pub IsNextStep : Bytes → ℕ → NextStep → Type 0
-IsNextStep s at (StepAt version present offset next) =
-    (x : Step) × (steps_in (drop at s) ≡ x ∷ steps_in (drop next s)) × (x.version ≡ version)
-    × (is_some x.commitment ≡ present)
-    × CommitmentAt s offset x.commitment × StepLines (drop next s) × (at < next) × (next ≤ length s)
-    × (offset ≤ length s)
-IsNextStep s at NoStep = steps_in (drop at s) ≡ []
+abbrev pub IsNextStep : Bytes → ℕ → CodeOption NextStep → Type 0
+IsNextStep s at (Some n) =
+    (x : Step) × (steps_in (drop at s) ≡ x ∷ steps_in (drop n.next s)) × (x.version ≡ n.version)
+    × (is_some x.commitment ≡ n.committed)
+    × CommitmentAt s n.commitment x.commitment × StepLines (drop n.next s) × (at < n.next) × (n.next ≤ length s)
+    × (n.commitment ≤ length s)
+IsNextStep s at None = steps_in (drop at s) ≡ []
 
 -- ---- entries
 
@@ -47,12 +42,12 @@ with_lookups e ls =
     record { position = e.position; timestamp = e.timestamp; prefix_root = e.prefix_root; lookups = ls }
 
 -- the entry at an offset, and the offset after its line, where its lookups stand
-abbrev pub IsNextEntry : Bytes → ℕ → NextEntry → Type 0
-IsNextEntry s at (EntryAt next) =
+abbrev pub IsNextEntry : Bytes → ℕ → CodeOption ℕ → Type 0
+IsNextEntry s at (Some next) =
     (e : Entry) × (entries_in (drop at s) ≡ with_lookups e (loose_in (drop next s)) ∷ entries_in (drop next s))
     × (entry_in (drop (at + entry_fields) s) ≡ log_entry e)
     × EntryLines (drop next s) × (at + entry_fields < next) × (next ≤ length s)
-IsNextEntry s at NoEntry = entries_in (drop at s) ≡ []
+IsNextEntry s at None = entries_in (drop at s) ≡ []
 
 -- ---- lookups
 
@@ -60,13 +55,13 @@ unfoldable pub read_lookup : Bytes → Option Lookup
 read_lookup l = or_else (read_in l) (or_else (read_no l) (read_nl l))
 
 -- the lookup at an offset: where its line stops, and the offset after it
-abbrev pub IsNextLookup : Bytes → ℕ → NextLookup → Type 0
-IsNextLookup s at (LookupAt stop next) =
+abbrev pub IsNextLookup : Bytes → ℕ → CodeOption (ℕ × ℕ) → Type 0
+IsNextLookup s at (Some (stop, next)) =
     (l : Lookup) × (read_lookup (take (stop - at) (drop at s)) ≡ some l)
     × (loose_in (drop at s) ≡ l ∷ loose_in (drop next s))
     × (entries_in (drop at s) ≡ entries_in (drop next s)) × EntryLines (drop next s) × (at ≤ stop)
     × (stop < next) × (next ≤ length s)
-IsNextLookup s at NoLookup = loose_in (drop at s) ≡ []
+IsNextLookup s at None = loose_in (drop at s) ≡ []
 
 -- the offset after the lookups at an offset, where an entry stands or the lines end
 pub record AfterLookups (s : Bytes) (from next : ℕ) : Type 0 where

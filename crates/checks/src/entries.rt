@@ -10,8 +10,8 @@ ghost use Rattle.checks.specs.MonitoredVersions.{ArePairs, ArePairsAsked, shown_
 ghost use Rattle.checks.specs.MonitoredVersions.{IsMarkedFor, IsMarkedBy, AreMarkedBy};
 ghost use Rattle.checks.specs.Entries.{versions_of, are_asked, AreTimestamps};
 
-use crate::monitored_versions::{LargestPair, largest_pair, versions_not_above};
-use crate::sections::{NextEntry, NextLookup, lookup_version, next_entry, next_lookup};
+use crate::monitored_versions::{largest_pair, versions_not_above};
+use crate::sections::{lookup_version, next_entry, next_lookup};
 use crate::timestamps::Timestamps;
 use inputs::response_lines::Kind;
 use lines::layout::Layout;
@@ -81,7 +81,7 @@ pub(crate) fn entries_asked(
                 timestamp: timestamps.latest,
             };
         }
-        let NextEntry::Entry(first) = next_entry(entries, at) else {
+        let Some(first) = next_entry(entries, at) else {
             return not_asked();
         };
         if position_at(entries, at + Layout::ENTRY) != position {
@@ -168,7 +168,7 @@ fn monitored_entry(
         position marks.old marks.new }
 {
     match largest_pair(tree_size, positions, versions, position) {
-        LargestPair::Pair(pair) => {
+        Some(pair) => {
             marks[pair] = 0;
             let shown = versions_not_above(versions[pair]);
             let wanted = shown.versions;
@@ -179,7 +179,7 @@ fn monitored_entry(
                 next: lookups.next,
             }
         }
-        LargestPair::NoPair => {
+        None => {
             let lookups = lookups_shown(entries, from, &versions[..0]);
             EntryAsked {
                 asked: lookups.count == 0,
@@ -203,12 +203,12 @@ fn lookups_shown(entries: &[u8], from: usize, wanted: &[u32]) -> LookupsShown
     let mut begin = true;
     loop {
         match next_lookup(entries, at) {
-            NextLookup::Lookup { stop, next } => {
+            Some((stop, next)) => {
                 begin &= is_at(wanted, count, lookup_version(&entries[at..stop]));
                 count += 1;
                 at = next;
             }
-            NextLookup::Unread => {
+            None => {
                 return LookupsShown {
                     begin,
                     count,

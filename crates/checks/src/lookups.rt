@@ -16,9 +16,7 @@ ghost use Rattle.checks.specs.Lookups.{IsNextSummary, no_entries, AreResults, Ar
 use crate::commitment::commitment;
 use crate::entries::is_at;
 use crate::readings::Call;
-use crate::sections::{
-    NextEntry, NextLookup, is_included, lookup_version, next_entry, next_lookup,
-};
+use crate::sections::{is_included, lookup_version, next_entry, next_lookup};
 use inputs::refusal::Refusal;
 use inputs::response_lines::Kind;
 use inputs::vrf_outputs::find_output;
@@ -212,7 +210,7 @@ fn entries_judged(
     let mut results = Results::start();
     loop {
         match next_entry(entries, at) {
-            NextEntry::Entry(first) => {
+            Some(first) => {
                 let root = prefix_root_at(entries, at + Layout::ENTRY);
                 let position = position_at(entries, at + Layout::ENTRY);
                 let summed = lookups_judged(
@@ -221,7 +219,7 @@ fn entries_judged(
                 results = results.next(position, summed.summary, ladder.len());
                 at = summed.next;
             }
-            NextEntry::Unread => {
+            None => {
                 return results;
             }
         }
@@ -287,11 +285,11 @@ fn lookups_judged(
     let mut summary = Summary::start(root);
     loop {
         match next_lookup(entries, at) {
-            NextLookup::Lookup { stop, next } => {
+            Some((stop, next)) => {
                 summary = summary.next(&entries[at..stop], sought, outputs, steps, offsets, ladder);
                 at = next;
             }
-            NextLookup::Unread => {
+            None => {
                 return Summed { summary, next: at };
             }
         }

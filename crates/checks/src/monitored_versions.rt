@@ -12,21 +12,14 @@ use tree::search_tree::is_right_ancestor;
 // Stands for no version: it is above all that are looked up.
 pub(crate) const NONE: u32 = u32::MAX;
 
-// A pair of the map, by its number, or no pair.
-#[derive(Clone, Copy)]
-pub(crate) enum LargestPair {
-    Pair(usize),
-    NoPair,
-}
-
-// The pair with the largest version of those whose right path holds an entry of a log of tree_size
-// entries.
+// The pair, by its number, with the largest version of those whose right path holds an entry of a
+// log of tree_size entries, if there is one.
 pub(crate) fn largest_pair(
     tree_size: u64,
     positions: &[u64],
     versions: &[u32],
     entry: u64,
-) -> LargestPair
+) -> Option<usize>
     requires { length positions.now ≡ length versions.now }
     ensures { IsLargest tree_size positions.now versions.now entry result }
 {
@@ -44,9 +37,9 @@ pub(crate) fn largest_pair(
         }
     }
     if above == 0 {
-        return LargestPair::NoPair;
+        return None;
     }
-    LargestPair::Pair(pair)
+    Some(pair)
 }
 
 // The versions of a version's ladder that are not above it, in their order.

@@ -12,7 +12,7 @@ ghost use Rattle.checks.specs.MonitoredVersions.{smallest, stepped_on, AreMarks}
 use crate::entries::entries_asked;
 use crate::monitored_versions::{NONE, next_not_above};
 use crate::readings::Call;
-use crate::sections::{NextStep, next_step};
+use crate::sections::next_step;
 use crate::steps::{StepsAsked, note_commitment};
 use crate::trial::Shape;
 use inputs::response_lines::Kind;
@@ -104,29 +104,24 @@ fn monitoring_steps(
     loop {
         let wanted = smallest_of(marks);
         match next_step(steps, at) {
-            NextStep::Step {
-                version,
-                committed,
-                commitment,
-                next,
-            } => {
+            Some(step) => {
                 if wanted == NONE {
                     return StepsAsked {
                         asked: false,
                         there,
                     };
                 }
-                if (version != wanted) | !committed {
+                if (step.version != wanted) | !step.committed {
                     return StepsAsked {
                         asked: false,
                         there,
                     };
                 }
-                there &= note_commitment(outputs, version, commitment, offsets);
-                step_on(versions, marks, version + 1);
-                at = next;
+                there &= note_commitment(outputs, step.version, step.commitment, offsets);
+                step_on(versions, marks, step.version + 1);
+                at = step.next;
             }
-            NextStep::Unread => {
+            None => {
                 return StepsAsked {
                     asked: wanted == NONE,
                     there,

@@ -10,7 +10,7 @@ ghost use Rattle.checks.specs.Steps.{AreCommitmentsBy};
 
 use crate::entries::entries_asked;
 use crate::readings::Call;
-use crate::sections::{NextStep, next_step};
+use crate::sections::next_step;
 use crate::steps::{StepsAsked, note_commitment};
 use crate::trial::Shape;
 use inputs::response_lines::Kind;
@@ -88,26 +88,20 @@ fn search_steps(
     let mut there = true;
     let mut i: usize = 0;
     while i < wanted.len() {
-        let NextStep::Step {
-            version: shown,
-            committed,
-            commitment,
-            next,
-        } = next_step(steps, at)
-        else {
+        let Some(step) = next_step(steps, at) else {
             return StepsAsked {
                 asked: false,
                 there,
             };
         };
-        if (shown != wanted[i]) | (committed != (shown < version)) {
+        if (step.version != wanted[i]) | (step.committed != (step.version < version)) {
             return StepsAsked {
                 asked: false,
                 there,
             };
         }
-        there &= note_commitment(outputs, shown, commitment, offsets);
-        at = next;
+        there &= note_commitment(outputs, step.version, step.commitment, offsets);
+        at = step.next;
         i += 1;
     }
     StepsAsked {

@@ -12,56 +12,39 @@ use lines::layout::Layout;
 // A step: its version, whether it has a commitment, and the offset of its digits; the offset of the
 // next line.
 #[derive(Clone, Copy)]
-pub(crate) enum NextStep {
-    Step {
-        version: u32,
-        committed: bool,
-        commitment: usize,
-        next: usize,
-    },
-    Unread,
+pub(crate) struct NextStep {
+    pub version: u32,
+    pub committed: bool,
+    pub commitment: usize,
+    pub next: usize,
 }
 
-// An entry, by the offset after its line.
-#[derive(Clone, Copy)]
-pub(crate) enum NextEntry {
-    Entry(usize),
-    Unread,
-}
-
-// A lookup, by the offset where its line stops; the offset of the next line.
-#[derive(Clone, Copy)]
-pub(crate) enum NextLookup {
-    Lookup { stop: usize, next: usize },
-    Unread,
-}
-
-// The step at an offset.
-pub(crate) fn next_step(steps: &[u8], at: usize) -> NextStep
+// The step at an offset, if one stands there.
+pub(crate) fn next_step(steps: &[u8], at: usize) -> Option<NextStep>
     requires lines { StepLines (drop at steps.now) }
     requires within { at ≤ length steps.now }
     ensures { IsNextStep steps.now at result }
 {
     let NextLine::Ended { stop, next } = Cursor { at }.line(steps) else {
-        return NextStep::Unread;
+        return None;
     };
     let line = &steps[at..stop];
     let NextNumber::Read { value, next: field } = Cursor { at: Layout::STEP }.number(
         line,
         u32::MAX as u64,
     ) else {
-        return NextStep::Unread;
+        return None;
     };
-    NextStep::Step {
+    Some(NextStep {
         version: value as u32,
         committed: line.len() == field.at + Layout::DIGITS,
         commitment: at + field.at,
         next: next.at,
-    }
+    })
 }
 
-// The entry at an offset where no lookup stands.
-pub(crate) fn next_entry(entries: &[u8], at: usize) -> NextEntry
+// The offset after the line of the entry at an offset where no lookup stands, if an entry does.
+pub(crate) fn next_entry(entries: &[u8], at: usize) -> Option<usize>
     requires lines { EntryLines (drop at entries.now) }
     requires loose { loose_in (drop at entries.now) ≡ [] }
     requires within { at ≤ length entries.now }
@@ -69,30 +52,28 @@ pub(crate) fn next_entry(entries: &[u8], at: usize) -> NextEntry
 {
     let start = Cursor { at };
     match start.line(entries) {
-        NextLine::Ended { stop: _, next } => NextEntry::Entry(next.at),
-        NextLine::Unread => NextEntry::Unread,
+        NextLine::Ended { stop: _, next } => Some(next.at),
+        NextLine::Unread => None,
     }
 }
 
-// The lookup at an offset, where an entry may stand too.
-pub(crate) fn next_lookup(entries: &[u8], at: usize) -> NextLookup
+// Where the line of the lookup at an offset stops, and the offset of the next line, if a lookup
+// stands there, where an entry may stand too.
+pub(crate) fn next_lookup(entries: &[u8], at: usize) -> Option<(usize, usize)>
     requires lines { EntryLines (drop at entries.now) }
     requires within { at ≤ length entries.now }
     ensures { IsNextLookup entries.now at result }
 {
     if entries.len() <= at {
-        return NextLookup::Unread;
+        return None;
     }
     if entries[at] == Layout::ENTRY_LETTER {
-        return NextLookup::Unread;
+        return None;
     }
     let start = Cursor { at };
     match start.line(entries) {
-        NextLine::Ended { stop, next } => NextLookup::Lookup {
-            stop,
-            next: next.at,
-        },
-        NextLine::Unread => NextLookup::Unread,
+        NextLine::Ended { stop, next } => Some((stop, next.at)),
+        NextLine::Unread => None,
     }
 }
 

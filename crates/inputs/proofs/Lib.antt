@@ -1,3 +1,4 @@
+pub mod RefusalNumberLaws
 pub mod VrfOutputLaws
 pub mod RoomLaws
 pub mod PairLaws

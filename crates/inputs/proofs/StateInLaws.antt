@@ -16,8 +16,7 @@ use Rattle.rules.specs.State.{State, NumberedState}
 use Rattle.rules.specs.StateText.{read_state, read_state_text}
 use Rattle.rules.proofs.StateTextLaws.{state_read, state_short}
 use Rattle.inputs.specs.declared.state.State.{State as StateBlock}
-use Rattle.inputs.specs.declared.state.NumberedState.{NumberedState as NumberedBlock}
-use Rattle.inputs.specs.State.{numbered_block, room_is_zero, state_of}
+use Rattle.inputs.specs.State.{NumberedBlock, numbered_block, room_is_zero, state_of}
 use Rattle.inputs.specs.StateReader.{refused_by, or_refused}
 use Rattle.inputs.proofs.StateBlockLaws.{block_state}
 use Rattle.inputs.proofs.StateReaderLaws.{text_read}

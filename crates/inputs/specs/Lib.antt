@@ -1,3 +1,4 @@
+pub mod Refusal
 pub mod Configuration
 pub mod VrfOutputs
 pub mod State

@@ -1,6 +1,6 @@
 -- How the struct of a state stands for a state of the rules (paper 01, What a call is given): what
 -- fills it, and zeros in its unused room.
-use Rattle.std.specs.Prelude.{Bool, ◌&&◌, ◌||◌, ℕ, ◌*◌, eqb, leb, ltb, length, take, drop}
+use Rattle.std.specs.Prelude.{Bool, ◌&&◌, ◌||◌, ℕ, ◌*◌, eqb, leb, ltb, length, take, drop, Result, Ok, Err}
 use mathlib.Core.List.{List, [], ◌∷◌, flatten}
 use Rattle.std.proofs.Math.Option.{Option}
 use Rattle.std.specs.Int.Count.{ones}
@@ -15,7 +15,8 @@ use Rattle.inputs.specs.declared.state.Label.{Label as LabelBlock}
 use Rattle.inputs.specs.declared.state.KeptLog.{KeptLog as KeptLogBlock}
 use Rattle.inputs.specs.declared.state.MonitoringMap.{MonitoringMap as MonitoringMapBlock}
 use Rattle.inputs.specs.declared.state.State.{State as StateBlock}
-use Rattle.inputs.specs.declared.state.NumberedState.{NumberedState as NumberedBlock}
+use Rattle.inputs.specs.declared.state.Refused.{Refused}
+use Rattle.inputs.specs.Refusal.{refusal_number}
 
 -- ---- the struct of a state
 
@@ -42,8 +43,18 @@ unfoldable pub block_of : State → StateBlock
 block_of s =
     record { label = label_block s.label; log = log_block s.log; map = map_block s.monitoring_map }
 
+-- the struct of a state, and 0 or the number of a refusal
+pub record NumberedBlock : Type 0 where
+  pub number : ℕ
+  pub state : StateBlock
+
 unfoldable pub numbered_block : NumberedState → NumberedBlock
 numbered_block n = record { number = n.number; state = block_of n.state }
+
+-- a state that is given, or a refusal with its state
+abbrev pub numbered_of : Result StateBlock Refused → NumberedBlock
+numbered_of (Ok b) = record { number = 0; state = b }
+numbered_of (Err r) = record { number = refusal_number r.refusal; state = r.state }
 
 -- ---- the state of a struct
 

@@ -1,10 +1,10 @@
 // The state that is kept between calls (paper 01, What a call is given).
-ghost use Rattle.std.specs.Prelude.{◌≡◌, ◌&&◌, ◌||◌, ◌≤◌, eqb, ltb, length, take};
+ghost use Rattle.std.specs.Prelude.{◌≡◌, ◌&&◌, ◌||◌, ◌≤◌, eqb, ltb, [], length, take};
 ghost use Rattle.lists.specs.Choice.{is_some};
 ghost use Rattle.rules.specs.Limits.{label_limit, map_limit};
 ghost use Rattle.rules.specs.State.{empty_state, new_state};
 ghost use Rattle.rules.specs.Refusals.{valid_state};
-ghost use Rattle.inputs.specs.State.{label_block, block_of, numbered_block, state_of, zeros_from};
+ghost use Rattle.inputs.specs.State.{label_block, block_of, numbered_block, numbered_of, state_of, zeros_from};
 ghost use Rattle.inputs.specs.State.{label_fits, log_fits, pairs_fit, map_fits};
 
 use crate::refusal::Refusal;
@@ -43,10 +43,10 @@ pub struct State {
     pub map: MonitoringMap,
 }
 
-// A state, and 0 or the number of a refusal.
+// What a refused call hands back: why it is refused, and a state.
 #[derive(Clone, Copy)]
-pub struct NumberedState {
-    pub number: u64,
+pub struct Refused {
+    pub refusal: Refusal,
     pub state: State,
 }
 
@@ -63,21 +63,15 @@ impl State {
     // The longest text.
     pub const TEXT: usize = 8192;
 
-    // The state to begin with, for a label; a label that is too long is refused with 1, and gives
-    // that of the empty one.
-    pub fn new(label: &[u8]) -> NumberedState
-        ensures { result ≡ numbered_block (new_state label.now) }
+    // The state to begin with, for a label; a label that is too long is refused, with the state of
+    // the empty one.
+    pub fn new(label: &[u8]) -> Result<State, Refused>
+        ensures { numbered_of result ≡ numbered_block (new_state label.now) }
     {
         if State::LABEL < label.len() {
-            return NumberedState {
-                number: Refusal::LENGTH,
-                state: State::empty(&label[0..0]),
-            };
+            return Err(Refused::with_empty_state(Refusal::Length));
         }
-        NumberedState {
-            number: 0,
-            state: State::empty(label),
-        }
+        Ok(State::empty(label))
     }
 
     // The state of a label with nothing else in it.
@@ -114,6 +108,18 @@ impl State {
             return false;
         }
         map.fits(log.size)
+    }
+}
+
+impl Refused {
+    // Refused, with the state of the empty label.
+    pub fn with_empty_state(refusal: Refusal) -> Refused
+        ensures { result ≡ record { refusal = refusal; state = block_of (empty_state []) } }
+    {
+        Refused {
+            refusal,
+            state: State::empty(b""),
+        }
     }
 }
 

@@ -10,12 +10,12 @@ ghost use Rattle.rules.specs.Limits.{label_limit, state_text_limit};
 ghost use Rattle.rules.specs.State.{State as StateRead};
 ghost use Rattle.rules.specs.StateText.{size_form, read_keep, read_pair, read_state, read_state_text};
 ghost use Rattle.inputs.specs.TextLine.{read_from};
-ghost use Rattle.inputs.specs.State.{block_of, numbered_block, state_of};
+ghost use Rattle.inputs.specs.State.{block_of, numbered_block, numbered_of, state_of};
 ghost use Rattle.inputs.specs.StateReader.{label_read, size_read, pair_of, pair_from_of, with_pair};
-ghost use Rattle.inputs.specs.StateReader.{KeepsFrom, PairsFrom, ReadAs, if_valid, refused_by};
+ghost use Rattle.inputs.specs.StateReader.{KeepsFrom, PairsFrom, ReadAs, if_valid};
 
 use crate::refusal::Refusal;
-use crate::state::{KeptLog, Label, MonitoringMap, NumberedState, State};
+use crate::state::{KeptLog, Label, MonitoringMap, Refused, State};
 use crate::text_line::line_from;
 use lines::cursor::Cursor;
 use lines::hex::read_digest;
@@ -53,16 +53,13 @@ struct Pairs {
 
 // The state that a text says; refusal 1 for a text that is too long and 3 for one that says no
 // valid state, both with the state of the empty label.
-pub fn read_state(text: &[u8]) -> NumberedState
-    ensures { result ≡ numbered_block (read_state_text text.now) }
+pub fn read_state(text: &[u8]) -> Result<State, Refused>
+    ensures { numbered_of result ≡ numbered_block (read_state_text text.now) }
 {
     if State::TEXT < text.len() {
-        return refused(Refusal::LENGTH);
+        return Err(Refused::with_empty_state(Refusal::Length));
     }
-    match read_valid_state(text) {
-        Some(state) => NumberedState { number: 0, state },
-        None => refused(Refusal::STATE),
-    }
+    read_valid_state(text).ok_or_else(|| Refused::with_empty_state(Refusal::State))
 }
 
 // The struct of the state that a text says; where it says none, as a text that is too long does,
@@ -70,13 +67,14 @@ pub fn read_state(text: &[u8]) -> NumberedState
 pub fn state_in(text: &[u8]) -> State
     ensures { state_of result ≡ read_state text.now }
 {
-    let read = read_state(text);
-    let mut state = read.state;
-    if read.number != 0 {
-        let over = State::LABEL + 1;
-        state.label.length = over;
+    match read_state(text) {
+        Ok(state) => state,
+        Err(refused) => {
+            let mut state = refused.state;
+            state.label.length = State::LABEL + 1;
+            state
+        }
     }
-    state
 }
 
 // The valid state that a text says.
@@ -120,15 +118,6 @@ fn state_from_lines(first: SizeLine, keeps: Keeps, pairs: Pairs) -> Option<State
         map: pairs.map,
     };
     state.is_valid().then_some(state)
-}
-
-// A refusal, with the state of the empty label.
-fn refused(number: u64) -> NumberedState
-    ensures { result ≡ numbered_block (refused_by number) }
-{
-    let empty = State::new(b"");
-    let state = empty.state;
-    NumberedState { number, state }
 }
 
 // What a `size` line says.

@@ -35,8 +35,7 @@ pub extern "C" fn kt_sha256(message: &[u8], digest: &mut [u8]) -> u64
     if digest.len() < DIGEST_LENGTH {
         return 0;
     }
-    let d = hash::sha256::digest(message);
-    digest[..DIGEST_LENGTH].copy_from_slice(&d);
+    digest[..DIGEST_LENGTH].copy_from_slice(&hash::sha256::digest(message));
     DIGEST_LENGTH as u64
 }
 
@@ -53,9 +52,8 @@ pub extern "C" fn kt_ladder(version: u32, versions: &mut [u8]) -> u64
     if versions.len() < VERSION_LENGTH * length {
         return 0;
     }
-    let all = ladder.versions;
-    for i in 0..length {
-        put_version(versions, VERSION_LENGTH * i, all[i]);
+    for (i, v) in ladder.versions[..length].iter().enumerate() {
+        put_version(versions, VERSION_LENGTH * i, *v);
     }
     length as u64
 }
@@ -243,8 +241,5 @@ fn put_version(bytes: &mut [u8], at: usize, version: u32)
     requires { at + version_length ≤ length bytes.old }
     ensures { bytes.new ≡ sets bytes.old at (big_endian version_length version) }
 {
-    bytes[at] = (version / 256 / 256 / 256 % 256) as u8;
-    bytes[at + 1] = (version / 256 / 256 % 256) as u8;
-    bytes[at + 2] = (version / 256 % 256) as u8;
-    bytes[at + 3] = (version % 256) as u8;
+    bytes[at..at + VERSION_LENGTH].copy_from_slice(&version.to_be_bytes());
 }

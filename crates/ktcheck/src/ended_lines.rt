@@ -2,7 +2,6 @@
 ghost use Rattle.std.specs.Prelude.{◌≡◌, ◌+◌, length};
 ghost use Rattle.lines.specs.Line.{ended_lines, open_rest};
 
-use lines::cursor::NextLine;
 use verifier::reading::read_on;
 
 // How many lines a newline ends, the offset after the last of them, and how many bytes are left
@@ -24,19 +23,14 @@ pub(crate) fn ended_lines(text: &[u8]) -> EndedLines
     let mut at: usize = 0;
     loop {
         let read = read_on(text, at);
-        let line = read.line;
-        match line {
-            NextLine::Ended { stop: _, next: _ } => {
-                count += 1;
-                at = read.offset;
-            }
-            NextLine::Unread => {
-                return EndedLines {
-                    count,
-                    offset: read.offset,
-                    left: read.left,
-                };
-            }
+        if read.line.is_none() {
+            return EndedLines {
+                count,
+                offset: read.offset,
+                left: read.left,
+            };
         }
+        count += 1;
+        at = read.offset;
     }
 }

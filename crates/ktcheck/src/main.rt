@@ -16,23 +16,20 @@ use std::rt::Files;
 use verifier::files::FileLimit;
 
 // Reads three of the files, each with room for one byte more than is allowed, and goes on with
-// them.
+// them. What is judged of a file that could not be read is empty.
 fn main(rt: HostRuntime) {
     let mut request = [0u8; FileLimit::REQUEST + 1];
-    let request_file = read_file(&rt, "request", &mut request);
-    let request_length = request_file.length;
+    let request_read = read_file(&rt, "request", &mut request);
     let mut response = [0u8; FileLimit::RESPONSE + 1];
-    let response_file = read_file(&rt, "response", &mut response);
-    let response_length = response_file.length;
+    let response_read = read_file(&rt, "response", &mut response);
     let mut configuration = [0u8; InputLimit::CONFIGURATION + 1];
-    let configuration_file = read_file(&rt, "settings", &mut configuration);
-    let configuration_length = configuration_file.length;
+    let configuration_read = read_file(&rt, "settings", &mut configuration);
     read_rest(
         &rt,
-        request_file.unread || response_file.unread || configuration_file.unread,
-        &request[..request_length],
-        &response[..response_length],
-        &configuration[..configuration_length],
+        request_read.is_none() || response_read.is_none() || configuration_read.is_none(),
+        &request[..request_read.unwrap_or(0)],
+        &response[..response_read.unwrap_or(0)],
+        &configuration[..configuration_read.unwrap_or(0)],
     );
 }
 
@@ -45,22 +42,19 @@ fn read_rest(
     configuration: &[u8],
 ) {
     let mut state = [0u8; State::TEXT + 1];
-    let state_file = read_file(rt, "state", &mut state);
-    let state_length = state_file.length;
+    let state_read = read_file(rt, "state", &mut state);
     let mut outputs = [0u8; InputLimit::VRF_OUTPUTS + 1];
-    let outputs_file = read_file(rt, "sheet", &mut outputs);
-    let outputs_length = outputs_file.length;
+    let outputs_read = read_file(rt, "sheet", &mut outputs);
     let mut signed = [0u8; InputLimit::SIGNED_TEXT + 1];
-    let signed_file = read_file(rt, "signed", &mut signed);
-    let signed_length = signed_file.length;
+    let signed_read = read_file(rt, "signed", &mut signed);
     judge(
         rt,
-        unread || state_file.unread || outputs_file.unread || signed_file.unread,
+        unread || state_read.is_none() || outputs_read.is_none() || signed_read.is_none(),
         request,
         response,
         configuration,
-        &state[..state_length],
-        &outputs[..outputs_length],
-        &signed[..signed_length],
+        &state[..state_read.unwrap_or(0)],
+        &outputs[..outputs_read.unwrap_or(0)],
+        &signed[..signed_read.unwrap_or(0)],
     );
 }

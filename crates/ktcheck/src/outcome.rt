@@ -1,7 +1,7 @@
 // What comes of the files: an acceptance is written and then printed, a refusal printed and
 // explained.
 use crate::refusals::explain;
-use crate::writing::{print, write_file};
+use crate::writing::{Failure, print, write_file};
 use inputs::state::State;
 use std::rt::Files;
 use verifier::files::{Outcome, check_files};
@@ -32,44 +32,33 @@ pub(crate) fn judge(
         &mut value,
         &mut text,
     );
-    let line_length = outcome.line;
-    let value_length = outcome.value;
-    let text_length = outcome.text;
-    report(
-        rt,
-        outcome.number,
-        outcome.found,
-        &line[..line_length],
-        &value[..value_length],
-        &text[..text_length],
-        response,
-    );
-}
-
-// Reports what came of the files, by its number.
-fn report(
-    rt: &(impl Files + Print + Eprint),
-    number: u64,
-    found: bool,
-    line: &[u8],
-    value: &[u8],
-    text: &[u8],
-    response: &[u8],
-) {
-    if number == 0 {
-        accept(rt, found, line, value, text);
-    } else {
-        print(rt, line);
-        explain(rt, number, response);
+    let line = &line[..outcome.line];
+    match outcome.judged {
+        Ok(written) => {
+            let value = written.value.map(|length| &value[..length]);
+            if let Err(failure) = accept(rt, line, value, &text[..written.text]) {
+                failure.tell(rt);
+            }
+        }
+        Err(refusal) => {
+            if let Err(failure) = print(rt, line) {
+                failure.tell(rt);
+            }
+            explain(rt, refusal, response);
+        }
     }
 }
 
 // Writes the value, if there is one, and then the new state; prints the line once both are there.
-fn accept(rt: &(impl Files + Print + Eprint), found: bool, line: &[u8], value: &[u8], text: &[u8]) {
-    if found && !write_file(rt, "value", "value.part", value) {
-        return;
+fn accept(
+    rt: &(impl Files + Print),
+    line: &[u8],
+    value: Option<&[u8]>,
+    text: &[u8],
+) -> Result<(), Failure> {
+    if let Some(value) = value {
+        write_file(rt, "value", "value.part", value)?;
     }
-    if write_file(rt, "state.new", "state.new.part", text) {
-        print(rt, line);
-    }
+    write_file(rt, "state.new", "state.new.part", text)?;
+    print(rt, line)
 }

@@ -44,28 +44,34 @@ unfolding digit_value
 value_high b h = rw (above_digits b h) refl
 
 -- a byte from 48 to 57 is a hex digit
-is_hex_low : (b : ℕ) → 48 ≤ b → b ≤ 57 → is_hex_digit b ≡ true
+pub is_hex_low : (b : ℕ) → 48 ≤ b → b ≤ 57 → is_hex_digit b ≡ true
 unfolding is_hex_digit
 is_hex_low b l h = rw (is_digit_lem b l h) refl
 
 -- so is a byte from 97 to 102
-is_hex_high : (b : ℕ) → 97 ≤ b → b ≤ 102 → is_hex_digit b ≡ true
+pub is_hex_high : (b : ℕ) → 97 ≤ b → b ≤ 102 → is_hex_digit b ≡ true
 unfolding is_hex_digit
 is_hex_high b l h = let p : 57 < b = omega arith in rw (above_digits b p, le-leb 97 b l, le-leb b 102 h) refl
 
--- up to 57, the hex digits are the bytes from 48 on
-pub is_hex_below : (b : ℕ) → b ≤ 57 → leb 48 b ≡ is_hex_digit b
-unfolding is_hex_digit is_digit
-is_hex_below b h = let l : b < 97 = omega arith in rw (le-leb b 57 h, lt-leb 97 b l) (go (leb 48 b))
-  where
-    go : (t : Bool) → t ≡ ((t && true) || false)
-    go true = refl
-    go false = refl
-
--- above 57, they are those from 97 to 102
-pub is_hex_above : (b : ℕ) → 57 < b → (leb 97 b && leb b 102) ≡ is_hex_digit b
+-- above 57, the hex digits are the bytes from 97 to 102
+is_hex_above : (b : ℕ) → 57 < b → (leb 97 b && leb b 102) ≡ is_hex_digit b
 unfolding is_hex_digit
 is_hex_above b h = rw (above_digits b h) refl
+
+-- no other byte is
+pub no_hex_digit : (b : ℕ) → (48 ≤ b → 57 < b) → (97 ≤ b → 102 < b) → is_hex_digit b ≡ false
+unfolding is_hex_digit is_digit
+no_hex_digit b l h = go (dec_lt b 48) (dec_lt b 97)
+  where
+    go : Dec (b < 48) → Dec (b < 97) → is_hex_digit b ≡ false
+    go (yes p) k = let q : b < 97 = omega arith in rw (lt-leb 48 b p, lt-leb 97 b q) refl
+    go (no p) (yes q) =
+        let m : 48 ≤ b = omega arith in
+        rw (le-leb 48 b m, lt-leb b 57 (l m), lt-leb 97 b q) refl
+    go (no p) (no q) =
+        let m : 48 ≤ b = omega arith in
+        let n : 97 ≤ b = omega arith in
+        rw (le-leb 48 b m, lt-leb b 57 (l m), le-leb 97 b n, lt-leb b 102 (h n)) refl
 
 -- a digit that is written is a hex digit with its value
 pub digit_value_lem : (d : ℕ) → d < 16 → (is_hex_digit (hex_digit d) ≡ true) × (digit_value (hex_digit d) ≡ d)

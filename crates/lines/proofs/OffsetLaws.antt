@@ -3,8 +3,9 @@
 use mathlib.Core.Path.{◌≡◌, refl, sym, ◌∙◌, ap}
 use mathlib.Core.Bool.{Bool, true, false}
 use mathlib.Core.List.{List, [], ◌∷◌, ◌++◌}
-use Prim.Native.Nat.{ℕ, suc, ◌+◌, ◌-◌, ◌≤◌, ◌<◌}
+use Prim.Native.Nat.{ℕ, suc, ◌+◌, ◌-◌, ◌≤◌, ◌<◌, max}
 use native.Mathlib.Numerals.{add-one}
+use native.Mathlib.Decide.{dec_lt}
 use native.Mathlib.Omega.{arith}
 use lib.Dec.{eqb}
 use lib.ListN.{length, take, drop, get_or, drop_of_length-le}
@@ -59,6 +60,16 @@ module _ (k : ℕ) (s : Bytes) (i : ℕ) where
   pub span-end : length s ≤ i → length (before k (drop i s)) ≡ 0
   unfolding before
   span-end h = rw (at_end s i h) refl
+
+-- once all is passed, the end is the answer, or an offset beyond it itself
+pub span_past : (k : ℕ) (s : Bytes) (at i : ℕ) → (at ≤ length s → i ≤ length s) → length s ≤ i
+    → i + length (before k (drop i s)) ≡ at + length (before k (drop at s))
+    → max at (length s) ≡ at + length (before k (drop at s))
+span_past k s at i f h e = go (dec_lt (length s) at)
+  where
+    go : Dec (length s < at) → max at (length s) ≡ at + length (before k (drop at s))
+    go (yes p) = omega (arith, span-end k s at (omega arith))
+    go (no p) = omega (arith, e, f (omega arith), span-end k s i h)
 
 -- ---- parts of a string
 

@@ -10,9 +10,12 @@ use native.Mathlib.Omega.{arith}
 use lib.Dec.{leb}
 use lib.ListN.{length, take, drop, get_or, set, length-append, length-drop, length-set}
 use lib.Seq.{sets, sets-eq, length-sets, drop-set-lt, get_or-set_same, take_all}
-use borrow.Author.Tests.{le-leb, lt-leb}
+use Rattle.std.proofs.lemmas.Slice.{put_mid-paste}
+use borrow.Author.Tests.{le-leb, lt-leb, leb-true, leb-false}
+use borrow.Rule.Slice.PartMut.{put_mid}
 use Rattle.lists.specs.Choice.{choose, provided}
 use Rattle.lists.specs.Lists.{Bytes, written}
+use Rattle.lists.proofs.ChoiceLaws.{provided_some, provided_none}
 use Rattle.lines.specs.Number.{ascii, decimal}
 use Rattle.lines.specs.Hex.{dash, hex_digit, hex, hex_field}
 use Rattle.lines.specs.Writing.{offset_after, put_at, offset_after_any, put_any}
@@ -73,6 +76,28 @@ put_fits s at t h = (rw (le-leb (at + length t) (length s) h) refl, rw (le-leb (
 pub put_over : (s : Bytes) (at : ℕ) (t : Bytes) → length s < at + length t → (offset_after s at t ≡ none) × (put_at s at t ≡ s)
 unfolding offset_after put_at choose provided
 put_over s at t h = (rw (lt-leb (at + length t) (length s) h) refl, rw (lt-leb (at + length t) (length s) h) refl)
+
+-- where the offset after a text is known, the text fits and is written
+pub put_ends : (s : Bytes) (at : ℕ) (t : Bytes) (e : ℕ) → some e ≡ offset_after s at t
+    → (e ≡ at + length t) × (at + length t ≤ length s) × (put_at s at t ≡ written s at t)
+unfolding offset_after
+put_ends s at t e h =
+    let (l, v) = provided_some _ _ e (sym h) in
+    let f = leb-true _ _ l in
+    (sym v, f, (put_fits s at t f).1)
+
+-- where there is none, nothing is written
+pub put_stays : (s : Bytes) (at : ℕ) (t : Bytes) → none ≡ offset_after s at t → put_at s at t ≡ s
+unfolding offset_after
+put_stays s at t h = (put_over s at t (leb-false _ _ (provided_none _ _ (sym h)))).1
+
+-- a part in which a text stands in the place of what was there
+pub put_part : (s : Bytes) (at : ℕ) (t : Bytes) (e : ℕ) (now : Bytes) → e ≡ at + length t → now ≡ t
+    → put_mid at (e - at) s now ≡ written s at t
+unfolding written
+put_part s at t e now h n =
+    put_mid-paste at (e - at) s now t (length t) n (omega arith) refl
+    ∙ ap (λ (x : Bytes). take at s ++ x ++ drop (at + length t) s) (take_all (length t) t (omega arith))
 
 -- what may be a text is put as the text that it is
 pub put_some : (s : Bytes) (at : ℕ) (o : Option Bytes) (t : Bytes) → o ≡ some t

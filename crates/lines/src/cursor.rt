@@ -8,7 +8,6 @@ ghost use Rattle.lines.specs.Readings.{read_of, next_of};
 use crate::hex::decoded_length;
 use crate::line::{line_end, span};
 use crate::number::read_number;
-use crate::part::equal;
 
 // An offset in a text or in a line, from which it is read on. It goes in by value, and comes back
 // with what was read, after it.
@@ -65,7 +64,7 @@ impl Cursor {
             return None;
         }
         let f = self.field(line);
-        if !equal(f, word) {
+        if f != word {
             return None;
         }
         Some(Cursor {

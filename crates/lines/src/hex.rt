@@ -6,28 +6,25 @@ ghost use Rattle.lines.specs.Hex.{is_hex_digit, digit_value, decoded_length};
 ghost use Rattle.lines.specs.Field.{exactly, read_field};
 
 use crate::layout::Layout;
-use crate::part::equal;
 
 // The length of the byte string that a field encodes: hex digits in pairs, or `-` for the empty
 // string.
 pub fn decoded_length(s: &[u8]) -> Option<usize>
     ensures { option_of result ≡ decoded_length s.now }
 {
-    if equal(s, b"-") {
+    if s == b"-".as_slice() {
         return Some(0);
     }
-    if s.len() == 0 {
+    if s.is_empty() {
         return None;
     }
     if s.len() % 2 != 0 {
         return None;
     }
-    let mut i: usize = 0;
-    while i < s.len() {
-        if !is_hex_digit(s[i]) {
+    for b in s {
+        if !is_hex_digit(*b) {
             return None;
         }
-        i += 1;
     }
     Some(s.len() / 2)
 }
@@ -40,8 +37,7 @@ pub fn read_digest(s: &[u8]) -> Option<[u8; 32]>
         return None;
     }
     let mut value = [0u8; 32];
-    let mut i: usize = 0;
-    while i < 32 {
+    for i in 0..32 {
         let high = s[2 * i];
         let low = s[2 * i + 1];
         if !is_hex_digit(high) {
@@ -51,7 +47,6 @@ pub fn read_digest(s: &[u8]) -> Option<[u8; 32]>
             return None;
         }
         value[i] = digit_value(high) * 16 + digit_value(low);
-        i += 1;
     }
     Some(value)
 }
@@ -60,11 +55,7 @@ pub fn read_digest(s: &[u8]) -> Option<[u8; 32]>
 fn is_hex_digit(b: u8) -> bool
     ensures { result ≡ is_hex_digit b }
 {
-    if b <= b'9' {
-        b'0' <= b
-    } else {
-        b'a' <= b && b <= b'f'
-    }
+    matches!(b, b'0'..=b'9' | b'a'..=b'f')
 }
 
 // The value of a digit.
@@ -72,5 +63,5 @@ pub(crate) fn digit_value(b: u8) -> u8
     requires { is_hex_digit b ≡ true }
     ensures { (result ≡ digit_value b) × (result < 16) }
 {
-    if b <= b'9' { b - b'0' } else { b - 87 }
+    if b <= b'9' { b - b'0' } else { b - b'a' + 10 }
 }

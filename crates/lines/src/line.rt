@@ -15,14 +15,12 @@ pub fn span(s: &[u8], at: usize, stop: u8) -> usize
     ensures value { result ≡ at + length (before stop (drop at s.now)) }
     ensures within { (at ≤ result) × (result - at ≤ length s.now - at) }
 {
-    let mut i: usize = at;
-    while i < s.len() {
+    for i in at..s.len() {
         if s[i] == stop {
             return i;
         }
-        i += 1;
     }
-    i
+    at.max(s.len())
 }
 
 // The same of a newline. Short lines end within the first bytes; long ones are passed in steps.
@@ -30,19 +28,13 @@ pub fn line_end(s: &[u8], at: usize) -> usize
     ensures value { result ≡ at + length (before newline (drop at s.now)) }
     ensures within { (at ≤ result) × (result - at ≤ length s.now - at) }
 {
-    let mut i: usize = at;
-    let mut near: usize = 0;
-    while near < NEAR {
-        if s.len() <= i {
-            return i;
-        }
+    let near = at.saturating_add(NEAR).min(s.len()).max(at);
+    for i in at..near {
         if s[i] == b'\n' {
             return i;
         }
-        i += 1;
-        near += 1;
     }
-    let far = skipped(s, i, WIDE);
+    let far = skipped(s, near, WIDE);
     span(s, skipped(s, far, NARROW), b'\n')
 }
 
@@ -74,10 +66,8 @@ fn lacks_newline(s: &[u8], at: usize, count: usize) -> bool
         ≡ at + length (before newline (drop at s.now)) }
 {
     let mut hit = false;
-    let mut k: usize = 0;
-    while k < count {
+    for k in 0..count {
         hit |= s[at + k] == b'\n';
-        k += 1;
     }
     !hit
 }

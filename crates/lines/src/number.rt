@@ -8,7 +8,7 @@ ghost use Rattle.lines.specs.Number.{read_number};
 pub fn read_number(s: &[u8], bound: u64) -> Option<u64>
     ensures { option_of result ≡ read_number bound s.now }
 {
-    if s.len() == 0 {
+    if s.is_empty() {
         return None;
     }
     if 1 < s.len() {
@@ -17,24 +17,14 @@ pub fn read_number(s: &[u8], bound: u64) -> Option<u64>
         }
     }
     let mut value: u64 = 0;
-    let mut i: usize = 0;
-    while i < s.len() {
-        let b = s[i];
-        if b < b'0' {
+    for b in s {
+        if !b.is_ascii_digit() {
             return None;
         }
-        if b'9' < b {
+        value = value.checked_mul(10)?.checked_add((*b - b'0') as u64)?;
+        if bound < value {
             return None;
         }
-        let digit = (b - b'0') as u64;
-        if bound / 10 < value {
-            return None;
-        }
-        if bound - value * 10 < digit {
-            return None;
-        }
-        value = value * 10 + digit;
-        i += 1;
     }
     Some(value)
 }

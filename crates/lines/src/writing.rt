@@ -2,7 +2,7 @@
 // written at all. Each answer is the offset after what was put, or none where nothing was.
 ghost use Rattle.std.specs.Prelude.{◌≡◌, ◌+◌, ◌*◌, ◌≤◌, ◌<◌, leb, length};
 ghost use Rattle.std.proofs.Math.Option.{some};
-ghost use Rattle.lists.specs.Choice.{option_of};
+ghost use Rattle.lists.specs.Choice.{option_of, provided};
 ghost use Rattle.lists.specs.Lists.{written};
 ghost use Rattle.lines.specs.Number.{decimal};
 ghost use Rattle.lines.specs.Hex.{unhex, read_hex, hex_digit, hex, hex_field};
@@ -18,11 +18,9 @@ pub fn put_bytes(out: &mut [u8], at: usize, s: &[u8]) -> Option<usize>
     ensures offset { option_of result ≡ offset_after out.old at s.now }
     ensures bytes { out.new ≡ put_at out.old at s.now }
 {
-    if !has_room(out.len(), at, s.len()) {
-        return None;
-    }
-    store_bytes(out, at, s);
-    Some(at + s.len())
+    let end = end_within(out.len(), at, s.len())?;
+    out[at..end].copy_from_slice(s);
+    Some(end)
 }
 
 // A number in decimal digits.
@@ -47,17 +45,12 @@ pub fn put_hex(out: &mut [u8], at: usize, s: &[u8]) -> Option<usize>
     ensures offset { option_of result ≡ offset_after out.old at (hex_field s.now) }
     ensures bytes { out.new ≡ put_at out.old at (hex_field s.now) }
 {
-    if s.len() == 0 {
+    if s.is_empty() {
         return put_bytes(out, at, b"-");
     }
-    if out.len() / 2 < s.len() {
-        return None;
-    }
-    if !has_room(out.len(), at, 2 * s.len()) {
-        return None;
-    }
+    let end = end_within(out.len(), at, 2 * s.len())?;
     store_hex(out, at, s);
-    Some(at + 2 * s.len())
+    Some(end)
 }
 
 // The byte string that a field encodes; nothing where it encodes none.
@@ -66,33 +59,20 @@ pub fn put_decoded(out: &mut [u8], at: usize, field: &[u8]) -> Option<usize>
     ensures bytes { out.new ≡ put_any out.old at (read_hex field.now) }
 {
     let count = decoded_length(field)?;
-    if !has_room(out.len(), at, count) {
+    let end = end_within(out.len(), at, count)?;
+    store_decoded(out, at, field);
+    Some(end)
+}
+
+// The offset after so many bytes, if they fit into a room from an offset on.
+fn end_within(room: usize, at: usize, count: usize) -> Option<usize>
+    ensures { option_of result ≡ provided (leb (at + count) room) (at + count) }
+{
+    let end = at.checked_add(count)?;
+    if room < end {
         return None;
     }
-    store_decoded(out, at, field);
-    Some(at + count)
-}
-
-// Whether so many bytes fit into a room from an offset on.
-fn has_room(room: usize, at: usize, count: usize) -> bool
-    ensures { result ≡ leb (at + count) room }
-{
-    if room < at {
-        return false;
-    }
-    count <= room - at
-}
-
-// Bytes as they are, where they fit.
-fn store_bytes(out: &mut [u8], at: usize, s: &[u8])
-    requires { at + length s.now ≤ length out.old }
-    ensures { out.new ≡ written out.old at s.now }
-{
-    let mut i: usize = 0;
-    while i < s.len() {
-        out[at + i] = s[i];
-        i += 1;
-    }
+    Some(end)
 }
 
 // The hex digits of bytes, where they fit.
@@ -100,12 +80,10 @@ fn store_hex(out: &mut [u8], at: usize, s: &[u8])
     requires { at + 2 * length s.now ≤ length out.old }
     ensures { out.new ≡ written out.old at (hex s.now) }
 {
-    let mut i: usize = 0;
-    while i < s.len() {
+    for i in 0..s.len() {
         let b = s[i];
         out[at + 2 * i] = hex_digit(b / 16);
         out[at + 2 * i + 1] = hex_digit(b % 16);
-        i += 1;
     }
 }
 
@@ -123,9 +101,7 @@ fn store_decoded(out: &mut [u8], at: usize, field: &[u8])
     requires room { at + length (unhex field.now) ≤ length out.old }
     ensures { out.new ≡ written out.old at (unhex field.now) }
 {
-    let mut i: usize = 0;
-    while i < field.len() / 2 {
+    for i in 0..field.len() / 2 {
         out[at + i] = digit_value(field[2 * i]) * 16 + digit_value(field[2 * i + 1]);
-        i += 1;
     }
 }

@@ -71,6 +71,11 @@ pub provided_true : {A : Type 0} (t : Bool) (a : A) → t ≡ true → provided 
 unfolding provided
 provided_true t a e = rw e refl
 
+-- and none if it fails
+pub provided_false : {A : Type 0} (t : Bool) (a : A) → t ≡ false → provided t a ≡ none
+unfolding provided
+provided_false t a e = rw e refl
+
 -- where a value is provided, the test holds, and the value is the one given
 pub provided_some : {A : Type 0} (t : Bool) (a b : A) → provided t a ≡ some b → (t ≡ true) × (a ≡ b)
 unfolding provided

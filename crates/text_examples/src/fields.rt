@@ -1,68 +1,64 @@
 // Numbers, hex, fields and lines.
-use crate::line;
-use lines::cursor::{Cursor, NextBytes, NextLine, NextNumber, NextWord};
-use lines::hex::{HexLength, decoded_length, read_digest};
+use lines::cursor::Cursor;
+use lines::hex::{decoded_length, read_digest};
 use lines::line::span;
-use lines::number::{Number, read_number};
+use lines::number::read_number;
+use output_lines::{bytes, numbers, text, whether, word};
+
+// The numbers that were read, or a word where there are none.
+fn numbers_or<const N: usize>(rt: &impl Print, read: Option<[u64; N]>, none: &[u8]) {
+    match read {
+        Some(all) => numbers(rt, &all),
+        None => word(rt, none),
+    }
+}
 
 pub(crate) fn number(rt: &impl Print, bound: u64, s: &[u8]) {
-    match read_number(s, bound) {
-        Number::Value(n) => line::number(rt, n),
-        Number::Unread => line::broken(rt),
-    }
+    numbers_or(rt, read_number(s, bound).map(|n| [n]), b" broken");
 }
 
 pub(crate) fn hex_length(rt: &impl Print, s: &[u8]) {
-    match decoded_length(s) {
-        HexLength::Read(n) => line::number(rt, n as u64),
-        HexLength::Unread => line::broken(rt),
-    }
+    numbers_or(rt, decoded_length(s).map(|n| [n as u64]), b" broken");
 }
 
 pub(crate) fn digest(rt: &impl Print, s: &[u8]) {
-    let d = read_digest(s);
-    line::whether(rt, d.found);
-    let value = d.value;
-    line::bytes(rt, &value);
+    let read = read_digest(s);
+    whether(rt, read.is_some());
+    bytes(rt, &read.unwrap_or([0; 32]));
 }
 
 pub(crate) fn word_at(rt: &impl Print, at: usize, s: &[u8], word: &[u8]) {
-    let c = Cursor { at };
-    match c.word(s, word) {
-        NextWord::Same(next) => line::number(rt, next.at as u64),
-        NextWord::Unread => line::word(rt, b" other"),
-    }
+    let read = Cursor { at }.word(s, word);
+    numbers_or(rt, read.map(|next| [next.at as u64]), b" other");
 }
 
 pub(crate) fn number_at(rt: &impl Print, at: usize, bound: u64, s: &[u8]) {
-    let c = Cursor { at };
-    match c.number(s, bound) {
-        NextNumber::Read { value, next } => line::numbers(rt, value, next.at as u64),
-        NextNumber::Unread => line::broken(rt),
-    }
+    let read = Cursor { at }.number(s, bound);
+    numbers_or(rt, read.map(|(n, next)| [n, next.at as u64]), b" broken");
 }
 
 pub(crate) fn bytes_at(rt: &impl Print, at: usize, s: &[u8]) {
-    let c = Cursor { at };
-    match c.bytes(s) {
-        NextBytes::Read { length, next } => line::numbers(rt, length as u64, next.at as u64),
-        NextBytes::Unread => line::broken(rt),
-    }
+    let read = Cursor { at }.bytes(s);
+    numbers_or(
+        rt,
+        read.map(|(n, next)| [n as u64, next.at as u64]),
+        b" broken",
+    );
 }
 
 pub(crate) fn field_at(rt: &impl Print, at: usize, s: &[u8]) {
-    let c = Cursor { at };
-    line::text(rt, c.field(s));
+    text(rt, Cursor { at }.field(s));
 }
 
 pub(crate) fn span_at(rt: &impl Print, at: usize, s: &[u8]) {
-    line::number(rt, span(s, at, b'\t') as u64);
+    numbers(rt, &[span(s, at, b'\t') as u64]);
 }
 
 pub(crate) fn line_at(rt: &impl Print, at: usize, s: &[u8]) {
-    let c = Cursor { at };
-    match c.line(s) {
-        NextLine::Ended { stop, next } => line::numbers(rt, stop as u64, next.at as u64),
-        NextLine::Unread => line::word(rt, b" open"),
-    }
+    let read = Cursor { at }.line(s);
+    numbers_or(
+        rt,
+        read.map(|(stop, next)| [stop as u64, next.at as u64]),
+        b" open",
+    );
 }

@@ -1,42 +1,38 @@
 // Responses: where their sections stand.
-use crate::line;
-use inputs::response::{ReadResponse, Response, Section, read_response};
+use inputs::refusal::Refusal;
+use inputs::response::{Response, Section, read_response};
 use inputs::response_lines::Kind;
-use lines::part::Part;
-
-fn part(rt: &impl Print, text: &[u8], p: Part) {
-    line::text(rt, p.of(text));
-}
+use output_lines::{number, numbers, text, word};
 
 fn kind(rt: &impl Print, k: Kind) {
     match k {
-        Kind::Search => line::word(rt, b" search"),
-        Kind::Monitor => line::word(rt, b" monitor"),
+        Kind::Search => word(rt, b" search"),
+        Kind::Monitor => word(rt, b" monitor"),
     }
 }
 
 fn section(rt: &impl Print, s: Section) {
-    line::numbers(rt, s.part.start as u64, s.part.stop as u64);
-    line::number(rt, s.count as u64);
+    numbers(
+        rt,
+        &[s.part.start as u64, s.part.stop as u64, s.count as u64],
+    );
 }
 
-fn fields(rt: &impl Print, text: &[u8], r: Response) {
-    let asked = r.kind;
-    kind(rt, asked);
-    part(rt, text, r.identifier);
-    part(rt, text, r.label);
-    line::number(rt, r.tree_size);
-    line::number(rt, r.target.version as u64);
-    part(rt, text, r.target.opening);
-    part(rt, text, r.target.value);
+fn fields(rt: &impl Print, s: &[u8], r: Response) {
+    kind(rt, r.kind);
+    text(rt, r.identifier.of(s));
+    text(rt, r.label.of(s));
+    numbers(rt, &[r.tree_size, u64::from(r.target.version)]);
+    text(rt, r.target.opening.of(s));
+    text(rt, r.target.value.of(s));
     section(rt, r.steps);
     section(rt, r.entries);
     section(rt, r.nodes);
 }
 
-pub(crate) fn response(rt: &impl Print, text: &[u8]) {
-    match read_response(text) {
-        ReadResponse::Read(r) => fields(rt, text, r),
-        ReadResponse::Unread => line::number(rt, 5),
+pub(crate) fn response(rt: &impl Print, s: &[u8]) {
+    match read_response(s) {
+        Some(r) => fields(rt, s, r),
+        None => number(rt, Refusal::Lines.number()),
     }
 }

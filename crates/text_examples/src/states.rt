@@ -1,9 +1,8 @@
 // States: new ones, their texts, and texts that say none.
-use crate::line;
-use inputs::state::{NumberedState, State};
+use inputs::state::{Refused, State};
 use inputs::state_reader::read_state;
 use inputs::state_writer::write_state;
-use lines::part::equal;
+use output_lines::{number, numbers, whether};
 
 // Room for more than the text of any state.
 const LENT: usize = 8200;
@@ -13,20 +12,27 @@ const LENT: usize = 8200;
 fn written(rt: &impl Print, s: State, text: &[u8]) {
     let mut lent = [b'.'; LENT];
     let length = write_state(s, &mut lent);
-    line::number(rt, length as u64);
-    if length <= LENT {
-        line::whether(rt, equal(&lent[0..length], text));
+    number(rt, length as u64);
+    if let Some(put) = lent.get(..length) {
+        whether(rt, put == text);
     }
-    line::whether(rt, lent[LENT - 1] == b'.');
+    whether(rt, lent[LENT - 1] == b'.');
 }
 
 // The number, what the state holds, and its text.
-pub(crate) fn state(rt: &impl Print, n: NumberedState, text: &[u8]) {
-    let s = n.state;
-    line::numbers(rt, n.number, s.label.length as u64);
-    line::numbers(rt, s.log.size, s.log.timestamp);
-    line::number(rt, s.map.count as u64);
+fn state(rt: &impl Print, read: Result<State, Refused>, text: &[u8]) {
+    let (refusal, s) = match read {
+        Ok(state) => (0, state),
+        Err(refused) => (refused.refusal.number(), refused.state),
+    };
+    numbers(rt, &[refusal, s.label.length as u64]);
+    numbers(rt, &[s.log.size, s.log.timestamp, s.map.count as u64]);
     written(rt, s, text);
+}
+
+// The state to begin with, for a label.
+pub(crate) fn of_label(rt: &impl Print, label: &[u8], text: &[u8]) {
+    state(rt, State::new(label), text);
 }
 
 // The state that a text says.
@@ -50,11 +56,14 @@ fn changed(rt: &impl Print, valid: State, part: u64) {
         _ => {}
     }
     let s = State { label, log, map };
-    line::whether(rt, s.is_valid());
+    whether(rt, s.is_valid());
 }
 
 // The same of the state that a text says.
 pub(crate) fn unused_room(rt: &impl Print, part: u64, text: &[u8]) {
-    let n = read_state(text);
-    changed(rt, n.state, part);
+    let valid = match read_state(text) {
+        Ok(state) => state,
+        Err(refused) => refused.state,
+    };
+    changed(rt, valid, part);
 }

@@ -1,18 +1,18 @@
 // Writing into lent bytes: what fits, what just does not, and what stands around it.
 use crate::example::said;
-use crate::line;
-use lines::writing::{Put, put_bytes, put_decimal, put_decoded, put_hex};
+use lines::writing::{put_bytes, put_decimal, put_decoded, put_hex};
+use output_lines::{number, text, word};
 
 // How many bytes `.` are lent.
 const LENT: usize = 10;
 
 // The offset after what was put, and what was lent.
-fn after(rt: &impl Print, put: Put, lent: &[u8]) {
+fn after(rt: &impl Print, put: Option<usize>, lent: &[u8]) {
     match put {
-        Put::Next(at) => line::number(rt, at as u64),
-        Put::Unchanged => line::word(rt, b" unchanged"),
+        Some(at) => number(rt, at as u64),
+        None => word(rt, b" unchanged"),
     }
-    line::text(rt, lent);
+    text(rt, lent);
 }
 
 pub(crate) fn bytes(rt: &impl Print, at: usize, s: &[u8]) {
@@ -33,8 +33,8 @@ pub(crate) fn decoded(rt: &impl Print, at: usize, s: &[u8]) {
     after(rt, put, &lent);
 }
 
-pub(crate) fn hex(rt: &impl Print, at: usize, bytes: &[u8]) {
+pub(crate) fn hex(rt: &impl Print, at: usize, s: &[u8]) {
     let mut lent = [b'.'; LENT];
-    let put = put_hex(&mut lent, at, bytes);
+    let put = put_hex(&mut lent, at, s);
     after(rt, put, &lent);
 }

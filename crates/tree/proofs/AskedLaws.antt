@@ -1,13 +1,14 @@
 -- Laws of entries asked for together: the frontier of a log, and what is put into it
 -- (frontier_and_paths of specs/SearchTree.antt).
-use mathlib.Core.Path.{◌≡◌, refl, sym, ap, ap₂, ◌∙◌}
+use mathlib.Core.Path.{◌≡◌, refl, sym, ap, ◌∙◌}
 use mathlib.Core.Logic.{⊎_elim}
 use mathlib.Core.Bool.{true}
 use mathlib.Core.List.{List, [], ◌∷◌, Memᴰ}
 use Prim.Native.Nat.{ℕ, suc, min, ◌+◌, ◌-◌, ◌*◌, ◌^◌, ◌≤◌, ◌<◌}
+use native.Mathlib.Numerals.{add-one}
 use native.Mathlib.Omega.{arith}
-use lib.ListN.{length, get_or, drop}
-use lib.Seq.{drop-cons, drop-length}
+use lib.ListN.{length, get_or, drop, drop_of_length-le}
+use lib.Seq.{drop-cons}
 use Rattle.lists.specs.Lists.{last_or, rising, insert_all}
 use Rattle.lists.proofs.RisingLaws.{last_none, insert_all_keeps, insert_all_only, insert_all_rising}
 use Rattle.lists.proofs.RisingLaws.{insert_all_length}
@@ -89,14 +90,33 @@ next_paths n p x ps =
     let s = paths_entries n ps in
     rw (paths_cons n p ps) (next_together n (right_ancestors n p) (frontier_and_paths n ps) x (right_ancestors_rising n p) s.rises (path_within n p) s.within)
 
--- Of the positions after the last it is the next on the frontier.
-pub asked_start : (n x : ℕ) (ps : List ℕ) → next_from n (frontier n) x ≡ next_from n (frontier_and_paths n (drop (length ps) ps)) x
-asked_start n x ps = rw (drop-length ps, paths_nil n)
+-- Right paths bring it no further than the next on the frontier.
+paths_below : (n x : ℕ) (ps : List ℕ) → next_from n (frontier_and_paths n ps) x ≤ next_from n (frontier n) x
+paths_below n x [] = rw (paths_nil n) (omega arith)
+paths_below n x (p ∷ ps) = omega (arith, next_paths n p x ps, paths_below n x ps)
 
--- The next of the positions from i on, from the next of those after i and the next on the right
--- path of position i.
-pub asked_step : (n x i k next a r : ℕ) (ps : List ℕ) → k ≡ suc i → k ≤ length ps → next ≡ next_from n (frontier_and_paths n (drop k ps)) x
-    → a ≡ next_from n (right_ancestors n (get_or ps i 0)) x → r ≡ min a next → r ≡ next_from n (frontier_and_paths n (drop i ps)) x
-asked_step n x i k next a r ps z l e f g =
-    g ∙ ap₂ min f (rw z at e) ∙ sym (next_paths n (get_or ps i 0) x (drop (suc i) ps))
-    ∙ ap (λ (qs : List ℕ). next_from n (frontier_and_paths n qs) x) (sym (drop-cons ps i 0 (omega arith)))
+-- what was found, at most the next on the frontier, and the next with the right paths of the
+-- positions from i on come to a number
+abbrev pub Asking : ℕ → ℕ → List ℕ → ℕ → ℕ → ℕ → Type 0
+Asking n x ps total next i =
+    (next ≤ next_from n (frontier n) x) × (min next (next_from n (frontier_and_paths n (drop i ps)) x) ≡ total)
+
+-- Before the first position the next on the frontier is found.
+pub asked_start : (n x next : ℕ) (ps : List ℕ) → next ≡ next_from n (frontier n) x → Asking n x ps (next_from n (frontier_and_paths n ps) x) next 0
+asked_start n x next ps e = (omega arith, omega (arith, paths_below n x ps))
+
+-- The next on the right path of a position goes with what was found.
+pub asked_step : (n x i d next a r total : ℕ) (ps : List ℕ) → i < length ps → Asking n x ps total next i
+    → a ≡ next_from n (right_ancestors n (get_or ps i d)) x → r ≡ min next a → Asking n x ps total r (i + 1)
+asked_step n x i d next a r total ps h s f g =
+    let e : next_from n (frontier_and_paths n (drop i ps)) x ≡ min a (next_from n (frontier_and_paths n (drop (suc i) ps)) x) =
+    ap (λ (qs : List ℕ). next_from n (frontier_and_paths n qs) x) (drop-cons ps i d h) ∙ next_paths n (get_or ps i d) x (drop (suc i) ps)
+    ∙ ap (λ (k : ℕ). min k (next_from n (frontier_and_paths n (drop (suc i) ps)) x)) (sym f) in
+    rw (add-one i) (omega (arith, s.0), omega (arith, s.1, e))
+
+-- After the last it is what is asked.
+pub asked_end : (n x i next total : ℕ) (ps : List ℕ) → length ps ≤ i → Asking n x ps total next i → next ≡ total
+asked_end n x i next total ps h s =
+    let e : next_from n (frontier_and_paths n (drop i ps)) x ≡ next_from n (frontier n) x =
+    ap (λ (qs : List ℕ). next_from n (frontier_and_paths n qs) x) (drop_of_length-le ps h) ∙ ap (λ (l : List ℕ). next_from n l x) (paths_nil n) in
+    omega (arith, s.0, s.1, e)

@@ -8,19 +8,21 @@ use native.Mathlib.Nat.{add-zero}
 use native.Mathlib.Decide.{dec_lt}
 use native.Mathlib.Omega.{arith}
 use lib.Dec.{leb, ltb}
-use lib.ListN.{length, drop, get_or, length-map, get_or-eq_default}
+use lib.ListN.{length, drop, get_or, length-map}
 use lib.Seq.{get_or-drop}
 use borrow.Author.Tests.{lt-ltb, le-ltb, le-leb, lt-leb, ltb-true, eq-eqb, ne_eqb}
+use Rattle.std.specs.Prelude.{Some, None, Option as CodeOption, slice_get}
+use Rattle.std.proofs.lemmas.Option.{slice_get_past}
 use Rattle.lists.specs.Choice.{choose}
 use Rattle.lists.specs.Lists.{Bytes, any, rising}
 use Rattle.lists.proofs.ChoiceLaws.{and_holds}
 use Rattle.lists.proofs.RisingLaws.{rising_tail}
 use Rattle.lines.specs.Layout.{entry_fields}
-use Rattle.tree.specs.declared.log_tree.WalkCursor.{WalkCursor}
+use Rattle.tree.specs.declared.walk_cursor.WalkCursor.{WalkCursor}
 use Rattle.tree.specs.LogTree.{LogEntry, log_leaf_string, Range, is_shown, string_at}
 use Rattle.tree.specs.LogText.{entry_in, next_line, entry_offsets, entries_at, shown_in}
 use Rattle.tree.specs.LogHead.{positions}
-use Rattle.tree.specs.LogWalk.{range, below, no_position, cursor_at, cursor_from}
+use Rattle.tree.specs.LogWalk.{range, below, cursor_at, cursor_from}
 use Rattle.tree.proofs.RunLaws.{get_d_any}
 use Rattle.tree.proofs.EntryLineLaws.{first_offset, offset-within, offsets-behind, shown_from}
 
@@ -168,28 +170,34 @@ first_left xs i d = get_or-drop i xs 0 d ∙ ap (λ (j : ℕ). get_or xs j d) (a
 
 -- ---- the cursor
 
-abbrev cursor : ℕ → ℕ → ℕ → WalkCursor
+abbrev cursor : ℕ → ℕ → CodeOption ℕ → WalkCursor
 cursor node at position = record { at = at; position = position; node = node }
 
+-- the first of those that are left, if there is one
+first_there : {A : Type 0} (xs : List A) (i : ℕ) → slice_get (drop i xs) 0 ≡ slice_get xs i
+first_there xs zero = refl
+first_there [] (suc i) = refl
+first_there (x ∷ xs) (suc i) = first_there xs i
+
 -- the position of the first of some entries
-first_position : (t : Bytes) (pl : List ℕ) (at d : ℕ) → at ≡ get_or pl 0 (length t) → at < length t → get_or (positions (entries_at t pl)) 0 d ≡ (entry_in (drop (at + entry_fields) t)).position
+first_position : (t : Bytes) (pl : List ℕ) (at : ℕ) → at ≡ get_or pl 0 (length t) → at < length t → slice_get (positions (entries_at t pl)) 0 ≡ Some (entry_in (drop (at + entry_fields) t)).position
 unfolding entries_at
-first_position t [] at d e h = absurd (omega arith)
-first_position t (p ∷ pl) at d e h = ap (λ (i : ℕ). (entry_in (drop (i + entry_fields) t)).position) (sym e)
+first_position t [] at e h = absurd (omega arith)
+first_position t (p ∷ pl) at e h = ap (λ (i : ℕ). Some (entry_in (drop (i + entry_fields) t)).position) (sym e)
 
 module _ (t : Bytes) (start node at : ℕ) (e : at ≡ first_offset t start) where
   -- the cursor where an entry line comes
-  pub cursor-made : (v : ℕ) → at < length t → v ≡ (entry_in (drop (at + entry_fields) t)).position → cursor node at v ≡ cursor_from t start node
+  pub cursor-made : (v : ℕ) → at < length t → v ≡ (entry_in (drop (at + entry_fields) t)).position → cursor node at (Some v) ≡ cursor_from t start node
   cursor-made v h ev =
       ap₂ (cursor node) e
-      (ev ∙ sym (first_position t (entry_offsets t start) at no_position e h) ∙ ap (λ (es : List LogEntry). get_or (positions es) 0 no_position) (shown_from t start))
+      (ap Some ev ∙ sym (first_position t (entry_offsets t start) at e h) ∙ ap (λ (es : List LogEntry). slice_get (positions es) 0) (shown_from t start))
 
   -- the cursor where none is left
-  pub cursor-none : length t ≤ at → cursor node at no_position ≡ cursor_from t start node
+  pub cursor-none : length t ≤ at → cursor node at None ≡ cursor_from t start node
   cursor-none h =
       ap₂ (cursor node) e
-      (sym (get_or-eq_default (positions (entries_at t (entry_offsets t start))) no_position (omega (arith, length_positions t (entry_offsets t start), none (entry_offsets t start) refl)))
-      ∙ ap (λ (es : List LogEntry). get_or (positions es) 0 no_position) (shown_from t start))
+      (sym (slice_get_past (positions (entries_at t (entry_offsets t start))) 0 (omega (arith, length_positions t (entry_offsets t start), none (entry_offsets t start) refl)))
+      ∙ ap (λ (es : List LogEntry). slice_get (positions es) 0) (shown_from t start))
     where
       none : (pl : List ℕ) → entry_offsets t start ≡ pl → length pl ≡ 0
       none [] n = refl
@@ -205,9 +213,9 @@ unfolding shown_in
 cursor_from_lem t start i node e =
     ap₂ (cursor node)
     (ap (λ (ps : List ℕ). get_or ps 0 (length t)) (sym e) ∙ first_left (entry_offsets t 0) i (length t))
-    (ap (λ (ps : List ℕ). get_or ps 0 no_position)
+    (ap (λ (ps : List ℕ). slice_get ps 0)
     (ap positions (sym (shown_from t start) ∙ ap (entries_at t) (sym e) ∙ entries_drop t i (entry_offsets t 0)) ∙ positions_drop i (entries_at t (entry_offsets t 0)))
-    ∙ first_left (positions (entries_at t (entry_offsets t 0))) i no_position)
+    ∙ first_there (positions (entries_at t (entry_offsets t 0))) i)
 
 -- after the line of one of them one more is passed
 pub cursor_next : (t : Bytes) (i node at : ℕ) → i < length (entry_offsets t 0) → at ≡ get_or (entry_offsets t 0) i (length t) → cursor_from t (next_line t at) node ≡ cursor_at t (i + 1) node

@@ -39,8 +39,8 @@ ones_limit l n p h = go (dec_lt n (2 ^ l))
     go (no a) = let e : n ≡ 1 * 2 ^ l + 0 = omega arith in omega (arith, ap ones e, one)
 
 -- what is known of a step is known of the one that it is
-pub step_told : (b : Bool) (m : ℕ) (r : Range) {x : Source} (y : Source) → x ≡ y → SourceFacts b m r x → SourceFacts b m r y
-step_told b m r y e = subst (SourceFacts b m r) e
+pub step_told : {a b : Bool} (m : ℕ) (r : Range) {x : Source} (y : Source) → x ≡ y → a ≡ b → SourceFacts a m r x → SourceFacts b m r y
+step_told m r y e q f = subst (λ (t : Bool). SourceFacts t m r y) q (subst (SourceFacts _ m r) e f)
 
 -- ---- full subtrees
 
@@ -105,32 +105,23 @@ module _ (m s w : ℕ) (h : Whole s w) where
         ∙ sym (ap (value_among (full_subtrees m) (runs (ones m) digest_length b)) block-is
         ∙ value_among_lem m e h.number (runs (ones m) digest_length b) (ap (is_full m) (sym block-is) ∙ f))
 
-  -- ---- the step that it takes, the next shown entry being at a position
+  -- ---- the step that it takes, something being shown in it or not
 
-  module _ (p : ℕ) where
-    -- a single entry that is shown is hashed
-    pub step-shown : p < s + w → w ≡ 1 → SourceFacts (ltb p (s + w)) m (range s w) Shown
-    step-shown b e = (lt-ltb p (s + w) b, e)
+  -- more entries of which one is shown split
+  pub step-parent : {b : Bool} → b ≡ true → (w ≡ 1 → ⊥) → SourceFacts b m (range s w) Parent
+  step-parent e d = (omega (arith, whole_some h, d), inl e)
 
-    -- more entries of which one is shown split
-    pub step-parent : p < s + w → (w ≡ 1 → ⊥) → SourceFacts (ltb p (s + w)) m (range s w) Parent
-    step-parent b e = (omega (arith, whole_some h, e), inl (lt-ltb p (s + w) b))
+  -- those after the m entries are given
+  pub step_after : {b : Bool} → b ≡ false → is_full m (range s w) ≡ false → m ≤ s → SourceFacts b m (range s w) Given
+  step_after e f l = (e, f, holds_test ∙ rw (f, le-ltb s m l) refl)
 
-    -- with nothing shown a full subtree is retained
-    pub step-retained : s + w ≤ p → is_full m (range s w) ≡ true → SourceFacts (ltb p (s + w)) m (range s w) Retained
-    step-retained b f = (le-ltb p (s + w) b, f)
+  -- those among the m entries that are not full are given
+  pub step-before : {b : Bool} → b ≡ false → is_full m (range s w) ≡ false → s < m → s + w ≤ m → SourceFacts b m (range s w) Given
+  step-before e f l u = (e, f, holds_test ∙ rw (f, lt-ltb s m l, le-ltb m (s + w) u) refl)
 
-    -- one after the m entries is given
-    pub step_after : s + w ≤ p → is_full m (range s w) ≡ false → m ≤ s → SourceFacts (ltb p (s + w)) m (range s w) Given
-    step_after b f l = (le-ltb p (s + w) b, f, holds_test ∙ rw (f, le-ltb s m l) refl)
-
-    -- one among the m entries that is not full is given
-    pub step-before : s + w ≤ p → is_full m (range s w) ≡ false → s < m → s + w ≤ m → SourceFacts (ltb p (s + w)) m (range s w) Given
-    step-before b f l u = (le-ltb p (s + w) b, f, holds_test ∙ rw (f, lt-ltb s m l, le-ltb m (s + w) u) refl)
-
-    -- one in which the m entries end splits
-    pub step-within : s + w ≤ p → is_full m (range s w) ≡ false → s < m → m < s + w → SourceFacts (ltb p (s + w)) m (range s w) Parent
-    step-within b f l u = (omega arith, inr (f, holds_test ∙ rw (f, lt-ltb s m l, lt-ltb m (s + w) u) refl))
+  -- those in which the m entries end split
+  pub step-within : {b : Bool} → is_full m (range s w) ≡ false → s < m → m < s + w → SourceFacts b m (range s w) Parent
+  step-within f l u = (omega arith, inr (f, holds_test ∙ rw (f, lt-ltb s m l, lt-ltb m (s + w) u) refl))
 
 -- ---- the halves of a parent
 

@@ -12,13 +12,13 @@ use lib.ListN.{drop}
 use Rattle.lists.specs.Lists.{Bytes}
 use Rattle.hash.specs.Sha256.{sha256}
 use Rattle.lines.specs.Layout.{entry_fields}
-use Rattle.tree.specs.declared.log_tree.WalkCursor.{WalkCursor}
+use Rattle.tree.specs.declared.walk_cursor.WalkCursor.{WalkCursor}
 use Rattle.tree.specs.declared.log_tree.Source.TheVariants.{Retained, Given, Shown, Parent}
 use Rattle.tree.specs.LogTree.{LogEntry, log_leaf_string, Range, Walk, parent, walk, node_count, kept_value}
 use Rattle.tree.specs.LogTree.{agrees}
 use Rattle.tree.specs.LogText.{entry_in, next_line, shown_in}
 use Rattle.tree.specs.LogHead.{positions}
-use Rattle.tree.specs.LogWalk.{range, cursor_from, cursor_before, past_node, Ready, Whole, SourceFacts}
+use Rattle.tree.specs.LogWalk.{range, position_of, cursor_from, cursor_before, past_node, Ready, Whole, SourceFacts}
 use Rattle.tree.specs.LogWalk.{end_on, node_next}
 use Rattle.tree.proofs.DecisionLaws.{whole_some}
 use Rattle.tree.proofs.WalkedLaws.{walked-cursor}
@@ -36,13 +36,13 @@ ends_joined text node mid end r x y w a b ew ea eb =
 
 module _ (text : Bytes) {m s w : ℕ} {c : WalkCursor} (h : Whole s w) (r : Ready text m s c) where
   -- after a retained block the walk stands as before it
-  pub end-retained : SourceFacts (ltb c.position (s + w)) m (range s w) Retained → c ≡ end_on text (known m [] (shown_in text)) c.node (range s w)
+  pub end-retained : SourceFacts (ltb (position_of c.position) (s + w)) m (range s w) Retained → c ≡ end_on text (known m [] (shown_in text)) c.node (range s w)
   end-retained f =
       walked-cursor text (known m [] (shown_in text)) [] (s + w) c.node (walk w m (positions (shown_in text)) (range s w)) (record { value = kept_value (known m [] (shown_in text)) (range s w); cursor = c; met = true })
       (block-retained [] text [] h r (shown_in text) (kept_value (known m [] (shown_in text)) (range s w)) f refl)
 
   -- after a given one it has passed one node more
-  pub end-given : SourceFacts (ltb c.position (s + w)) m (range s w) Given → past_node c ≡ end_on text (known m [] (shown_in text)) c.node (range s w)
+  pub end-given : SourceFacts (ltb (position_of c.position) (s + w)) m (range s w) Given → past_node c ≡ end_on text (known m [] (shown_in text)) c.node (range s w)
   unfolding node_next
   end-given f = walked-cursor text (known m [] (shown_in text)) [] (s + w) c.node (walk w m (positions (shown_in text)) (range s w)) (node_next [] c) (block-given [] text [] h r f)
 
@@ -51,7 +51,7 @@ module _ (text : Bytes) {m s w : ℕ} {c : WalkCursor} (h : Whole s w) (r : Read
   ready-half a g e = ready_behind r (w / 2) (whole_some (whole-left h g)) a e
 
   -- after one that splits it stands as after its right half
-  pub end-parent : (a b : WalkCursor) → SourceFacts (ltb c.position (s + w)) m (range s w) Parent → a ≡ end_on text (known m [] (shown_in text)) c.node (range s (w / 2))
+  pub end-parent : (a b : WalkCursor) → SourceFacts (ltb (position_of c.position) (s + w)) m (range s w) Parent → a ≡ end_on text (known m [] (shown_in text)) c.node (range s (w / 2))
       → b ≡ end_on text (known m [] (shown_in text)) a.node (range (s + w / 2) (w / 2)) → b ≡ end_on text (known m [] (shown_in text)) c.node (range s w)
   end-parent a b f ea eb =
       let t : s + w / 2 + w / 2 ≡ s + w = omega (arith, half_twice h f.0) in
@@ -63,7 +63,7 @@ module _ (text : Bytes) {m s w : ℕ} {c : WalkCursor} (h : Whole s w) (r : Read
 
 -- after a shown entry
 pub end_shown : (text : Bytes) {m s w : ℕ} {c : WalkCursor} (h : Whole s w) (r : Ready text m s c)
-    → SourceFacts (ltb c.position (s + w)) m (range s w) Shown → (a : WalkCursor) → a ≡ cursor_from text (next_line text c.at) c.node
+    → SourceFacts (ltb (position_of c.position) (s + w)) m (range s w) Shown → (a : WalkCursor) → a ≡ cursor_from text (next_line text c.at) c.node
     → a ≡ end_on text (known m [] (shown_in text)) c.node (range s w)
 end_shown text {m} {s} {w} {c} h r f a ea =
     let es : List LogEntry = shown_in text in

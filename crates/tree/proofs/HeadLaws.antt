@@ -15,7 +15,7 @@ use Rattle.lists.proofs.ChoiceLaws.{and_holds, choose_true, choose_false}
 use Rattle.hash.specs.Bytes.{padded}
 use Rattle.hash.specs.Sha256.{digest_length}
 use Rattle.hash.proofs.BytesLaws.{padded_nil}
-use Rattle.tree.specs.declared.log_tree.WalkCursor.{WalkCursor}
+use Rattle.tree.specs.declared.walk_cursor.WalkCursor.{WalkCursor}
 use Rattle.tree.specs.declared.log_tree.Walked.{Walked}
 use Rattle.tree.specs.LogTree.{LogEntry, Known, walk_of, zeros}
 use Rattle.tree.specs.LogText.{shown_in}

@@ -5,9 +5,12 @@ use mathlib.Core.Option
 use mathlib.Core.Option.{Option, none, some}
 use Prim.Native.Nat.{ℕ, zero, suc, ◌+◌, ◌-◌, ◌*◌, ◌/◌, ◌%◌, ◌^◌, ◌≤◌, ◌<◌}
 use native.Mathlib.Omega.{arith}
+use Rattle.std.proofs.Math.Nat.{mul-suc, mul-le-mul_left, mul-div-le}
 use lib.ListN.{length, take, drop, get_or, length-append, length-take, length-drop, length-map}
 use lib.Seq.{length-take-le, take-nil, drop-nil, take_at, take-take, drop-drop}
 use borrow.Author.Tests.{eq-eqb}
+use Rattle.std.specs.Prelude.{Some, None, unwrap_or, Option as CodeOption}
+use Rattle.lists.specs.Choice.{option_of}
 use Rattle.lists.specs.Lists.{Bytes, runs}
 use Rattle.lists.proofs.ListLaws.{Lacks, all_lacks}
 use Rattle.hash.specs.Bytes.{AreBytes}
@@ -16,7 +19,6 @@ use Rattle.hash.proofs.BytesLaws.{bytes_take, bytes_drop}
 use Rattle.lines.specs.Number.{read_number, decimal, ascii}
 use Rattle.lines.specs.Hex.{dash, hex_digit, hex, hex_field}
 use Rattle.lines.specs.Field.{exactly, read_field, write_field, write_fields}
-use Rattle.lines.specs.Readings.{as_digest, digest_in}
 use Rattle.lines.specs.Line.{tab, newline, Form, before, after, joined, line, write_line}
 use Rattle.lines.proofs.OffsetLaws.{before_at, before_lacks, after_lacks}
 use Rattle.lines.proofs.NumberLaws.{is_plain, read_decimal, decimal_plain}
@@ -28,6 +30,11 @@ use Rattle.tree.specs.LogTree.{zeros}
 use Rattle.tree.specs.LogText.{number_in, value_in, values_in, entry_in, nodes_in}
 use Rattle.tree.proofs.RunLaws.{length_runs, mapped-run, mapped-none, length-texts, runs-texts}
 use Rattle.tree.proofs.RunLaws.{drop-take}
+
+-- what an answer of the code has, or a default, is what the answer has in the definitions' words
+pub unwrapped : {A : Type 0} (o : CodeOption A) (d : A) → unwrap_or o d ≡ Option.get_or (option_of o) d
+unwrapped (Some a) d = refl
+unwrapped None d = refl
 
 -- ---- numbers
 
@@ -52,18 +59,13 @@ abbrev pub IsValue : Bytes → Type 0
 IsValue v = (length v ≡ digest_length) × AreBytes v
 
 -- what a field has is the value that is read there
-pub value_read : (s : Bytes) → (digest_in s).value ≡ value_in s
-unfolding digest_in value_in zeros as_digest
-value_read s = go (read_field (exactly digest_length) s)
-  where
-    go : (o : Option Bytes) → (as_digest o).value ≡ Option.get_or o zeros
-    go none = refl
-    go (some v) = refl
+pub value_read : (s : Bytes) (o : Option Bytes) → o ≡ read_field (exactly digest_length) s → value_in s ≡ Option.get_or o zeros
+unfolding value_in
+value_read s o e = rw e refl
 
 -- a field of another length has zeros
 pub value_none : (s : Bytes) → (length s ≡ value_digits → ⊥) → value_in s ≡ zeros
-unfolding as_digest zeros
-value_none s n = sym (value_read s) ∙ ap (λ d. d.value) (digest_long s n)
+value_none s n = value_read s none (sym (digest_long s n))
 
 -- the digits of a value do not stand where too few bytes are left
 pub value_short : (s : Bytes) (at : ℕ) → length s < at + value_digits → value_in (take value_digits (drop at s)) ≡ zeros
@@ -71,6 +73,10 @@ value_short s at h =
     value_none (take value_digits (drop at s)) (λ e. omega (arith, length-take value_digits (drop at s), length-drop at s))
 
 -- ---- siblings and nodes
+
+-- a line that is there is within a text of n bytes
+pub line_room : (n k i d : ℕ) → d < k → i < n / k → k * i + d < n
+line_room n k i d l h = omega (arith, mul-suc k i, mul-le-mul_left k h, mul-div-le n k)
 
 -- the value of a number among siblings
 pub sibling_some : (s : Bytes) (i : ℕ) → i < length s / value_digits → get_or (values_in s) i zeros ≡ value_in (take value_digits (drop (value_digits * i) s))

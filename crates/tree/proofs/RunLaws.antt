@@ -99,10 +99,3 @@ unfolding runs
 runs_bytes zero k s h = each_nil AreBytes
 runs_bytes (suc n) k s h =
     each-cons AreBytes (take k s) (runs n k (drop k s)) (bytes_take k s h) (runs_bytes n k (drop k s) (bytes_drop k s h))
-
--- one element more of a run that is copied
-pub copied_step : (r s : List ℕ) (n k : ℕ) → k < length r → n + k < length s → take k r ≡ take k (drop n s)
-    → take (k + 1) (set r k (get_or s (n + k) 0)) ≡ take (k + 1) (drop n s)
-copied_step r s n k h l e =
-    let j : k < length (drop n s) = omega (arith, length-drop n s) in
-    rw (add-one k, take-suc-set r k (get_or s (n + k) 0) h, take-suc (drop n s) k 0 j, get_or-drop n s k 0, e) refl

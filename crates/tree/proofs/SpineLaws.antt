@@ -9,11 +9,10 @@ use native.Mathlib.Omega.{arith}
 use lib.Dec.{ltb}
 use lib.ListN.{length, drop, length-append}
 use lib.Seq.{drop-drop}
-use borrow.Author.Tests.{lt-ltb, le-ltb}
 use Rattle.lists.specs.Lists.{Bytes}
 use Rattle.hash.specs.Bytes.{padded}
 use Rattle.hash.specs.Sha256.{digest_length}
-use Rattle.tree.specs.declared.log_tree.WalkCursor.{WalkCursor}
+use Rattle.tree.specs.declared.walk_cursor.WalkCursor.{WalkCursor}
 use Rattle.tree.specs.declared.log_tree.Source.TheVariants.{Shown}
 use Rattle.tree.specs.declared.log_tree.Walked.{Walked}
 use Rattle.tree.specs.SearchTree.{power}
@@ -21,7 +20,7 @@ use Rattle.tree.specs.LogTree.{LogEntry, is_shown, is_full, Walk, given, parent,
 use Rattle.tree.specs.LogTree.{Known, value, full_values}
 use Rattle.tree.specs.LogText.{shown_in}
 use Rattle.tree.specs.LogHead.{block_length, positions}
-use Rattle.tree.specs.LogWalk.{range, cursor_before, past_node, Ready, SourceFacts, Tail, walk_on, end_on}
+use Rattle.tree.specs.LogWalk.{range, position_of, cursor_before, past_node, Ready, SourceFacts, Tail, walk_on, end_on}
 use Rattle.tree.specs.LogWalk.{walked_by, walked_on, node_next, parent_by, compared_by, Filled, values_from}
 use Rattle.tree.proofs.WalkCaseLaws.{walks_over, walks_width}
 use Rattle.tree.proofs.WalkValueLaws.{full_values_one, full_values_both}
@@ -90,13 +89,13 @@ filled_then count a b c t u l f g s e h =
 -- ---- what the walk yields
 
 -- where the last entries are a single one, which is shown, the walk takes that step
-pub spine_entry : (m n s w position : ℕ) → s + w ≡ n → w ≡ 1 → position < n → SourceFacts (ltb position (s + w)) m (range s w) Shown
-spine_entry m n s w position e o p = (lt-ltb position (s + w) (omega arith), o)
+pub spine_entry : (m n s w position : ℕ) → s + w ≡ n → w ≡ 1 → ltb position n ≡ true → SourceFacts (ltb position (s + w)) m (range s w) Shown
+spine_entry m n s w position e o p = (ap (ltb position) e ∙ p, o)
 
 module _ (vs : List Bytes) (text : Bytes) (ns : List Bytes) {m n s w : ℕ} {c : WalkCursor} (t : Tail n s) (z : w ≡ power (n - s)) (r : Ready text m s c) (h : m ≤ n) where
   -- whether something is shown in the last entries
-  tail-shown : is_shown (positions (shown_in text)) (range s (n - s)) ≡ ltb c.position n
-  tail-shown = let e : s + (n - s) ≡ n = omega (arith, t.some) in next-shown r (n - s) (omega (arith, t.some, t.small)) ∙ ap (ltb c.position) e
+  tail-shown : is_shown (positions (shown_in text)) (range s (n - s)) ≡ ltb (position_of c.position) n
+  tail-shown = let e : s + (n - s) ≡ n = omega (arith, t.some) in next-shown r (n - s) (omega (arith, t.some, t.small)) ∙ ap (ltb (position_of c.position)) e
 
   -- they fill a block
   pub spine-block : (i : Walked) → s + w ≡ n → i ≡ walked_on text (known m vs (shown_in text)) ns c.node (range s w)
@@ -107,13 +106,13 @@ module _ (vs : List Bytes) (text : Bytes) (ns : List Bytes) {m n s w : ℕ} {c :
       (x, values-full text n (known m vs (shown_in text)) ns s c.node i t.some x (ap (λ (j : ℕ). is_full n (range s j)) (sym d) ∙ tail-full t z))
 
   -- they are the next node
-  pub spine-node : (i : Walked) → s + w < n → n ≤ c.position → m ≤ s → i ≡ node_next ns c
+  pub spine-node : (i : Walked) → s + w < n → ltb (position_of c.position) n ≡ false → m ≤ s → i ≡ node_next ns c
       → (i ≡ walked_on text (known m vs (shown_in text)) ns c.node (range s (n - s))) × (i.value ≡ values_from n (known m vs (shown_in text)) ns s c.node)
   spine-node i l q b ei =
       let k : Known = known m vs (shown_in text) in
       let e : s + (n - s) ≡ n = omega (arith, t.some) in
-      let g : walk (n - s) m (positions (shown_in text)) (range s (n - s)) ≡ given (range s (n - s)) = cut-given t z l m (positions (shown_in text)) h (tail-shown ∙ le-ltb c.position n q) b in
-      let d : c ≡ cursor_before text (s + (n - s)) c.node = next_stays r (n - s) (ap (ltb c.position) e ∙ le-ltb c.position n q) in
+      let g : walk (n - s) m (positions (shown_in text)) (range s (n - s)) ≡ given (range s (n - s)) = cut-given t z l m (positions (shown_in text)) h (tail-shown ∙ q) b in
+      let d : c ≡ cursor_before text (s + (n - s)) c.node = next_stays r (n - s) (ap (ltb (position_of c.position)) e ∙ q) in
       let x : i ≡ walked_on text k ns c.node (range s (n - s)) =
       ei ∙ walked-given text k ns (s + (n - s)) c.node (range s (n - s)) c d ∙ ap (walked_by text k ns (s + (n - s)) c.node) (sym g) in
       (x, values-given text n k ns s c.node i x g)
@@ -127,12 +126,12 @@ module _ (vs : List Bytes) (text : Bytes) (ns : List Bytes) {m n s w : ℕ} {c :
     spine-ready a e = ready_behind r (w) half-some a e
 
     -- they split
-    pub spine-split : (c.position < n) ⊎ (s < m) → walk_on (known m vs (shown_in text)) (range s (n - s))
+    pub spine-split : (ltb (position_of c.position) n ≡ true) ⊎ (s < m) → walk_on (known m vs (shown_in text)) (range s (n - s))
         ≡ parent (range s (n - s)) (walk_on (known m vs (shown_in text)) (range s w)) (walk_on (known m vs (shown_in text)) (range (s + w) (n - (s + w))))
-    spine-split q = cut-split t z l m (positions (shown_in text)) h (⊎_elim (λ b. inl (tail-shown ∙ lt-ltb c.position n b)) inr q)
+    spine-split q = cut-split t z l m (positions (shown_in text)) h (⊎_elim (λ b. inl (tail-shown ∙ b)) inr q)
 
     -- what they yield, from what the full subtree yields with which they begin and those after it
-    pub spine-cut : (fs : List LogEntry) (i j x : Walked) → (c.position < n) ⊎ (s < m) → i ≡ walked_on text (known m vs (shown_in text)) ns c.node (range s w)
+    pub spine-cut : (fs : List LogEntry) (i j x : Walked) → (ltb (position_of c.position) n ≡ true) ⊎ (s < m) → i ≡ walked_on text (known m vs (shown_in text)) ns c.node (range s w)
         → j ≡ walked_on text (known m vs (shown_in text)) ns i.cursor.node (range (s + w) (n - (s + w)))
         → x ≡ compared_by (known m vs fs) (range s (w + (n - (s + w)))) (parent_by w i (n - (s + w)) j)
         → x ≡ walked_on text (known m vs (shown_in text)) ns c.node (range s (n - s))
@@ -152,7 +151,7 @@ module _ (vs : List Bytes) (text : Bytes) (ns : List Bytes) {m n s w : ℕ} {c :
         ∙ ap (walked_by text k ns (s + (n - s)) c.node) (sym (spine-split q))
 
     -- the values of full subtrees: that of the left half, and those in the right one
-    pub spine-values : (i : Walked) → (c.position < n) ⊎ (s < m) → i ≡ walked_on text (known m vs (shown_in text)) ns c.node (range s w)
+    pub spine-values : (i : Walked) → (ltb (position_of c.position) n ≡ true) ⊎ (s < m) → i ≡ walked_on text (known m vs (shown_in text)) ns c.node (range s w)
         → i.value ++ values_from n (known m vs (shown_in text)) ns (s + w) i.cursor.node ≡ values_from n (known m vs (shown_in text)) ns s c.node
     spine-values i q e = values-two text n (known m vs (shown_in text)) ns s c.node (w) i half-some e (tail-full t z) (cut-not-full t z l n) (spine-split q)
 
@@ -164,14 +163,14 @@ module _ (text : Bytes) {m n s w : ℕ} {c : WalkCursor} (t : Tail n s) (z : w �
   spine-end-block a e ea = let d : w ≡ n - s = omega arith in ea ∙ ap (λ (j : ℕ). end_on text (known m [] (shown_in text)) c.node (range s j)) d
 
   -- where they are the next node it has passed one node more
-  pub spine-end-node : s + w < n → n ≤ c.position → m ≤ s → past_node c ≡ end_on text (known m [] (shown_in text)) c.node (range s (n - s))
+  pub spine-end-node : s + w < n → ltb (position_of c.position) n ≡ false → m ≤ s → past_node c ≡ end_on text (known m [] (shown_in text)) c.node (range s (n - s))
   unfolding node_next
   spine-end-node l q b =
       walked-cursor text (known m [] (shown_in text)) [] (s + (n - s)) c.node (walk (n - s) m (positions (shown_in text)) (range s (n - s))) (node_next [] c)
       (spine-node [] text [] t z r h (node_next [] c) l q b refl).0
 
   -- where they split it ends after the others
-  pub spine-end-cut : (l : s + w < n) (a b : WalkCursor) → (c.position < n) ⊎ (s < m) → a ≡ end_on text (known m [] (shown_in text)) c.node (range s w)
+  pub spine-end-cut : (l : s + w < n) (a b : WalkCursor) → (ltb (position_of c.position) n ≡ true) ⊎ (s < m) → a ≡ end_on text (known m [] (shown_in text)) c.node (range s w)
       → b ≡ end_on text (known m [] (shown_in text)) a.node (range (s + w) (n - (s + w))) → b ≡ end_on text (known m [] (shown_in text)) c.node (range s (n - s))
   spine-end-cut l a b q ea eb =
       let k : Known = known m [] (shown_in text) in

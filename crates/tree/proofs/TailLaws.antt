@@ -2,7 +2,7 @@
 -- the full subtree with which they begin, and how they halve.
 use mathlib.Core.Path.{◌≡◌, sym, ap, ap₂, ◌∙◌, subst}
 use mathlib.Core.Logic.{◌⊎◌, inl, inr, ⊎_elim}
-use mathlib.Core.Bool.{true, false}
+use mathlib.Core.Bool.{Bool, true, false}
 use mathlib.Core.List.{List}
 use Prim.Native.Nat.{ℕ, suc, ◌+◌, ◌-◌, ◌*◌, ◌^◌, ◌≤◌, ◌<◌}
 use native.Mathlib.Nat.{zero-mul}
@@ -11,7 +11,7 @@ use lib.Count.{ones}
 use lib.Dec.{ltb}
 use lib.Pow.{pow_pos}
 use borrow.Author.Tests.{lt-ltb, le-ltb}
-use Rattle.tree.specs.declared.log_tree.Edge.{Edge}
+use Rattle.tree.specs.declared.log_spine.Edge.{Edge}
 use Rattle.tree.specs.SearchTree.{power}
 use Rattle.tree.specs.LogTree.{left_half, right_half, is_shown, is_full, holds_full, given, parent, walk}
 use Rattle.tree.specs.LogHead.{level_limit}
@@ -24,8 +24,8 @@ use Rattle.tree.proofs.WalkStepLaws.{walk_given, walk_split, walk_fuel}
 use Rattle.tree.proofs.ReachLaws.{full_left}
 
 -- what is known of an edge is known of the one that it is
-pub edge_told : (m n s w p : ℕ) {x : Edge} (y : Edge) → x ≡ y → EdgeFacts m n s w p x → EdgeFacts m n s w p y
-edge_told m n s w p y e = subst (EdgeFacts m n s w p) e
+pub edge_told : (m n s w : ℕ) {a b : Bool} {x : Edge} (y : Edge) → x ≡ y → a ≡ b → EdgeFacts m n s w a x → EdgeFacts m n s w b y
+edge_told m n s w y e q f = subst (λ (t : Bool). EdgeFacts m n s w t y) q (subst (EdgeFacts m n s w _) e f)
 
 -- all entries of a log are its last ones
 pub tail_all : (n : ℕ) → 0 < n → n ≤ 2 ^ level_limit → Tail n 0

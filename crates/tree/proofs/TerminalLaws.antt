@@ -18,10 +18,10 @@ use Rattle.lists.proofs.ListLaws.{equal_same, differ_same}
 use Rattle.hash.specs.Bytes.{AreBytes}
 use Rattle.hash.specs.Sha256.{sha256}
 use Rattle.tree.specs.LogTree.{zeros}
-use Rattle.tree.specs.declared.prefix_tree.TerminalKind.TheVariants.{SearchedLeaf, Empty, OtherLeaf}
 use Rattle.tree.specs.declared.prefix_tree.Terminal.{Terminal as Held}
+use Rattle.tree.specs.declared.prefix_tree.Terminal.TheVariants.{SearchedLeaf, Empty, OtherLeaf}
 use Rattle.tree.specs.PrefixTree.{prefix_leaf_string, bits, terminal_value, terminal_fits}
-use Rattle.tree.specs.Lookups.{terminal_at, terminal_of}
+use Rattle.tree.specs.Lookups.{terminal_of}
 use Rattle.tree.proofs.DigitLaws.{by_order}
 
 -- An array that the code holds has bytes as elements.
@@ -33,30 +33,30 @@ bytes_held (x ∷ s) (v ∷ vs) (a, h) = (a.1, bytes_held s vs h)
 -- ---- its value
 
 -- The value of the leaf looked up is the digest of its output and commitment.
-pub own_value : (o : Bytes) (t : Held) → t.kind ≡ SearchedLeaf → sha256 (0x01 ∷ o ++ t.commitment) ≡ terminal_value o (terminal_of t)
-unfolding terminal_of terminal_at terminal_value prefix_leaf_string
-own_value o t e = rw e refl
+pub own_value : (o m : Bytes) (t : Held) → t ≡ SearchedLeaf m → sha256 (0x01 ∷ o ++ m) ≡ terminal_value o (terminal_of t)
+unfolding terminal_of terminal_value prefix_leaf_string
+own_value o m t e = rw e refl
 
 -- The value of an empty place is zeros.
-pub empty_value : (o : Bytes) (t : Held) → t.kind ≡ Empty → zeros ≡ terminal_value o (terminal_of t)
-unfolding terminal_of terminal_at terminal_value
+pub empty_value : (o : Bytes) (t : Held) → t ≡ Empty → zeros ≡ terminal_value o (terminal_of t)
+unfolding terminal_of terminal_value
 empty_value o t e = rw e refl
 
 -- The value of another leaf is the digest of that leaf's output and commitment.
-pub other_value : (o : Bytes) (t : Held) → t.kind ≡ OtherLeaf → sha256 (0x01 ∷ t.output ++ t.commitment) ≡ terminal_value o (terminal_of t)
-unfolding terminal_of terminal_at terminal_value prefix_leaf_string
-other_value o t e = rw e refl
+pub other_value : (o p m : Bytes) (t : Held) → t ≡ OtherLeaf p m → sha256 (0x01 ∷ p ++ m) ≡ terminal_value o (terminal_of t)
+unfolding terminal_of terminal_value prefix_leaf_string
+other_value o p m t e = rw e refl
 
 -- ---- whether it fits
 
 -- The leaf looked up fits.
-pub own_fits : (o : Bytes) (t : Held) (depth : ℕ) → t.kind ≡ SearchedLeaf → true ≡ terminal_fits o (terminal_of t) depth
-unfolding terminal_of terminal_at terminal_fits
-own_fits o t depth e = rw e refl
+pub own_fits : (o m : Bytes) (t : Held) (depth : ℕ) → t ≡ SearchedLeaf m → true ≡ terminal_fits o (terminal_of t) depth
+unfolding terminal_of terminal_fits
+own_fits o m t depth e = rw e refl
 
 -- An empty place fits.
-pub empty_fits : (o : Bytes) (t : Held) (depth : ℕ) → t.kind ≡ Empty → true ≡ terminal_fits o (terminal_of t) depth
-unfolding terminal_of terminal_at terminal_fits
+pub empty_fits : (o : Bytes) (t : Held) (depth : ℕ) → t ≡ Empty → true ≡ terminal_fits o (terminal_of t) depth
+unfolding terminal_of terminal_fits
 empty_fits o t depth e = rw e refl
 
 -- Two lists that share n elements and no more share their first elements up to n.
@@ -72,13 +72,13 @@ shared_first x y n depth e d = by_order n depth more less
     less h = le-leb depth n h ∙ sym (equal_same (take depth x) (take depth y) (sym (take-take depth n x h) ∙ ap (take depth) e ∙ take-take depth n y h))
 
 -- Another leaf fits up to the depth where its output parts from the one looked up.
-pub other_fits : (o : Bytes) (t : Held) (n depth : ℕ) → t.kind ≡ OtherLeaf → take n (bits o) ≡ take n (bits t.output)
-    → (get_or (bits o) n 0 ≡ get_or (bits t.output) n 0 → ⊥) → leb depth n ≡ terminal_fits o (terminal_of t) depth
-unfolding terminal_of terminal_at terminal_fits
-other_fits o t n depth p e d =
-    rw (p, differ_same o t.output (λ q. d (ap (λ (l : Bytes). get_or (bits l) n 0) q))) (shared_first (bits o) (bits t.output) n depth e d)
+pub other_fits : (o p m : Bytes) (t : Held) (n depth : ℕ) → t ≡ OtherLeaf p m → take n (bits o) ≡ take n (bits p)
+    → (get_or (bits o) n 0 ≡ get_or (bits p) n 0 → ⊥) → leb depth n ≡ terminal_fits o (terminal_of t) depth
+unfolding terminal_of terminal_fits
+other_fits o p m t n depth h e d =
+    rw (h, differ_same o p (λ q. d (ap (λ (l : Bytes). get_or (bits l) n 0) q))) (shared_first (bits o) (bits p) n depth e d)
 
 -- Another leaf with the output looked up does not fit.
-pub same_unfit : (o : Bytes) (t : Held) (depth : ℕ) → t.kind ≡ OtherLeaf → o ≡ t.output → false ≡ terminal_fits o (terminal_of t) depth
-unfolding terminal_of terminal_at terminal_fits
-same_unfit o t depth p e = rw (p, equal_same o t.output e) refl
+pub same_unfit : (o p m : Bytes) (t : Held) (depth : ℕ) → t ≡ OtherLeaf p m → o ≡ p → false ≡ terminal_fits o (terminal_of t) depth
+unfolding terminal_of terminal_fits
+same_unfit o p m t depth h e = rw (h, equal_same o p e) refl

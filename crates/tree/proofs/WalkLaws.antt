@@ -10,10 +10,11 @@ use native.Mathlib.Omega.{arith}
 use lib.Dec.{ltb}
 use lib.ListN.{length, get_or, drop}
 use borrow.Author.Tests.{eq-eqb, ne_eqb, ltb-true, ltb-false}
+use Rattle.std.proofs.lemmas.Option.{unwrap_or-slice_get}
 use Rattle.lists.specs.Lists.{Bytes}
 use Rattle.hash.specs.Sha256.{sha256}
 use Rattle.lines.specs.Layout.{entry_fields}
-use Rattle.tree.specs.declared.log_tree.WalkCursor.{WalkCursor}
+use Rattle.tree.specs.declared.walk_cursor.WalkCursor.{WalkCursor}
 use Rattle.tree.specs.declared.log_tree.Walked.{Walked}
 use Rattle.tree.specs.declared.log_tree.Source.TheVariants.{Retained, Given, Shown, Parent}
 use Rattle.tree.specs.LogTree.{LogEntry, log_leaf_string, Range, left_half, right_half, is_shown, is_full}
@@ -21,7 +22,7 @@ use Rattle.tree.specs.LogTree.{holds_full, Walk, retained, given, shown, parent,
 use Rattle.tree.specs.LogTree.{width_of, Known, kept_value, value, agrees, kept_values_met}
 use Rattle.tree.specs.LogText.{entry_in, next_line, entry_offsets, shown_in}
 use Rattle.tree.specs.LogHead.{level_limit, positions}
-use Rattle.tree.specs.LogWalk.{range, below, no_position, cursor_at, cursor_from, cursor_before, Ready}
+use Rattle.tree.specs.LogWalk.{range, below, no_position, position_of, cursor_at, cursor_from, cursor_before, Ready}
 use Rattle.tree.specs.LogWalk.{Whole, Halves, even, SourceFacts, walked_by, walked_on, node_next, parent_by}
 use Rattle.tree.specs.LogWalk.{compared_by}
 use Rattle.tree.proofs.PowerLaws.{halves_meet, halves_filled}
@@ -47,18 +48,18 @@ module _ {t : Bytes} {m s : ℕ} {c : WalkCursor} (r : Ready t m s c) where
   offset_at : c.at ≡ get_or (entry_offsets t 0) (below (positions (shown_in t)) s) (length t)
   offset_at = ap (λ (x : WalkCursor). x.at) r.stands
 
-  position_at : c.position ≡ get_or (positions (shown_in t)) (below (positions (shown_in t)) s) no_position
-  position_at = ap (λ (x : WalkCursor). x.position) r.stands
+  position_at : position_of c.position ≡ get_or (positions (shown_in t)) (below (positions (shown_in t)) s) no_position
+  position_at = ap (λ (x : WalkCursor). position_of x.position) r.stands ∙ unwrap_or-slice_get (positions (shown_in t)) (below (positions (shown_in t)) s) no_position
 
   -- it is in the entries that follow if its position is below their end
-  pub next-shown : (w : ℕ) → s + w ≤ no_position → is_shown (positions (shown_in t)) (range s w) ≡ ltb c.position (s + w)
+  pub next-shown : (w : ℕ) → s + w ≤ no_position → is_shown (positions (shown_in t)) (range s w) ≡ ltb (position_of c.position) (s + w)
   next-shown w h = is_shown_lem (positions (shown_in t)) s w no_position r.rises h ∙ ap (λ (p : ℕ). ltb p (s + w)) (sym position_at)
 
   -- where it is not, the walk stands after them as before them
-  pub next_stays : (w : ℕ) → ltb c.position (s + w) ≡ false → c ≡ cursor_before t (s + w) c.node
+  pub next_stays : (w : ℕ) → ltb (position_of c.position) (s + w) ≡ false → c ≡ cursor_before t (s + w) c.node
   next_stays w h =
       let ps : List ℕ = positions (shown_in t) in
-      let q : s + w ≤ get_or ps (below ps s) no_position = omega (arith, ltb-false c.position (s + w) h, position_at) in
+      let q : s + w ≤ get_or ps (below ps s) no_position = omega (arith, ltb-false (position_of c.position) (s + w) h, position_at) in
       r.stands ∙ ap (λ (i : ℕ). cursor_at t i c.node) (sym (below_quiet ps s (s + w) no_position (omega arith) q))
 
 -- ---- a shown entry
@@ -67,20 +68,7 @@ module _ {t : Bytes} {m s : ℕ} {c : WalkCursor} (r : Ready t m s c) where
 pub whole_one : (s : ℕ) → s < 2 ^ level_limit → Whole s 1
 whole_one s h = record { level = 0; number = s; start_is = sym (mul-one s); width_is = refl; small = omega arith }
 
-module _ (m s : ℕ) (b : s < 2 ^ level_limit) where
-  -- it is full where it is the last one of an odd number
-  pub entry-full : s + 1 ≡ m → s % 2 ≡ 0 → is_full m (range s 1) ≡ true
-  entry-full e z = sym (full-taken m s 1 (whole_one s b) (omega arith)) ∙ eq-eqb (s / 1 % 2) 0 (omega arith)
-
-  -- not where it is the last one of an even number
-  pub entry-even : s + 1 ≡ m → (s % 2 ≡ 0 → ⊥) → is_full m (range s 1) ≡ false
-  entry-even e z = sym (full-taken m s 1 (whole_one s b) (omega arith)) ∙ ne_eqb (s / 1 % 2) 0 (λ y. z (omega arith))
-
-  -- nor where it is not the last one
-  pub entry-inner : (s + 1 ≡ m → ⊥) → is_full m (range s 1) ≡ false
-  entry-inner e = sym (full_left m s 1 (whole_one s b) (λ y. e (omega arith)))
-
-module _ (t : Bytes) {m s : ℕ} {c : WalkCursor} (r : Ready t m s c) (b : s < 2 ^ level_limit) (h : c.position < s + 1) where
+module _ (t : Bytes) {m s : ℕ} {c : WalkCursor} (r : Ready t m s c) (b : s < 2 ^ level_limit) (h : position_of c.position < s + 1) where
   passed : (below (positions (shown_in t)) (s + 1) ≡ below (positions (shown_in t)) s + 1) × (below (positions (shown_in t)) s < length (positions (shown_in t)))
   passed = below_one (positions (shown_in t)) s no_position r.rises (omega arith) (omega (arith, h, position_at r))
 
@@ -208,11 +196,11 @@ module _ (vs : List Bytes) (text : Bytes) (ns : List Bytes) {m s w : ℕ} {c : W
   first_step = let e : w ≡ suc (w - 1) = omega (arith, whole_some h) in ap (λ (i : ℕ). walk i m (positions (shown_in text)) (range s w)) e
 
   -- whether something is shown in the block
-  block-shown : is_shown (positions (shown_in text)) (range s w) ≡ ltb c.position (s + w)
+  block-shown : is_shown (positions (shown_in text)) (range s w) ≡ ltb (position_of c.position) (s + w)
   block-shown = next-shown r w (omega (arith, h.small))
 
   -- a retained one
-  pub block-retained : (fs : List LogEntry) (v : Bytes) → SourceFacts (ltb c.position (s + w)) m (range s w) Retained → v ≡ kept_value (known m vs fs) (range s w)
+  pub block-retained : (fs : List LogEntry) (v : Bytes) → SourceFacts (ltb (position_of c.position) (s + w)) m (range s w) Retained → v ≡ kept_value (known m vs fs) (range s w)
       → record { value = v; cursor = c; met = true } ≡ walked_on text (known m vs (shown_in text)) ns c.node (range s w)
   block-retained fs v f e =
       let x : walk w m (positions (shown_in text)) (range s w) ≡ retained (range s w) = first_step ∙ walk_retained (w - 1) m (positions (shown_in text)) (range s w) (block-shown ∙ f.0) f.1 in
@@ -220,17 +208,17 @@ module _ (vs : List Bytes) (text : Bytes) (ns : List Bytes) {m s w : ℕ} {c : W
       ∙ ap (walked_by text (known m vs (shown_in text)) ns (s + w) c.node) (sym x)
 
   -- a given one
-  pub block-given : SourceFacts (ltb c.position (s + w)) m (range s w) Given → node_next ns c ≡ walked_on text (known m vs (shown_in text)) ns c.node (range s w)
+  pub block-given : SourceFacts (ltb (position_of c.position) (s + w)) m (range s w) Given → node_next ns c ≡ walked_on text (known m vs (shown_in text)) ns c.node (range s w)
   block-given f =
       let x : walk w m (positions (shown_in text)) (range s w) ≡ given (range s w) = first_step ∙ walk_given (w - 1) m (positions (shown_in text)) (range s w) (block-shown ∙ f.0) f.1 f.2 in
       walked-given text (known m vs (shown_in text)) ns (s + w) c.node (range s w) c (next_stays r w f.0) ∙ ap (walked_by text (known m vs (shown_in text)) ns (s + w) c.node) (sym x)
 
   -- a shown entry is a block of width 1
-  pub block-entry : SourceFacts (ltb c.position (s + w)) m (range s w) Shown → (s < 2 ^ level_limit) × (c.position < s + 1)
-  block-entry f = (omega (arith, h.small, f.1), omega (arith, ltb-true c.position (s + w) f.0, f.1))
+  pub block-entry : SourceFacts (ltb (position_of c.position) (s + w)) m (range s w) Shown → (s < 2 ^ level_limit) × (position_of c.position < s + 1)
+  block-entry f = (omega (arith, h.small, f.1), omega (arith, ltb-true (position_of c.position) (s + w) f.0, f.1))
 
   -- what a shown entry yields is what the walk over its block does
-  pub block-shown-entry : SourceFacts (ltb c.position (s + w)) m (range s w) Shown
+  pub block-shown-entry : SourceFacts (ltb (position_of c.position) (s + w)) m (range s w) Shown
       → walked_by text (known m vs (shown_in text)) [] (s + 1) c.node (shown s) ≡ walked_on text (known m vs (shown_in text)) ns c.node (range s w)
   unfolding walked_by value kept_values_met
   block-shown-entry f =
@@ -244,7 +232,7 @@ module _ (vs : List Bytes) (text : Bytes) (ns : List Bytes) {m s w : ℕ} {c : W
       (walked-cursor text (known m vs (shown_in text)) ns (s + w / 2) c.node (walk (w / 2) m (positions (shown_in text)) (range s (w / 2))) i e)
 
   -- one that splits, from what its halves yield
-  pub block-parent : (fs : List LogEntry) (i j z : Walked) → SourceFacts (ltb c.position (s + w)) m (range s w) Parent
+  pub block-parent : (fs : List LogEntry) (i j z : Walked) → SourceFacts (ltb (position_of c.position) (s + w)) m (range s w) Parent
       → i ≡ walked_on text (known m vs (shown_in text)) ns c.node (range s (w / 2)) → j ≡ walked_on text (known m vs (shown_in text)) ns i.cursor.node (range (s + w / 2) (w / 2))
       → z ≡ compared_by (known m vs fs) (range s (w / 2 + w / 2)) (parent_by (w / 2) i (w / 2) j)
       → z ≡ walked_on text (known m vs (shown_in text)) ns c.node (range s w)

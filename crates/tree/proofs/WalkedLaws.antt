@@ -9,7 +9,7 @@ use lib.ListN.{get_or}
 use lib.Seq.{get_or-drop, drop-drop}
 use Rattle.lists.specs.Lists.{Bytes, same}
 use Rattle.hash.specs.Sha256.{sha256}
-use Rattle.tree.specs.declared.log_tree.WalkCursor.{WalkCursor}
+use Rattle.tree.specs.declared.walk_cursor.WalkCursor.{WalkCursor}
 use Rattle.tree.specs.declared.log_tree.Walked.{Walked}
 use Rattle.tree.specs.LogTree.{LogEntry, hash_content, log_parent_string, Range, is_full, Walk, retained}
 use Rattle.tree.specs.LogTree.{given, shown, parent, node_count, width_of, Known, zeros, kept_value, value}
@@ -44,11 +44,11 @@ module _ (k : Known) (r : Range) (v : Bytes) where
 -- ---- the functions of the walk
 
 -- a parent, its value made from the marked values of its children and compared
-pub joined_made : (k : Known) (r : Range) (u w : ℕ) (x y : Walked) (a b : ℕ) (v : Bytes) (g s t : Bool) → a ≡ cond (eqb u 1) 0 1 → b ≡ cond (eqb w 1) 0 1
-    → v ≡ sha256 (a ∷ x.value ++ b ∷ y.value) → g ≡ agrees k r v → s ≡ (x.met && y.met) → t ≡ (g && s)
-    → record { value = v; cursor = y.cursor; met = t } ≡ compared_by k r (parent_by u x w y)
+pub joined_made : (k : Known) (r : Range) (u w : ℕ) (x y : Walked) (a b : ℕ) (v : Bytes) (g : Bool) → a ≡ cond (eqb u 1) 0 1 → b ≡ cond (eqb w 1) 0 1
+    → v ≡ sha256 (a ∷ x.value ++ b ∷ y.value) → g ≡ agrees k r v
+    → record { value = v; cursor = y.cursor; met = g && (x.met && y.met) } ≡ compared_by k r (parent_by u x w y)
 unfolding compared_by parent_by log_parent_string hash_content
-joined_made k r u w x y a b v g s t ea eb ev eg es et = rw (et, eg, es, ev, ea, eb) refl
+joined_made k r u w x y a b v g ea eb ev eg = rw (eg, ev, ea, eb) refl
 
 -- which entries are shown does not matter to it
 pub compared_entries : (m : ℕ) (vs : List Bytes) (es fs : List LogEntry) (r : Range) (x : Walked)

@@ -1,15 +1,16 @@
 -- The words in which the private functions of the walk over the log tree say what they ask and
--- yield (src/log_tree.rt): where the walk stands, which step it takes, what it has worked out. No
+-- yield (src/log_tree.rt, src/log_spine.rt, src/walk_cursor.rt): where the walk stands, which step it takes, what it has worked out. No
 -- public contract cites them.
-use Rattle.std.specs.Prelude.{◌≡◌, ◌⊎◌, Bool, true, false, ◌&&◌, ℕ, suc, ◌+◌, ◌-◌, ◌*◌, ◌^◌, ◌≤◌, ◌<◌, ltb, length, get_or, drop}
+use Rattle.std.specs.Prelude.{◌≡◌, ◌⊎◌, Bool, true, false, ◌&&◌, ℕ, suc, ◌+◌, ◌-◌, ◌*◌, ◌^◌, ◌≤◌, ◌<◌, ltb, length, get_or, drop, Option}
+use Rattle.std.specs.Prelude.{slice_get, unwrap_or}
 use mathlib.Core.List.{List, [], ◌∷◌, ◌++◌, flatten}
 use Rattle.lists.specs.Choice.{choose}
 use Rattle.lists.specs.Lists.{Bytes, all, rising}
 use Rattle.tree.specs.declared.log_tree.Source.{Source}
 use Rattle.tree.specs.declared.log_tree.Source.TheVariants.{Retained, Given, Shown, Parent}
-use Rattle.tree.specs.declared.log_tree.Edge.{Edge}
-use Rattle.tree.specs.declared.log_tree.Edge.TheVariants.{Block, Node, Cut}
-use Rattle.tree.specs.declared.log_tree.WalkCursor.{WalkCursor}
+use Rattle.tree.specs.declared.log_spine.Edge.{Edge}
+use Rattle.tree.specs.declared.log_spine.Edge.TheVariants.{Block, Node, Cut}
+use Rattle.tree.specs.declared.walk_cursor.WalkCursor.{WalkCursor}
 use Rattle.tree.specs.declared.log_tree.Walked.{Walked}
 use Rattle.hash.specs.Bytes.{padded}
 use Rattle.hash.specs.Sha256.{digest_length, sha256}
@@ -38,12 +39,16 @@ below (p ∷ ps) s = choose (ltb p s) (λ _. suc (below ps s)) (λ _. 0)
 abbrev pub no_position : ℕ
 no_position = 2 ^ 64 - 1
 
+-- the position of the next shown entry, or what stands for it
+abbrev pub position_of : Option ℕ → ℕ
+position_of p = unwrap_or p no_position
+
 -- so many shown entries of a text and so many nodes are passed
 abbrev pub cursor_at : Bytes → ℕ → ℕ → WalkCursor
 cursor_at text i node =
     record {
       at = get_or (entry_offsets text 0) i (length text);
-      position = get_or (positions (shown_in text)) i no_position;
+      position = slice_get (positions (shown_in text)) i;
       node = node;
     }
 
@@ -56,7 +61,7 @@ abbrev pub cursor_from : Bytes → ℕ → ℕ → WalkCursor
 cursor_from text start node =
     record {
       at = get_or (entry_offsets text start) 0 (length text);
-      position = get_or (positions (shown_in (drop start text))) 0 no_position;
+      position = slice_get (positions (shown_in (drop start text))) 0;
       node = node;
     }
 
@@ -106,12 +111,12 @@ pub record Tail (n start : ℕ) : Type 0 where
   pub within : n < start + 2 ^ level
   pub small : n ≤ 2 ^ level_limit
 
--- the first of them, as many as width, are all; or there are more, which are the next node together
--- with them, or are split off
-abbrev pub EdgeFacts : ℕ → ℕ → ℕ → ℕ → ℕ → Edge → Type 0
-EdgeFacts m n start width position Block = start + width ≡ n
-EdgeFacts m n start width position Node = (start + width < n) × (n ≤ position) × (m ≤ start)
-EdgeFacts m n start width position Cut = (start + width < n) × ((position < n) ⊎ (start < m))
+-- something being shown in them or not, the first of them, as many as width, are all; or there are
+-- more, which are the next node together with them, or are split off
+abbrev pub EdgeFacts : ℕ → ℕ → ℕ → ℕ → Bool → Edge → Type 0
+EdgeFacts m n start width b Block = start + width ≡ n
+EdgeFacts m n start width b Node = (start + width < n) × (b ≡ false) × (m ≤ start)
+EdgeFacts m n start width b Cut = (start + width < n) × ((b ≡ true) ⊎ (start < m))
 
 -- ---- what the walk over a subtree yields
 

@@ -3,7 +3,9 @@
 
 pub mod ladder;
 pub mod log_head;
+mod log_spine;
 pub mod log_text;
 mod log_tree;
 pub mod prefix_tree;
 pub mod search_tree;
+mod walk_cursor;

@@ -5,8 +5,9 @@ ghost use Rattle.tree.specs.LogHead.{block_length, positions, known_in, is_walka
 ghost use Rattle.tree.specs.LogHead.{nodes_asked};
 ghost use Rattle.tree.specs.LogWalk.{rising_below};
 
+use crate::log_spine::{spine, spine_end};
 use crate::log_text::{entry_from, next_line, position_at};
-use crate::log_tree::{WalkCursor, spine, spine_end};
+use crate::walk_cursor::WalkCursor;
 use lines::layout::Layout;
 
 // Its root, and whether the kept values were met.

@@ -1,5 +1,5 @@
 // Log entries and values where they stand in a text (paper 01, Response lines).
-ghost use Rattle.std.specs.Prelude.{◌≡◌, ◌+◌, ◌*◌, ◌≤◌, ◌<◌, length, take, drop, get_or};
+ghost use Rattle.std.specs.Prelude.{◌≡◌, ◌+◌, ◌*◌, ◌/◌, ◌≤◌, ◌<◌, length, take, drop, get_or};
 ghost use Rattle.hash.specs.Sha256.{sha256};
 ghost use Rattle.lines.specs.Line.{before, after, tab};
 ghost use Rattle.lines.specs.Layout.{value_digits};
@@ -11,7 +11,7 @@ use hash::strings::digest_40;
 use lines::hex::read_digest;
 use lines::layout::Layout;
 use lines::line::{line_end, span};
-use lines::number::{Number, read_number};
+use lines::number::read_number;
 
 // The value whose digits stand at an offset, or zeros.
 pub fn value_at(s: &[u8], at: usize) -> [u8; 32]
@@ -23,7 +23,7 @@ pub fn value_at(s: &[u8], at: usize) -> [u8; 32]
     if s.len() - Layout::DIGITS < at {
         return [0u8; 32];
     }
-    read_digest(&s[at..at + Layout::DIGITS]).value
+    read_digest(&s[at..at + Layout::DIGITS]).unwrap_or([0u8; 32])
 }
 
 // The position of the entry whose fields stand at an offset.
@@ -77,26 +77,33 @@ pub(crate) fn entry_from(text: &[u8], start: usize) -> usize
     text.len()
 }
 
+// The value whose digits stand at an offset of line i, where a text is lines of one length; zeros
+// where there are not so many lines.
+fn value_in_line(text: &[u8], line_length: usize, offset: usize, i: usize) -> [u8; 32]
+    requires { offset < line_length }
+    ensures some { i < length text.now / line_length
+        → result ≡ value_in (take value_digits (drop (line_length * i + offset) text.now)) }
+    ensures none { length text.now / line_length ≤ i → result ≡ zeros }
+{
+    if i < text.len() / line_length {
+        value_at(text, line_length * i + offset)
+    } else {
+        [0u8; 32]
+    }
+}
+
 // The value of a node line, or zeros where there are not so many.
 pub(crate) fn node_at(nodes: &[u8], i: usize) -> [u8; 32]
     ensures { result ≡ get_or (nodes_in nodes.now) i zeros }
 {
-    if i < nodes.len() / Layout::NODE_LINE {
-        value_at(nodes, Layout::NODE_LINE * i + Layout::NODE)
-    } else {
-        [0u8; 32]
-    }
+    value_in_line(nodes, Layout::NODE_LINE, Layout::NODE, i)
 }
 
 // A sibling, or zeros where there are not so many.
 pub(crate) fn sibling_at(siblings: &[u8], i: usize) -> [u8; 32]
     ensures { result ≡ get_or (values_in siblings.now) i zeros }
 {
-    if i < siblings.len() / Layout::DIGITS {
-        value_at(siblings, Layout::DIGITS * i)
-    } else {
-        [0u8; 32]
-    }
+    value_in_line(siblings, Layout::DIGITS, 0, i)
 }
 
 // A value of a block of values, as bytes.
@@ -104,11 +111,9 @@ pub(crate) fn stored_at(block: &[u8], i: usize) -> [u8; 32]
     requires { 32 * i + 32 ≤ length block.now }
     ensures { result ≡ take 32 (drop (32 * i) block.now) }
 {
-    let mut r = [0u8; 32];
-    for k in 0..32 {
-        r[k] = block[32 * i + k];
-    }
-    r
+    let mut value = [0u8; 32];
+    value.copy_from_slice(&block[32 * i..32 * i + 32]);
+    value
 }
 
 // The number of 64 bits between an offset and the next tab, or 0.
@@ -119,10 +124,7 @@ fn number_at(text: &[u8], at: usize) -> u64
         return 0;
     }
     let stop = span(text, at, b'\t');
-    match read_number(&text[at..stop], u64::MAX) {
-        Number::Value(n) => n,
-        Number::Unread => 0,
-    }
+    read_number(&text[at..stop], u64::MAX).unwrap_or(0)
 }
 
 // The offset after the next tab, or the end where there is none.

@@ -12,18 +12,15 @@ use lines::layout::Layout;
 // What stands at the place a lookup ends in: the leaf of the output looked up, nothing, or another
 // leaf.
 #[derive(Clone, Copy)]
-pub enum TerminalKind {
-    SearchedLeaf,
+pub enum Terminal {
+    SearchedLeaf {
+        commitment: [u8; 32],
+    },
     Empty,
-    OtherLeaf,
-}
-
-// It, with its output where it is another leaf, and its commitment where it is a leaf.
-#[derive(Clone, Copy)]
-pub struct Terminal {
-    pub kind: TerminalKind,
-    pub output: [u8; 32],
-    pub commitment: [u8; 32],
+    OtherLeaf {
+        output: [u8; 32],
+        commitment: [u8; 32],
+    },
 }
 
 // The first byte of a leaf's string, and of a parent's (001, 10.9).
@@ -46,13 +43,13 @@ fn bit_at(output: [u8; 32], i: usize) -> u8
 fn terminal_value(output: [u8; 32], terminal: Terminal) -> [u8; 32]
     ensures { result ≡ terminal_value output (terminal_of terminal) }
 {
-    let kind = terminal.kind;
-    let other = terminal.output;
-    let commitment = terminal.commitment;
-    match kind {
-        TerminalKind::SearchedLeaf => digest_65(LEAF, output, commitment),
-        TerminalKind::Empty => [0u8; 32],
-        TerminalKind::OtherLeaf => digest_65(LEAF, other, commitment),
+    match terminal {
+        Terminal::SearchedLeaf { commitment } => digest_65(LEAF, output, commitment),
+        Terminal::Empty => [0u8; 32],
+        Terminal::OtherLeaf {
+            output: other,
+            commitment,
+        } => digest_65(LEAF, other, commitment),
     }
 }
 
@@ -71,8 +68,7 @@ fn parent_value(bit: u8, value: [u8; 32], sibling: [u8; 32]) -> [u8; 32]
 fn sibling_count(siblings: &[u8]) -> usize
     ensures { result ≡ min (length (values_in siblings.now)) output_bits }
 {
-    let n = siblings.len() / Layout::DIGITS;
-    if n < OUTPUT_BITS { n } else { OUTPUT_BITS }
+    (siblings.len() / Layout::DIGITS).min(OUTPUT_BITS)
 }
 
 // The root that a lookup leads to (001, 11.2): siblings are the hex digits of the values along the
@@ -80,10 +76,8 @@ fn sibling_count(siblings: &[u8]) -> usize
 pub fn lookup_root(output: [u8; 32], terminal: Terminal, siblings: &[u8]) -> [u8; 32]
     ensures { result ≡ lookup_root output (terminal_of terminal) (values_in siblings.now) }
 {
-    let mut depth: usize = sibling_count(siblings);
     let mut value = terminal_value(output, terminal);
-    while 0 < depth {
-        depth -= 1;
+    for depth in (0..sibling_count(siblings)).rev() {
         let sibling = sibling_at(siblings, depth);
         let parent = parent_value(bit_at(output, depth), value, sibling);
         value = parent;
@@ -96,14 +90,12 @@ fn shared_bits(a: [u8; 32], b: [u8; 32]) -> usize
     ensures { (result ≤ output_bits) × (take result (bits a) ≡ take result (bits b))
         × (result < output_bits → get_or (bits a) result 0 ≡ get_or (bits b) result 0 → ⊥) × (result ≡ output_bits → a ≡ b) }
 {
-    let mut n: usize = 0;
-    while n < OUTPUT_BITS {
+    for n in 0..OUTPUT_BITS {
         if bit_at(a, n) != bit_at(b, n) {
             return n;
         }
-        n += 1;
     }
-    n
+    OUTPUT_BITS
 }
 
 // Whether what stands at the place fits a lookup of so many siblings (001, 11.2): another leaf has
@@ -111,14 +103,12 @@ fn shared_bits(a: [u8; 32], b: [u8; 32]) -> usize
 pub fn terminal_fits(output: [u8; 32], terminal: Terminal, depth: usize) -> bool
     ensures { result ≡ terminal_fits output (terminal_of terminal) depth }
 {
-    let kind = terminal.kind;
-    let other = terminal.output;
-    match kind {
-        TerminalKind::OtherLeaf => {
+    match terminal {
+        Terminal::OtherLeaf { output: other, .. } => {
             let shared = shared_bits(output, other);
             shared < OUTPUT_BITS && depth <= shared
         }
-        TerminalKind::SearchedLeaf => true,
-        TerminalKind::Empty => true,
+        Terminal::SearchedLeaf { .. } => true,
+        Terminal::Empty => true,
     }
 }

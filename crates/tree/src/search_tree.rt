@@ -1,5 +1,5 @@
 // The search tree over the entries of a log: its root, the frontier and the right paths.
-ghost use Rattle.std.specs.Prelude.{◌≡◌, min, ◌+◌, ◌-◌, ◌*◌, ◌/◌, ◌%◌, ◌^◌, ◌<◌, eqb, length};
+ghost use Rattle.std.specs.Prelude.{◌≡◌, ◌+◌, ◌-◌, ◌*◌, ◌/◌, ◌%◌, ◌^◌, ◌<◌, eqb, length};
 ghost use Rattle.lists.specs.Lists.{any, last_or};
 ghost use Rattle.hash.specs.Bytes.{padded};
 ghost use Rattle.tree.specs.SearchTree as Tree;
@@ -82,8 +82,7 @@ fn right_ancestor_from(tree_size: u64, p: u64, x: u64) -> u64
     requires { p < x }
     ensures { result ≡ Tree.next_from tree_size (Tree.right_ancestors tree_size p) x }
 {
-    let end = block_end(parting(p, x), x);
-    if end < tree_size { end } else { tree_size }
+    block_end(parting(p, x), x).min(tree_size)
 }
 
 // The last entry on the right path of p in a log of tree_size entries; p where that is empty. It is
@@ -120,10 +119,8 @@ pub fn next_asked(tree_size: u64, positions: &[u64], x: u64) -> u64
         (Tree.frontier_and_paths tree_size positions.now) x }
 {
     let mut next = next_on_frontier(tree_size, x);
-    let mut i = positions.len();
-    while 0 < i {
-        i -= 1;
-        next = smaller(next_right_ancestor(tree_size, positions[i], x), next);
+    for position in positions {
+        next = next.min(next_right_ancestor(tree_size, *position, x));
     }
     next
 }
@@ -143,11 +140,4 @@ fn block_end(k: u32, p: u64) -> u64
     ensures { result ≡ p / 2 ^ k * 2 ^ k + (2 ^ k - 1) }
 {
     p | ((1u64 << k) - 1)
-}
-
-// The smaller of two numbers.
-fn smaller(a: u64, b: u64) -> u64
-    ensures { result ≡ min a b }
-{
-    if a < b { a } else { b }
 }

@@ -1,22 +1,19 @@
 // Heads of a log: roots, values of full subtrees, numbers of nodes.
-use crate::line::{answer, end, number, value, word};
 use lines::hex::read_digest;
+use output_lines::{bytes, end, numbers, whether, word};
 use tree::log_head::{log_head, nodes_asked};
 
 // The state's block with two values.
 fn block(first: [u8; 32], second: [u8; 32]) -> [u8; 1280] {
     let mut b = [0u8; 1280];
-    for i in 0..32 {
-        b[i] = first[i];
-        b[32 + i] = second[i];
-    }
+    b[..32].copy_from_slice(&first);
+    b[32..64].copy_from_slice(&second);
     b
 }
 
-fn first_three(rt: &impl Print, values: &[u8]) {
-    if 96 <= values.len() {
-        value(rt, &values[0..96]);
-    }
+// The first three values of a block.
+fn first_three(rt: &impl Print, values: &[u8; 1280]) {
+    bytes(rt, &values[..96]);
 }
 
 // Of a log of 14 entries: a name, a root, whether the kept values were met, and the first three
@@ -33,8 +30,8 @@ fn head(
     let h = log_head(entries, nodes, 14, kept_size, &kept, &mut values);
     word(rt, name);
     let root = h.root;
-    value(rt, &root);
-    answer(rt, h.met);
+    bytes(rt, &root);
+    whether(rt, h.met);
     first_three(rt, &values);
     end(rt);
 }
@@ -49,12 +46,12 @@ pub(crate) fn of_fourteen(rt: &impl Print) {
         b"node\t29b717f5437b753571ce9f206c7ae2f4f73a34b685c7da8981824911cabe8781\nnode\tb7ecbc58b2033e8717dc5bded58c2e7df9b495ff0e82e028be7b9dece3800135\nnode\t067f40441040e44f1c27345eca388f650983ea9a32769a8391b90faec3766ad8\nnode\t2c7288d9c39edb3021e568b94deacf6b2dc252091d0a5c58e9b84130f215c30c\nnode\te73428a1f05267e37756fe3ee66e414253776ef5c6f15cc899dff77d2c8fe6cf\nnode\t38cf9372acc88cb21451f4473b190fc947af4797a956f2f95b5cd1db55fbd32b\n";
     let nodes =
         b"node\t29b717f5437b753571ce9f206c7ae2f4f73a34b685c7da8981824911cabe8781\nnode\tb7ecbc58b2033e8717dc5bded58c2e7df9b495ff0e82e028be7b9dece3800135\nnode\t067f40441040e44f1c27345eca388f650983ea9a32769a8391b90faec3766ad8\nnode\te73428a1f05267e37756fe3ee66e414253776ef5c6f15cc899dff77d2c8fe6cf\nnode\t38cf9372acc88cb21451f4473b190fc947af4797a956f2f95b5cd1db55fbd32b\n";
-    let first = read_digest(
-        b"b4feeb63ac6643dd035e468bab6ec2096462253d325d61568f5c3f9f2fe220e6",
-    ).value;
-    let second = read_digest(
-        b"2c7288d9c39edb3021e568b94deacf6b2dc252091d0a5c58e9b84130f215c30c",
-    ).value;
+    let (Some(first), Some(second)) = (
+        read_digest(b"b4feeb63ac6643dd035e468bab6ec2096462253d325d61568f5c3f9f2fe220e6"),
+        read_digest(b"2c7288d9c39edb3021e568b94deacf6b2dc252091d0a5c58e9b84130f215c30c"),
+    ) else {
+        return;
+    };
     head(rt, b"head-14-from-0", entries, all_nodes, 0, [0u8; 1280]);
     head(
         rt,
@@ -85,9 +82,8 @@ pub(crate) fn of_fourteen(rt: &impl Print) {
 // A size, a size kept, and the number of nodes.
 fn asked(rt: &impl Print, text: &[u8], tree_size: u64, kept_size: u64) {
     word(rt, b"nodes");
-    number(rt, tree_size);
-    number(rt, kept_size);
-    number(rt, nodes_asked(text, tree_size, kept_size));
+    let nodes = nodes_asked(text, tree_size, kept_size);
+    numbers(rt, &[tree_size, kept_size, nodes]);
     end(rt);
 }
 

@@ -1,8 +1,8 @@
 // Lookups in a prefix tree of three outputs: one begins with the bits 00, one with 01, one with 10,
 // and nothing stands at 11.
-use crate::line::{answer, end, value, word};
 use hash::sha256::digest;
-use tree::prefix_tree::{Terminal, TerminalKind, lookup_root, terminal_fits};
+use output_lines::{end, show, whether, word};
+use tree::prefix_tree::{Terminal, lookup_root, terminal_fits};
 
 // An output by its first byte.
 fn output(first: u8) -> [u8; 32] {
@@ -13,41 +13,22 @@ fn output(first: u8) -> [u8; 32] {
 }
 
 fn leaf(output: [u8; 32], commitment: [u8; 32]) -> Terminal {
-    Terminal {
-        kind: TerminalKind::OtherLeaf,
-        output,
-        commitment,
-    }
+    Terminal::OtherLeaf { output, commitment }
 }
 
 fn searched_leaf(commitment: [u8; 32]) -> Terminal {
-    Terminal {
-        kind: TerminalKind::SearchedLeaf,
-        output: [0u8; 32],
-        commitment,
-    }
-}
-
-fn empty() -> Terminal {
-    Terminal {
-        kind: TerminalKind::Empty,
-        output: [0u8; 32],
-        commitment: [0u8; 32],
-    }
+    Terminal::SearchedLeaf { commitment }
 }
 
 // A name, and the root that a lookup leads to.
 fn leads(rt: &impl Print, name: &[u8], output: [u8; 32], terminal: Terminal, siblings: &[u8]) {
-    word(rt, name);
-    let root = lookup_root(output, terminal, siblings);
-    value(rt, &root);
-    end(rt);
+    show(rt, name, &lookup_root(output, terminal, siblings));
 }
 
 // A name, and whether what stands at the place fits a lookup of so many siblings.
 fn fits(rt: &impl Print, name: &[u8], output: [u8; 32], terminal: Terminal, depth: usize) {
     word(rt, name);
-    answer(rt, terminal_fits(output, terminal, depth));
+    whether(rt, terminal_fits(output, terminal, depth));
     end(rt);
 }
 
@@ -73,7 +54,7 @@ pub(crate) fn in_one_tree(rt: &impl Print) {
         searched_leaf(digest(b"commitment 1")),
         right_and_second,
     );
-    leads(rt, b"no", output(0xc0), empty(), left_and_third);
+    leads(rt, b"no", output(0xc0), Terminal::Empty, left_and_third);
     leads(
         rt,
         b"nl",
@@ -121,7 +102,7 @@ pub(crate) fn depths(rt: &impl Print) {
         searched_leaf(digest(b"commitment 0")),
         b"",
     );
-    leads(rt, b"no-depth-0", output(0x00), empty(), b"-");
+    leads(rt, b"no-depth-0", output(0x00), Terminal::Empty, b"-");
     leads(
         rt,
         b"in-depth-255",

@@ -3,7 +3,6 @@
 #![tactic(auto)]
 
 mod heads;
-mod line;
 mod lookups;
 mod positions;
 

@@ -1,28 +1,19 @@
 // Ladders, roots, frontiers and right paths.
-use crate::line::{end, number, numbers, word};
+use output_lines::{end, number, numbers, word};
 use tree::ladder::Ladder;
 use tree::search_tree::{Frontier, next_asked, next_right_ancestor, root};
 
-fn wide(x: u32) -> u64 {
-    x as u64
-}
-
-fn widened(v: &[u32; 64]) -> [u64; 64] {
-    let mut w = [0u64; 64];
-    for i in 0..64 {
-        w[i] = wide(v[i]);
-    }
-    w
-}
+// The most entries that a right path or a frontier is written with.
+const ENTRIES: usize = 64;
 
 // A version, the length of its ladder, and the ladder.
 fn ladder(rt: &impl Print, version: u32) {
-    word(rt, b"ladder");
-    number(rt, version as u64);
     let l = Ladder::of(version);
-    let versions = l.versions;
-    let widened = widened(&versions);
-    numbers(rt, &widened, l.length);
+    word(rt, b"ladder");
+    numbers(rt, &[u64::from(version), l.length as u64]);
+    for v in l.versions.iter().take(l.length) {
+        number(rt, u64::from(*v));
+    }
     end(rt);
 }
 
@@ -38,8 +29,7 @@ pub(crate) fn ladders(rt: &impl Print) {
 
 fn root_of(rt: &impl Print, n: u64) {
     word(rt, b"root");
-    number(rt, n);
-    number(rt, root(n));
+    numbers(rt, &[n, root(n)]);
     end(rt);
 }
 
@@ -53,11 +43,12 @@ pub(crate) fn roots(rt: &impl Print) {
 
 // A size, the length of its frontier, and the frontier.
 fn frontier(rt: &impl Print, n: u64) {
-    word(rt, b"frontier");
-    number(rt, n);
     let f = Frontier::of(n);
-    let positions = f.positions;
-    numbers(rt, &positions, f.length);
+    word(rt, b"frontier");
+    numbers(rt, &[n, f.length as u64]);
+    for p in f.positions.iter().take(f.length) {
+        number(rt, *p);
+    }
     end(rt);
 }
 
@@ -73,21 +64,26 @@ pub(crate) fn frontiers(rt: &impl Print) {
     frontier(rt, u64::MAX);
 }
 
+// Entries of a log of a size, each the next from one on, and the end of the line.
+fn entries<F: Fn(u64) -> u64>(rt: &impl Print, n: u64, next_from: F)
+    requires { F.IsAlwaysCallable next_from }
+{
+    let mut next = next_from(0);
+    for _ in 0..ENTRIES {
+        if n <= next {
+            break;
+        }
+        number(rt, next);
+        next = next_from(next + 1);
+    }
+    end(rt);
+}
+
 // A size, an entry, and its right path.
 fn right_path(rt: &impl Print, n: u64, p: u64) {
     word(rt, b"right-path");
-    number(rt, n);
-    number(rt, p);
-    let mut next = next_right_ancestor(n, p, 0);
-    let mut turns: usize = 0;
-    while turns < 64 {
-        if next < n {
-            number(rt, next);
-            next = next_right_ancestor(n, p, next + 1);
-        }
-        turns += 1;
-    }
-    end(rt);
+    numbers(rt, &[n, p]);
+    entries(rt, n, |x| next_right_ancestor(n, p, x));
 }
 
 // Those of paper 01, and of an entry that is not in the log.
@@ -100,19 +96,10 @@ pub(crate) fn right_paths(rt: &impl Print) {
 }
 
 // A size, entries, and their right paths together with the frontier.
-fn asked_for(rt: &impl Print, n: u64, entries: &[u64]) {
+fn asked_for(rt: &impl Print, n: u64, asked: &[u64]) {
     word(rt, b"asked");
     number(rt, n);
-    let mut next = next_asked(n, entries, 0);
-    let mut turns: usize = 0;
-    while turns < 64 {
-        if next < n {
-            number(rt, next);
-            next = next_asked(n, entries, next + 1);
-        }
-        turns += 1;
-    }
-    end(rt);
+    entries(rt, n, |x| next_asked(n, asked, x));
 }
 
 pub(crate) fn asked(rt: &impl Print) {

@@ -1,25 +1,24 @@
 // HMAC-SHA-256: the test cases of RFC 4231, 4.2 to 4.8, each whole and in two parts.
-use crate::line::show;
+ghost use Rattle.std.specs.Prelude.{◌≤◌};
+
 use hash::hmac::{finish, mac, start};
+use output_lines::show;
 
 // The first `length` bytes of a code.
-fn shown(rt: &impl Print, name: &[u8], key: &[u8], text: &[u8], length: usize) {
-    let middle = text.len() / 2;
+fn show_code(rt: &impl Print, name: &[u8], key: &[u8], text: &[u8], length: usize)
+    requires { length ≤ 32 }
+{
     let whole = mac(key, text);
-    let parts = finish(
-        key,
-        start(key).update(&text[0..middle]).update(&text[middle..]),
-    );
-    if length <= 32 {
-        show(rt, name, &whole[0..length]);
-        show(rt, name, &parts[0..length]);
-    }
+    let (front, rest) = text.split_at(text.len() / 2);
+    let parts = finish(key, start(key).update(front).update(rest));
+    show(rt, name, &whole[..length]);
+    show(rt, name, &parts[..length]);
 }
 
 pub(crate) fn short_keys(rt: &impl Print) {
     let key1 = [0x0bu8; 20];
-    shown(rt, b"hmac-case-1", &key1, b"Hi There", 32);
-    shown(
+    show_code(rt, b"hmac-case-1", &key1, b"Hi There", 32);
+    show_code(
         rt,
         b"hmac-case-2",
         b"Jefe",
@@ -28,9 +27,9 @@ pub(crate) fn short_keys(rt: &impl Print) {
     );
     let key3 = [0xaau8; 20];
     let text3 = [0xddu8; 50];
-    shown(rt, b"hmac-case-3", &key3, &text3, 32);
+    show_code(rt, b"hmac-case-3", &key3, &text3, 32);
     let text4 = [0xcdu8; 50];
-    shown(
+    show_code(
         rt,
         b"hmac-case-4",
         b"\x01\x02\x03\x04\x05\x06\x07\x08\x09\x0a\x0b\x0c\x0d\x0e\x0f\x10\x11\x12\x13\x14\x15\x16\x17\x18\x19",
@@ -38,19 +37,19 @@ pub(crate) fn short_keys(rt: &impl Print) {
         32,
     );
     let key5 = [0x0cu8; 20];
-    shown(rt, b"hmac-case-5", &key5, b"Test With Truncation", 16);
+    show_code(rt, b"hmac-case-5", &key5, b"Test With Truncation", 16);
 }
 
 pub(crate) fn long_keys(rt: &impl Print) {
     let key = [0xaau8; 131];
-    shown(
+    show_code(
         rt,
         b"hmac-case-6",
         &key,
         b"Test Using Larger Than Block-Size Key - Hash Key First",
         32,
     );
-    shown(
+    show_code(
         rt,
         b"hmac-case-7",
         &key,

@@ -5,7 +5,6 @@
 
 mod codes;
 mod digests;
-mod line;
 mod strings;
 
 fn main(rt: HostRuntime) {

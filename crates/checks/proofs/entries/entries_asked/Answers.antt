@@ -1,14 +1,7 @@
 -- `checks::entries::entries_asked` meets its contract: the entries passed so far are as asked,
 -- their times were told, and the versions of monitoring are those of the pairs marked.
-use mathlib.Core.Path.{◌≡◌, refl, sym, ◌∙◌}
-use Prim.Native.Nat.{◌<◌}
+use mathlib.Core.Path.{refl, sym, ◌∙◌}
 use native.Mathlib.Omega.{arith}
-use mathlib.Core.List.{[]}
-use lib.ListN.{drop}
-use Rattle.inputs.specs.Response.{entries_in}
-use Rattle.checks.specs.declared.sections.NextEntry.TheVariants.{Entry as EntryAt}
-use Rattle.checks.specs.Sections.{IsNextEntry}
-use Rattle.checks.proofs.EntryLaws.{entry_found, entry_missing}
 use Rattle.checks.proofs.EntriesAskedLaws.{followed-start, followed-end, followed-less}
 use Rattle.checks.proofs.EntriesAskedLaws.{followed-missing, followed-elsewhere, followed-unasked}
 use Rattle.checks.proofs.EntriesAskedLaws.{followed-next}
@@ -34,25 +27,23 @@ next_entry-requires c = let f = c.loop-kind.invariant.1 in record { lines = f.li
 
 pub returns-in_default : goal.returns-in_default
 returns-in_default c =
-    let e : entries_in (drop c.loop-kind.at c.args.entries.now) ≡ [] =
-    entry_missing c.args.entries.now c.loop-kind.at _ c.in_default.is c.next_entry.ensures in
     let it = followed-missing _ _ _ _ _ _ _ _ _ _ _ _ c.loop-kind.invariant.1 _ c.next_asked-position.ensures
-    (omega (arith, c.if-tree_size-position.false)) e _ c.not_asked.ensures in
+    (omega (arith, c.if-tree_size-position.false)) c.in_default.ensures _ c.not_asked.ensures in
     record { asked = it.0; timestamps = it.1.0; marks = it.1.1 }
 
 pub overflow_add-at : goal.overflow_add-at
-overflow_add-at c = let n = (let found0 : (IsNextEntry c.args.entries.now c.loop-kind.at (EntryAt c.in-Entry.first)) = entry_found _ _ _ _ c.in-Entry.is c.next_entry.ensures in found0) in omega (arith, n.4, n.5)
+overflow_add-at c = let n = c.in-Some.ensures in omega (arith, n.4, n.5)
 
 pub returns-then-position_at-position : goal.returns-then-position_at-position
 returns-then-position_at-position c =
     let p = c.position_at in
-    let it = followed-elsewhere _ _ _ _ _ _ _ _ _ _ _ _ c.loop-kind.invariant.1 _ c.next_asked-position.ensures (let below0 : (c.next_asked-position.result < c.args.tree_size) = omega (arith, c.if-tree_size-position.false) in below0)
-    _ (let found0 : (IsNextEntry c.args.entries.now c.loop-kind.at (EntryAt c.in-Entry.first)) = entry_found _ _ _ _ c.in-Entry.is c.next_entry.ensures in found0) _ p.ensures c.if-position_at-position.true _ c.not_asked-then-position_at-position.ensures in
+    let it = followed-elsewhere _ _ _ _ _ _ _ _ _ _ _ _ c.loop-kind.invariant.1 _ c.next_asked-position.ensures (omega (arith, c.if-tree_size-position.false))
+    _ c.in-Some.ensures _ p.ensures c.if-position_at-position.true _ c.not_asked-then-position_at-position.ensures in
     record { asked = it.0; timestamps = it.1.0; marks = it.1.1 }
 
 pub entry_asked-entry-requires : goal.entry_asked-entry-requires
 entry_asked-entry-requires c =
-    let n = (let found0 : (IsNextEntry c.args.entries.now c.loop-kind.at (EntryAt c.in-Entry.first)) = entry_found _ _ _ _ c.in-Entry.is c.next_entry.ensures in found0) in
+    let n = c.in-Some.ensures in
     record { lines = n.3; within = n.5; pairs = c.requires.pairs.0; marks = c.loop-kind.invariant.1.marks.alike }
 
 pub returns-then-not-entry : goal.returns-then-not-entry
@@ -61,21 +52,21 @@ returns-then-not-entry c =
     let asked = c.entry_asked-entry.ensures.asked in
     let after = c.entry_asked-entry.ensures.next in
     let marks = c.entry_asked-entry.ensures.marks in
-    let it = followed-unasked _ _ _ _ _ _ _ _ _ _ _ _ c.loop-kind.invariant.1 _ c.next_asked-position.ensures (let below0 : (c.next_asked-position.result < c.args.tree_size) = omega (arith, c.if-tree_size-position.false) in below0)
-    _ (let found0 : (IsNextEntry c.args.entries.now c.loop-kind.at (EntryAt c.in-Entry.first)) = entry_found _ _ _ _ c.in-Entry.is c.next_entry.ensures in found0) _ p.ensures c.if-position_at-position.false _ asked _ marks
+    let it = followed-unasked _ _ _ _ _ _ _ _ _ _ _ _ c.loop-kind.invariant.1 _ c.next_asked-position.ensures (omega (arith, c.if-tree_size-position.false))
+    _ c.in-Some.ensures _ p.ensures c.if-position_at-position.false _ asked _ marks
     (not-true _ c.if-not-entry.true) _ c.not_asked-then-not-entry.ensures in
     record { asked = it.0; timestamps = it.1.0; marks = it.1.1 }
 
 pub overflow_add-at-in-loop-kind : goal.overflow_add-at-in-loop-kind
 overflow_add-at-in-loop-kind c =
-    let n = (let found0 : (IsNextEntry c.args.entries.now c.loop-kind.at (EntryAt c.in-Entry.first)) = entry_found _ _ _ _ c.in-Entry.is c.next_entry.ensures in found0) in
+    let n = c.in-Some.ensures in
     omega (arith, n.4, n.5)
 
 pub overflow_add-from : goal.overflow_add-from
-overflow_add-from c = omega (arith, (let below0 : (c.next_asked-position.result < c.args.tree_size) = omega (arith, c.if-tree_size-position.false) in below0), c.requires.many)
+overflow_add-from c = omega (arith, c.if-tree_size-position.false, c.requires.many)
 
 pub loop-kind-smaller : goal.loop-kind-smaller
-loop-kind-smaller c = followed-less _ _ _ _ _ _ _ _ _ _ _ _ c.loop-kind.invariant.1 _ c.next_asked-position.ensures (let below0 : (c.next_asked-position.result < c.args.tree_size) = omega (arith, c.if-tree_size-position.false) in below0)
+loop-kind-smaller c = followed-less _ _ _ _ _ _ _ _ _ _ _ _ c.loop-kind.invariant.1 _ c.next_asked-position.ensures (omega (arith, c.if-tree_size-position.false))
 
 pub loop-kind-preserved : goal.loop-kind-preserved
 loop-kind-preserved c =
@@ -85,7 +76,7 @@ loop-kind-preserved c =
     let after = c.entry_asked-entry.ensures.next in
     let marks = c.entry_asked-entry.ensures.marks in
     let next =
-    followed-next _ _ _ _ _ _ _ _ _ _ _ _ f _ c.next_asked-position.ensures (let below0 : (c.next_asked-position.result < c.args.tree_size) = omega (arith, c.if-tree_size-position.false) in below0)
-    _ (let found0 : (IsNextEntry c.args.entries.now c.loop-kind.at (EntryAt c.in-Entry.first)) = entry_found _ _ _ _ c.in-Entry.is c.next_entry.ensures in found0) _ p.ensures c.if-position_at-position.false _ asked _ marks _ c.timestamp_at-timestamp.ensures
+    followed-next _ _ _ _ _ _ _ _ _ _ _ _ f _ c.next_asked-position.ensures (omega (arith, c.if-tree_size-position.false))
+    _ c.in-Some.ensures _ p.ensures c.if-position_at-position.false _ asked _ marks _ c.timestamp_at-timestamp.ensures
     (not-false _ c.if-not-entry.false) _ after _ c.next-timestamps.ensures in
     (next.marks.alike ∙ sym f.marks.alike ∙ same, next)

@@ -1,9 +1,6 @@
 -- `checks::lookups::entries_judged` meets its contract: the entries before the offset are judged.
-use mathlib.Core.Path.{refl, subst}
+use mathlib.Core.Path.{refl}
 use native.Mathlib.Omega.{arith}
-use Rattle.checks.specs.declared.sections.NextEntry.{NextEntry}
-use Rattle.checks.specs.declared.sections.NextEntry.TheVariants.{Entry as EntryAt}
-use Rattle.checks.specs.Sections.{IsNextEntry}
 use Rattle.checks.proofs.ResultsLaws.{judged-none, judged-next, judged-all}
 use Rattle.checks.proofs.lookups.entries_judged.Goals as goal
 
@@ -17,24 +14,20 @@ next_entry-requires c = record { lines = c.loop-first.invariant.lines; loose = c
 
 pub overflow_add-at : goal.overflow_add-at
 overflow_add-at c =
-    let h = (let here0 : (IsNextEntry c.args.entries.now c.loop-first.at (EntryAt c.in-Entry.first)) = subst (λ (n : NextEntry). IsNextEntry c.args.entries.now c.loop-first.at n)
-    c.in-Entry.is c.next_entry.ensures in here0) in omega (arith, h.4, h.5)
+    let h = c.in-Some.ensures in omega (arith, h.4, h.5)
 
-pub overflow_add-at-in-Entry : goal.overflow_add-at-in-Entry
-overflow_add-at-in-Entry c =
-    let h = (let here0 : (IsNextEntry c.args.entries.now c.loop-first.at (EntryAt c.in-Entry.first)) = subst (λ (n : NextEntry). IsNextEntry c.args.entries.now c.loop-first.at n)
-    c.in-Entry.is c.next_entry.ensures in here0) in omega (arith, h.4, h.5)
+pub overflow_add-at-in-Some : goal.overflow_add-at-in-Some
+overflow_add-at-in-Some c =
+    let h = c.in-Some.ensures in omega (arith, h.4, h.5)
 
 pub lookups_judged-summed-requires : goal.lookups_judged-summed-requires
 lookups_judged-summed-requires c =
-    let h = (let here0 : (IsNextEntry c.args.entries.now c.loop-first.at (EntryAt c.in-Entry.first)) = subst (λ (n : NextEntry). IsNextEntry c.args.entries.now c.loop-first.at n)
-    c.in-Entry.is c.next_entry.ensures in here0) in
+    let h = c.in-Some.ensures in
     record { lines = h.3; within = h.5; short = c.requires.short; outputs = c.requires.outputs; room = c.requires.room }
 
 pub loop-first-smaller : goal.loop-first-smaller
 loop-first-smaller c =
-    let h = (let here0 : (IsNextEntry c.args.entries.now c.loop-first.at (EntryAt c.in-Entry.first)) = subst (λ (n : NextEntry). IsNextEntry c.args.entries.now c.loop-first.at n)
-    c.in-Entry.is c.next_entry.ensures in here0) in
+    let h = c.in-Some.ensures in
     let after = c.lookups_judged-summed.ensures.next in
     omega (arith, h.4, after.forward, after.within)
 
@@ -42,13 +35,10 @@ pub loop-first-preserved : goal.loop-first-preserved
 loop-first-preserved c =
     let summary = c.lookups_judged-summed.ensures.summary in
     let after = c.lookups_judged-summed.ensures.next in
-    judged-next _ _ _ _ _ _ _ _ c.loop-first.invariant _ _ _ _ _ _ _ (let here0 : (IsNextEntry c.args.entries.now c.loop-first.at (EntryAt c.in-Entry.first)) = subst (λ (n : NextEntry). IsNextEntry c.args.entries.now c.loop-first.at n)
-    c.in-Entry.is c.next_entry.ensures in here0)
+    judged-next _ _ _ _ _ _ _ _ c.loop-first.invariant _ _ _ _ _ _ _ c.in-Some.ensures
     c.prefix_root_at-root.ensures
     c.position_at-position.ensures refl summary after c.next-results.ensures
 
-pub returns-in-Unread : goal.returns-in-Unread
-returns-in-Unread c =
-    judged-all _ _ _ _ _ _ _ _ c.loop-first.invariant
-    (subst (λ (r : NextEntry). IsNextEntry c.args.entries.now c.loop-first.at r)
-    c.in-Unread.is c.next_entry.ensures)
+pub returns-in-None : goal.returns-in-None
+returns-in-None c =
+    judged-all _ _ _ _ _ _ _ _ c.loop-first.invariant c.in-None.ensures

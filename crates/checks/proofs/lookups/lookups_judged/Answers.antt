@@ -1,10 +1,6 @@
 -- `checks::lookups::lookups_judged` meets its contract: the lookups before the offset are summed
 -- up.
-use mathlib.Core.Path.{subst}
 use native.Mathlib.Omega.{arith}
-use Rattle.checks.specs.declared.sections.NextLookup.{NextLookup}
-use Rattle.checks.specs.declared.sections.NextLookup.TheVariants.{Lookup as LookupAt}
-use Rattle.checks.specs.Sections.{IsNextLookup}
 use Rattle.checks.proofs.SummaryLaws.{beginning_root, summed-start, summed-next}
 use Rattle.checks.proofs.SummaryLaws.{summed-all}
 use Rattle.checks.proofs.lookups.lookups_judged.Goals as goal
@@ -19,18 +15,15 @@ next_lookup-requires c = record { lines = c.loop-stop.invariant.lines; within = 
 
 pub slice_bounds-next-count : goal.slice_bounds-next-count
 slice_bounds-next-count c =
-    (let here0 : (IsNextLookup c.args.entries.now c.loop-stop.at (LookupAt c.in-Lookup.stop c.in-Lookup.next)) = subst (λ (n : NextLookup). IsNextLookup c.args.entries.now c.loop-stop.at n)
-    c.in-Lookup.is c.next_lookup.ensures in here0).5
+    c.in-Some.ensures.5
 
 pub slice_bounds-next-start : goal.slice_bounds-next-start
 slice_bounds-next-start c =
-    (let here0 : (IsNextLookup c.args.entries.now c.loop-stop.at (LookupAt c.in-Lookup.stop c.in-Lookup.next)) = subst (λ (n : NextLookup). IsNextLookup c.args.entries.now c.loop-stop.at n)
-    c.in-Lookup.is c.next_lookup.ensures in here0).5
+    c.in-Some.ensures.5
 
 pub slice_bounds-next-end : goal.slice_bounds-next-end
 slice_bounds-next-end c =
-    let h = (let here0 : (IsNextLookup c.args.entries.now c.loop-stop.at (LookupAt c.in-Lookup.stop c.in-Lookup.next)) = subst (λ (n : NextLookup). IsNextLookup c.args.entries.now c.loop-stop.at n)
-    c.in-Lookup.is c.next_lookup.ensures in here0) in omega (arith, h.5, h.6, h.7)
+    let h = c.in-Some.ensures in omega (arith, h.5, h.6, h.7)
 
 pub next-summary-requires : goal.next-summary-requires
 next-summary-requires c =
@@ -41,18 +34,13 @@ next-summary-requires c =
 
 pub loop-stop-smaller : goal.loop-stop-smaller
 loop-stop-smaller c =
-    let h = (let here0 : (IsNextLookup c.args.entries.now c.loop-stop.at (LookupAt c.in-Lookup.stop c.in-Lookup.next)) = subst (λ (n : NextLookup). IsNextLookup c.args.entries.now c.loop-stop.at n)
-    c.in-Lookup.is c.next_lookup.ensures in here0) in omega (arith, h.5, h.6, h.7)
+    let h = c.in-Some.ensures in omega (arith, h.5, h.6, h.7)
 
 pub loop-stop-preserved : goal.loop-stop-preserved
 loop-stop-preserved c =
-    summed-next _ _ _ _ _ _ _ _ _ _ c.loop-stop.invariant _ _ _ (let here0 : (IsNextLookup c.args.entries.now c.loop-stop.at (LookupAt c.in-Lookup.stop c.in-Lookup.next)) = subst (λ (n : NextLookup). IsNextLookup c.args.entries.now c.loop-stop.at n)
-    c.in-Lookup.is c.next_lookup.ensures in here0) c.next-summary.ensures
+    summed-next _ _ _ _ _ _ _ _ _ _ c.loop-stop.invariant _ _ _ c.in-Some.ensures c.next-summary.ensures
 
-pub returns-in-Unread : goal.returns-in-Unread
-returns-in-Unread c =
-    let none =
-    subst (λ (r : NextLookup). IsNextLookup c.args.entries.now c.loop-stop.at r)
-    c.in-Unread.is c.next_lookup.ensures in
-    let it = summed-all _ _ _ _ _ _ _ _ _ _ c.loop-stop.invariant _ (beginning_root _ _ c.start-summary.ensures) none in
+pub returns-in-None : goal.returns-in-None
+returns-in-None c =
+    let it = summed-all _ _ _ _ _ _ _ _ _ _ c.loop-stop.invariant _ (beginning_root _ _ c.start-summary.ensures) c.in-None.ensures in
     record { summary = it.0; next = it.1 }

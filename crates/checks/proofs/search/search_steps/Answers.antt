@@ -1,9 +1,6 @@
 -- `checks::search::search_steps` meets its contract: the steps read so far are as asked, and their
 -- commitments are placed.
-use mathlib.Core.Path.{subst}
 use native.Mathlib.Omega.{arith}
-use Rattle.checks.specs.declared.sections.NextStep.TheVariants.{Step as StepAt}
-use Rattle.checks.specs.Sections.{IsNextStep}
 use Rattle.checks.proofs.SearchStepLaws.{ladder_start, ladder-short, ladder-other}
 use Rattle.checks.proofs.SearchStepLaws.{ladder-next, ladder-end}
 use Rattle.checks.proofs.search.search_steps.Goals as goal
@@ -16,15 +13,12 @@ next_step-requires c = let l = c.loop-i in record { lines = l.invariant.2.lines;
 
 pub returns-in_default : goal.returns-in_default
 returns-in_default c =
-    let n = c.next_step in
-    let e = subst (IsNextStep c.args.steps.now c.loop-i.at) c.in_default.is n.ensures in
-    let it = ladder-short _ c.args.wanted.now c.loop-i.i c.loop-i.invariant.2 (omega arith) e in
+    let it = ladder-short _ c.args.wanted.now c.loop-i.i c.loop-i.invariant.2 (omega arith) c.in_default.ensures in
     record { asked = it.0; there = it.1.0; offsets = it.1.1 }
 
-pub returns-then-shown-wanted : goal.returns-then-shown-wanted
-returns-then-shown-wanted c =
-    let it = ladder-other _ c.args.wanted.now c.loop-i.i c.loop-i.invariant.2 (let told0 : (IsNextStep c.args.steps.now c.loop-i.at (StepAt c.in-Step.shown c.in-Step.committed c.in-Step.commitment c.in-Step.next)) = subst (IsNextStep c.args.steps.now c.loop-i.at) c.in-Step.is
-    c.next_step.ensures in told0) (omega arith) c.if-shown-wanted.true in
+pub returns-then-step-wanted : goal.returns-then-step-wanted
+returns-then-step-wanted c =
+    let it = ladder-other _ c.args.wanted.now c.loop-i.i c.loop-i.invariant.2 c.in-Some.ensures (omega arith) c.if-step-wanted.true in
     record { asked = it.0; there = it.1.0; offsets = it.1.1 }
 
 pub note_commitment-there-requires : goal.note_commitment-there-requires
@@ -32,8 +26,7 @@ note_commitment-there-requires c =
     record {
       offset = omega (
         arith,
-        (let told0 : (IsNextStep c.args.steps.now c.loop-i.at (StepAt c.in-Step.shown c.in-Step.committed c.in-Step.commitment c.in-Step.next)) = subst (IsNextStep c.args.steps.now c.loop-i.at) c.in-Step.is
-            c.next_step.ensures in told0).8,
+        c.in-Some.ensures.8,
         c.requires.short,
       );
       outputs = c.requires.outputs;
@@ -43,11 +36,9 @@ note_commitment-there-requires c =
 pub loop-i-preserved : goal.loop-i-preserved
 loop-i-preserved c =
     let n = c.note_commitment-there in (
-      (let told0 : (IsNextStep c.args.steps.now c.loop-i.at (StepAt c.in-Step.shown c.in-Step.committed c.in-Step.commitment c.in-Step.next)) = subst (IsNextStep c.args.steps.now c.loop-i.at) c.in-Step.is
-          c.next_step.ensures in told0).7,
+      c.in-Some.ensures.7,
       omega arith,
-      ladder-next _ c.args.wanted.now c.loop-i.i c.loop-i.invariant.2 (let told0 : (IsNextStep c.args.steps.now c.loop-i.at (StepAt c.in-Step.shown c.in-Step.committed c.in-Step.commitment c.in-Step.next)) = subst (IsNextStep c.args.steps.now c.loop-i.at) c.in-Step.is
-          c.next_step.ensures in told0) (omega arith) c.if-shown-wanted.false
+      ladder-next _ c.args.wanted.now c.loop-i.i c.loop-i.invariant.2 c.in-Some.ensures (omega arith) c.if-step-wanted.false
           c.requires.outputs n.ensures n.auto.offsets,
     )
 

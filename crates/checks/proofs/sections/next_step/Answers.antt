@@ -14,7 +14,7 @@ use Rattle.lines.proofs.SectionLaws.{line_here}
 use Rattle.rules.specs.Limits.{version_bound}
 use Rattle.inputs.proofs.StateLineLaws.{number_within}
 use Rattle.checks.specs.Sections.{IsNextStep}
-use Rattle.checks.specs.declared.sections.NextStep.TheVariants.{Step as StepAt}
+use Rattle.std.specs.Prelude.{Some}
 use Rattle.checks.proofs.LineStepLaws.{step-next, step-number, no_step}
 use borrow.Author.Rules.{rules}
 use Rattle.checks.proofs.sections.next_step.Goals as goal
@@ -42,10 +42,10 @@ overflow_cast-result c =
     search rules
 
 pub overflow_add-result : goal.overflow_add-result
-overflow_add-result c = let (_, _, _, _, _, _, _, _, w) = (let step0 : (let a1 = c.args in IsNextStep a1.steps.now a1.at (StepAt c.in-Read.value (eqb (length (take (c.in-Ended.stop - a1.at) (drop a1.at a1.steps.now))) (c.in-Read.field.at + value_digits)) (a1.at + c.in-Read.field.at) c.in-Ended.next.at)) = step-next _ _ c.requires.lines _ _ (let line0 : (let a1 = c.args in line_at a1.steps.now a1.at ≡ some (c.in-Ended.stop, c.in-Ended.next.at)) = sym c.line.ensures ∙ ap line_of c.in-Ended.is in line0) _ _ (let number0 : (let a1 = c.args in read_at (read_number version_bound) (take (c.in-Ended.stop - a1.at) (drop a1.at a1.steps.now)) step_fields ≡ some (c.in-Read.value, c.in-Read.field.at)) = sym c.number.ensures ∙ ap next_number_of c.in-Read.is in number0) in step0) in omega arith
+overflow_add-result c = let (_, _, _, _, _, _, _, _, w) = (let step0 : (let a1 = c.args in IsNextStep a1.steps.now a1.at (Some (record { version = c.in-Read.value; committed = (eqb (length (take (c.in-Ended.stop - a1.at) (drop a1.at a1.steps.now))) (c.in-Read.field.at + value_digits)); commitment = (a1.at + c.in-Read.field.at); next = c.in-Ended.next.at }))) = step-next _ _ c.requires.lines _ _ (let line0 : (let a1 = c.args in line_at a1.steps.now a1.at ≡ some (c.in-Ended.stop, c.in-Ended.next.at)) = sym c.line.ensures ∙ ap line_of c.in-Ended.is in line0) _ _ (let number0 : (let a1 = c.args in read_at (read_number version_bound) (take (c.in-Ended.stop - a1.at) (drop a1.at a1.steps.now)) step_fields ≡ some (c.in-Read.value, c.in-Read.field.at)) = sym c.number.ensures ∙ ap next_number_of c.in-Read.is in number0) in step0) in omega arith
 
 pub overflow_add-result-2 : goal.overflow_add-result-2
-overflow_add-result-2 c = let (_, _, _, _, _, _, _, _, w) = (let step0 : (let a1 = c.args in IsNextStep a1.steps.now a1.at (StepAt c.in-Read.value (eqb (length (take (c.in-Ended.stop - a1.at) (drop a1.at a1.steps.now))) (c.in-Read.field.at + value_digits)) (a1.at + c.in-Read.field.at) c.in-Ended.next.at)) = step-next _ _ c.requires.lines _ _ (let line0 : (let a1 = c.args in line_at a1.steps.now a1.at ≡ some (c.in-Ended.stop, c.in-Ended.next.at)) = sym c.line.ensures ∙ ap line_of c.in-Ended.is in line0) _ _ (let number0 : (let a1 = c.args in read_at (read_number version_bound) (take (c.in-Ended.stop - a1.at) (drop a1.at a1.steps.now)) step_fields ≡ some (c.in-Read.value, c.in-Read.field.at)) = sym c.number.ensures ∙ ap next_number_of c.in-Read.is in number0) in step0) in omega arith
+overflow_add-result-2 c = let (_, _, _, _, _, _, _, _, w) = (let step0 : (let a1 = c.args in IsNextStep a1.steps.now a1.at (Some (record { version = c.in-Read.value; committed = (eqb (length (take (c.in-Ended.stop - a1.at) (drop a1.at a1.steps.now))) (c.in-Read.field.at + value_digits)); commitment = (a1.at + c.in-Read.field.at); next = c.in-Ended.next.at }))) = step-next _ _ c.requires.lines _ _ (let line0 : (let a1 = c.args in line_at a1.steps.now a1.at ≡ some (c.in-Ended.stop, c.in-Ended.next.at)) = sym c.line.ensures ∙ ap line_of c.in-Ended.is in line0) _ _ (let number0 : (let a1 = c.args in read_at (read_number version_bound) (take (c.in-Ended.stop - a1.at) (drop a1.at a1.steps.now)) step_fields ≡ some (c.in-Read.value, c.in-Read.field.at)) = sym c.number.ensures ∙ ap next_number_of c.in-Read.is in number0) in step0) in omega arith
 
 pub returns : goal.returns
-returns c = (let step0 : (let a1 = c.args in IsNextStep a1.steps.now a1.at (StepAt c.in-Read.value (eqb (length (take (c.in-Ended.stop - a1.at) (drop a1.at a1.steps.now))) (c.in-Read.field.at + value_digits)) (a1.at + c.in-Read.field.at) c.in-Ended.next.at)) = step-next _ _ c.requires.lines _ _ (let line0 : (let a1 = c.args in line_at a1.steps.now a1.at ≡ some (c.in-Ended.stop, c.in-Ended.next.at)) = sym c.line.ensures ∙ ap line_of c.in-Ended.is in line0) _ _ (let number0 : (let a1 = c.args in read_at (read_number version_bound) (take (c.in-Ended.stop - a1.at) (drop a1.at a1.steps.now)) step_fields ≡ some (c.in-Read.value, c.in-Read.field.at)) = sym c.number.ensures ∙ ap next_number_of c.in-Read.is in number0) in step0)
+returns c = (let step0 : (let a1 = c.args in IsNextStep a1.steps.now a1.at (Some (record { version = c.in-Read.value; committed = (eqb (length (take (c.in-Ended.stop - a1.at) (drop a1.at a1.steps.now))) (c.in-Read.field.at + value_digits)); commitment = (a1.at + c.in-Read.field.at); next = c.in-Ended.next.at }))) = step-next _ _ c.requires.lines _ _ (let line0 : (let a1 = c.args in line_at a1.steps.now a1.at ≡ some (c.in-Ended.stop, c.in-Ended.next.at)) = sym c.line.ensures ∙ ap line_of c.in-Ended.is in line0) _ _ (let number0 : (let a1 = c.args in read_at (read_number version_bound) (take (c.in-Ended.stop - a1.at) (drop a1.at a1.steps.now)) step_fields ≡ some (c.in-Read.value, c.in-Read.field.at)) = sym c.number.ensures ∙ ap next_number_of c.in-Read.is in number0) in step0)

@@ -1,7 +1,11 @@
--- `lines::hex::spelled_length` meets its contract: the bytes before i are digits, so those from i
--- on decide.
-use mathlib.Core.Path.{refl, sym, ◌∙◌}
+-- `lines::hex::decoded_length` meets its contract: the bytes passed are digits, so the others
+-- decide.
+use mathlib.Core.Path.{◌≡◌, refl, sym, ◌∙◌, ap}
+use mathlib.Core.Bool.{Bool}
 use native.Mathlib.Omega.{arith}
+use borrow.Author.Tests.{eqb-true, eqb-false}
+use Rattle.lists.specs.Lists.{same}
+use Rattle.lists.proofs.SameLaws.{slices_same}
 use Rattle.lines.specs.Number.{ascii}
 use Rattle.lines.specs.Hex.{dash}
 use Rattle.lines.proofs.ReadingLaws.{digit-one, digit-other, digits_none}
@@ -9,34 +13,44 @@ use Rattle.lines.proofs.HexLengthLaws.{decoded_dash, decoded-empty, decoded-odd,
 use Rattle.lines.proofs.HexLengthLaws.{decoded-half}
 use Rattle.lines.proofs.hex.decoded_length.Goals as goal
 
-pub returns-then-equal : goal.returns-then-equal
+pub returns-then-eq : goal.returns-then-eq
 unfolding dash ascii
-returns-then-equal c = sym (decoded_dash _ (sym c.equal.ensures ∙ c.if-equal.true))
+returns-then-eq c =
+    let s = c.args.s.now in
+    let d : same s dash ≡ c.eq.result = rw c.as_slice.ensures at (sym (c.eq.ensures ∙ slices_same s c.as_slice.result.now)) in
+    sym (decoded_dash s (d ∙ c.if-eq.true))
 
-pub returns-then-s-eq0 : goal.returns-then-s-eq0
+pub returns-then-is_empty : goal.returns-then-is_empty
 unfolding dash ascii
-returns-then-s-eq0 c = sym (decoded-empty _ (sym c.equal.ensures ∙ c.if-equal.false) (omega arith))
+returns-then-is_empty c =
+    let s = c.args.s.now in
+    let d : same s dash ≡ c.eq.result = rw c.as_slice.ensures at (sym (c.eq.ensures ∙ slices_same s c.as_slice.result.now)) in
+    sym (decoded-empty s (d ∙ c.if-eq.false) (eqb-true _ _ (sym c.if-is_empty.ensures)))
 
 pub returns-then-s-ne0 : goal.returns-then-s-ne0
 unfolding dash ascii
-returns-then-s-ne0 c = sym (decoded-odd _ (sym c.equal.ensures ∙ c.if-equal.false) c.if-s-ne0.true)
-
-pub loop-i-init : goal.loop-i-init
-unfolding dash ascii
-loop-i-init c = (omega arith, sym c.equal.ensures ∙ c.if-equal.false, omega arith, c.if-s-ne0.false, refl)
+returns-then-s-ne0 c =
+    let s = c.args.s.now in
+    let d : same s dash ≡ c.eq.result = rw c.as_slice.ensures at (sym (c.eq.ensures ∙ slices_same s c.as_slice.result.now)) in
+    sym (decoded-odd s (d ∙ c.if-eq.false) c.if-s-ne0.true)
 
 pub returns-then-not-is_hex_digit : goal.returns-then-not-is_hex_digit
+unfolding dash ascii
 returns-then-not-is_hex_digit c =
+    let s = c.args.s.now in
+    let d : same s dash ≡ c.eq.result = rw c.as_slice.ensures at (sym (c.eq.ensures ∙ slices_same s c.as_slice.result.now)) in
     let e = sym c.is_hex_digit.ensures ∙ c.if-not-is_hex_digit.true in
-    sym (decoded-other _ c.loop-i.invariant.1 (c.loop-i.invariant.4 ∙ digit-other _ c.loop-i.i (omega arith) e))
+    sym (decoded-other s (d ∙ c.if-eq.false) (c.loop-b.invariant ∙ digit-other s c.loop-b.b-index (omega arith) e))
 
-pub loop-i-preserved : goal.loop-i-preserved
-loop-i-preserved c =
+pub loop-b-preserved : goal.loop-b-preserved
+loop-b-preserved c =
     let e = sym c.is_hex_digit.ensures ∙ c.if-not-is_hex_digit.false in
-    let v = c.loop-i.invariant in
-    (omega arith, v.1, v.2, v.3, v.4 ∙ digit-one _ c.loop-i.i (omega arith) e)
+    c.loop-b.invariant ∙ digit-one _ c.loop-b.b-index (omega arith) e
 
 pub returns : goal.returns
+unfolding dash ascii
 returns c =
-    let v = c.loop-i.invariant in
-    sym (decoded-half _ v.1 v.2 v.3 (v.4 ∙ digits_none _ c.loop-i.i (omega arith)))
+    let s = c.args.s.now in
+    let d : same s dash ≡ c.eq.result = rw c.as_slice.ensures at (sym (c.eq.ensures ∙ slices_same s c.as_slice.result.now)) in
+    let n = eqb-false _ _ (sym c.if-is_empty.ensures) in
+    sym (decoded-half s (d ∙ c.if-eq.false) (omega (arith, n)) c.if-s-ne0.false (c.loop-b.invariant ∙ digits_none s c.loop-b.b-index (omega arith)))

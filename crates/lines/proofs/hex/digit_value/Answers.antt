@@ -14,4 +14,4 @@ pub returns-then-b-le57 : goal.returns-then-b-le57
 returns-then-b-le57 c = let b = c.args.b in (sym (value_low b (hex_digit_bound b c.requires) (omega arith)), omega arith)
 
 pub returns-else-b-le57 : goal.returns-else-b-le57
-returns-else-b-le57 c = let b = c.args.b in (sym (value_high b (omega arith)), omega (arith, hex_digit_high_bound b c.requires (omega arith)))
+returns-else-b-le57 c = let b = c.args.b in (omega (arith, value_high b (omega arith), hex_digit_high_bound b c.requires (omega arith)), omega (arith, hex_digit_high_bound b c.requires (omega arith)))

@@ -1,24 +1,21 @@
--- `lines::hex::is_hex_digit` meets its contract: up to 57 the bytes from 48 on are digits, above it
--- those from 97 to 102.
-use mathlib.Core.Path.{◌≡◌, ◌∙◌}
-use mathlib.Core.Bool.{true, false}
+-- `lines::hex::is_hex_digit` meets its contract: the digits are the bytes from 48 to 57 and from 97
+-- to 102.
+use mathlib.Core.Path.{sym}
 use native.Mathlib.Omega.{arith}
-use lib.Dec.{leb}
-use borrow.Author.Tests.{le-leb, lt-leb}
-use Rattle.lines.proofs.HexLaws.{is_hex_below, is_hex_above}
+use Rattle.lines.proofs.HexLaws.{is_hex_low, is_hex_high, no_hex_digit}
 use Rattle.lines.proofs.hex.is_hex_digit.Goals as goal
 
-pub returns-then-b-le57 : goal.returns-then-b-le57
-returns-then-b-le57 c = is_hex_below c.args.b (omega arith)
+pub returns-in-48-to-57 : goal.returns-in-48-to-57
+returns-in-48-to-57 c = sym (is_hex_low c.args.b (omega arith) (omega arith))
 
-pub returns-then-b-ge97 : goal.returns-then-b-ge97
-returns-then-b-ge97 c =
-    let b = c.args.b in
-    let e : leb 97 b ≡ true = le-leb 97 b (omega arith) in
-    rw e at (is_hex_above b (omega arith))
+pub returns-in-48-to-57-2 : goal.returns-in-48-to-57-2
+returns-in-48-to-57-2 c = sym (is_hex_high c.args.b (omega arith) (omega arith))
 
-pub returns-else-b-ge97 : goal.returns-else-b-ge97
-returns-else-b-ge97 c =
-    let b = c.args.b in
-    let e : leb 97 b ≡ false = lt-leb 97 b (omega arith) in
-    e ∙ (rw e at (is_hex_above b (omega arith)))
+pub returns-in_default : goal.returns-in_default
+returns-in_default c = sym (no_hex_digit c.args.b (λ l. omega arith) (λ l. omega arith))
+
+pub returns-in_default-2 : goal.returns-in_default-2
+returns-in_default-2 c = sym (no_hex_digit c.args.b (λ l. omega arith) (λ l. omega arith))
+
+pub returns-in_default-3 : goal.returns-in_default-3
+returns-in_default-3 c = sym (no_hex_digit c.args.b (λ l. omega arith) (λ l. omega arith))

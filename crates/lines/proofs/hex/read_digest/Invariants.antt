@@ -10,7 +10,5 @@ use Rattle.lines.proofs.hex.read_digest.Given as goal
 
 abbrev pub invariant-loop-i : goal.invariant-loop-i
 invariant-loop-i l =
-    (l.i ≤ 32) × (length l.value ≡ 32) × (length l.s ≡ 64) × (all is_hex_digit l.s ≡ all is_hex_digit (drop (2 * l.i) l.s)) × (take l.i l.value ++ unhex (drop (2 * l.i) l.s) ≡ unhex l.s)
-
-abbrev pub decreases-loop-i : goal.decreases-loop-i
-decreases-loop-i l = 32 - l.i
+    (length l.value ≡ 32) × (all is_hex_digit l.s ≡ all is_hex_digit (drop (2 * l.i) l.s))
+    × (take l.i l.value ++ unhex (drop (2 * l.i) l.s) ≡ unhex l.s)

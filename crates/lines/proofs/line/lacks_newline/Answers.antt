@@ -24,14 +24,14 @@ step s at k false h v e =
 pub loop-k-init : goal.loop-k-init
 loop-k-init c =
     let n : c.args.at + 0 ≡ c.args.at = omega arith in
-    (omega arith, omega arith, λ e. rw n refl)
+    λ e. rw n refl
 
 pub loop-k-preserved : goal.loop-k-preserved
 loop-k-preserved c =
     let a = c.args in
-    (omega arith, c.loop-k.invariant.1, step a.s.now a.at c.loop-k.k c.loop-k.hit (omega arith) c.loop-k.invariant.2)
+    step a.s.now a.at c.loop-k.k c.loop-k.hit (omega arith) c.loop-k.invariant
 
 pub returns : goal.returns
 returns c e =
     let n : c.args.count ≡ c.loop-k.k = omega arith in
-    rw n (c.loop-k.invariant.2 (not-true _ e))
+    rw n (c.loop-k.invariant (not-true _ e))

@@ -8,7 +8,5 @@ use Rattle.lines.proofs.line.lacks_newline.Given as goal
 
 abbrev pub invariant-loop-k : goal.invariant-loop-k
 invariant-loop-k l =
-    (l.k ≤ l.count) × (l.at + l.count ≤ length l.s) × (l.hit ≡ false → l.at + l.k + length (before newline (drop (l.at + l.k) l.s)) ≡ l.at + length (before newline (drop l.at l.s)))
-
-abbrev pub decreases-loop-k : goal.decreases-loop-k
-decreases-loop-k l = l.count - l.k
+    l.hit ≡ false
+    → l.at + l.k + length (before newline (drop (l.at + l.k) l.s)) ≡ l.at + length (before newline (drop l.at l.s))

@@ -5,9 +5,7 @@ use lib.ListN.{length, drop}
 use Rattle.lines.specs.Line.{before, newline}
 use Rattle.lines.proofs.line.line_end.Given as goal
 
-abbrev pub invariant-loop-near : goal.invariant-loop-near
-invariant-loop-near l =
-    (l.near ≤ 12) × (l.at ≤ l.i) × (l.i - l.at ≤ length l.s - l.at) × (l.i + length (before newline (drop l.i l.s)) ≡ l.at + length (before newline (drop l.at l.s)))
-
-abbrev pub decreases-loop-near : goal.decreases-loop-near
-decreases-loop-near l = 12 - l.near
+abbrev pub invariant-loop-i : goal.invariant-loop-i
+invariant-loop-i l =
+    (l.near - l.at ≤ length l.s - l.at)
+    × (l.i + length (before newline (drop l.i l.s)) ≡ l.at + length (before newline (drop l.at l.s)))

@@ -1,20 +1,22 @@
 -- `lines::line::span` meets its contract: the offset passed and what stands before the byte from
 -- there on stay the answer.
+use mathlib.Core.Path.{◌∙◌}
 use native.Mathlib.Omega.{arith}
-use Rattle.lines.proofs.OffsetLaws.{span-stop, span_more, span-end}
+use Rattle.lines.proofs.OffsetLaws.{span-stop, span_more, span_past}
 use Rattle.lines.proofs.line.span.Goals as goal
 
-pub returns-then-s-i : goal.returns-then-s-i
-returns-then-s-i c =
+pub returns-then-s-i-clause-value : goal.returns-then-s-i-clause-value
+returns-then-s-i-clause-value c =
     let a = c.args in
-    record { value = omega (arith, span-stop a.stop a.s.now c.loop-i.i (omega arith) c.if-s-i.true); within = omega (arith, span-stop a.stop a.s.now c.loop-i.i (omega arith) c.if-s-i.true) }
+    omega (arith, c.loop-i.invariant, span-stop a.stop a.s.now c.loop-i.i (omega arith) (omega arith))
 
 pub loop-i-preserved : goal.loop-i-preserved
 loop-i-preserved c =
     let a = c.args in
-    omega (arith, span_more a.stop a.s.now c.loop-i.i (omega arith) c.if-s-i.false)
+    omega (arith, c.loop-i.invariant, span_more a.stop a.s.now c.loop-i.i (omega arith) (λ e. omega arith))
 
-pub returns : goal.returns
-returns c =
+pub returns-clause-value : goal.returns-clause-value
+returns-clause-value c =
     let a = c.args in
-    record { value = omega (arith, span-end a.stop a.s.now c.loop-i.i (omega arith)); within = omega (arith, span-end a.stop a.s.now c.loop-i.i (omega arith)) }
+    let l = c.loop-i in
+    c.max.ensures ∙ span_past a.stop a.s.now a.at l.i l.auto.i-end c.loop-i-test.false l.invariant

@@ -1,56 +1,72 @@
 -- `lines::number::read_number` meets its contract: what is read so far and the digits that are left
 -- stay the number.
-use mathlib.Core.Path.{◌≡◌, sym, ◌∙◌}
+use mathlib.Core.Path.{◌≡◌, sym, ◌∙◌, ap}
 use native.Mathlib.Omega.{arith}
-use Rattle.lines.specs.Number.{read_number}
-use Rattle.lines.proofs.NumberLaws.{below_digits, above_digits}
+use Prim.Native.Nat.{◌+◌, ◌-◌, ◌*◌}
+use lib.ListN.{get_or}
+use borrow.Author.Tests.{eqb-true, eqb-false}
+use Rattle.lists.specs.Choice.{option_of}
+use Rattle.lines.specs.Number.{is_digit, read_number}
+use Rattle.lines.proofs.NumberLaws.{digit_bounds}
 use Rattle.lines.proofs.ReadingLaws.{number_after, number_empty, number_zero, number_one, number_many}
 use Rattle.lines.proofs.ReadingLaws.{digits-end, digits-other, digits-beyond, digits_more}
 use Rattle.lines.proofs.number.read_number.Goals as goal
 use Rattle.lines.proofs.number.read_number.Goals.{then-s-gt1+else-s-eq48, else-s-gt1}
 
-pub returns-then-s-eq0 : goal.returns-then-s-eq0
-returns-then-s-eq0 c = let a = c.args in sym (number_empty a.bound a.s.now (omega arith))
+pub returns-then-is_empty : goal.returns-then-is_empty
+returns-then-is_empty c = let a = c.args in sym (number_empty a.bound a.s.now (eqb-true _ _ (sym c.if-is_empty.ensures)))
 
 pub returns-then-s-eq48 : goal.returns-then-s-eq48
 returns-then-s-eq48 c = let a = c.args in sym (number_zero a.bound a.s.now (omega arith) (omega arith))
 
-pub loop-i-init : goal.loop-i-init
-loop-i-init c =
+pub loop-b-init : goal.loop-b-init
+loop-b-init c =
     let a = c.args in
+    let n = eqb-false _ _ (sym c.if-is_empty.ensures) in
     let whole : read_number a.bound a.s.now ≡ number_after a.bound 0 a.s.now =
     elim c.if-s-gt1.branch [
       | then-s-gt1+else-s-eq48 w ↦ number_many a.bound a.s.now (omega arith) w.if-s-eq48.false
-      | else-s-gt1 w ↦ number_one a.bound a.s.now (omega arith)
+      | else-s-gt1 w ↦ number_one a.bound a.s.now (omega (arith, n))
     ] in
-    (omega arith, omega arith, whole)
+    (omega arith, whole)
 
-pub returns-then-b-lt48 : goal.returns-then-b-lt48
-returns-then-b-lt48 c =
+pub returns-then-not-is_ascii_digit : goal.returns-then-not-is_ascii_digit
+unfolding is_digit
+returns-then-not-is_ascii_digit c =
     let a = c.args in
-    sym (c.loop-i.invariant.2 ∙ digits-other a.bound a.s.now c.loop-i.i c.loop-i.value (omega arith) (below_digits _ (omega arith)))
+    let e = sym c.if-not-is_ascii_digit.ensures.value in
+    sym (c.loop-b.invariant.1 ∙ digits-other a.bound a.s.now c.loop-b.b-index c.loop-b.value (omega arith) e)
 
-pub returns-then-b-gt57 : goal.returns-then-b-gt57
-returns-then-b-gt57 c =
+pub returns-in_err-checked_mul : goal.returns-in_err-checked_mul
+returns-in_err-checked_mul c =
     let a = c.args in
-    sym (c.loop-i.invariant.2 ∙ digits-other a.bound a.s.now c.loop-i.i c.loop-i.value (omega arith) (above_digits _ (omega arith)))
+    let h = c.in_err-checked_mul.ensures in
+    ap option_of c.from_residual.ensures
+    ∙ sym (c.loop-b.invariant.1 ∙ digits-beyond a.bound a.s.now c.loop-b.b-index c.loop-b.value (omega arith) (omega arith))
+
+pub returns-in_err-value : goal.returns-in_err-value
+returns-in_err-value c =
+    let a = c.args in
+    ap option_of c.from_residual-in_err-value.ensures
+    ∙ sym (c.loop-b.invariant.1 ∙ digits-beyond a.bound a.s.now c.loop-b.b-index c.loop-b.value (omega arith) (omega arith))
 
 pub returns-then-bound-value : goal.returns-then-bound-value
 returns-then-bound-value c =
     let a = c.args in
-    sym (c.loop-i.invariant.2 ∙ digits-beyond a.bound a.s.now c.loop-i.i c.loop-i.value (omega arith) (omega arith))
+    sym (c.loop-b.invariant.1 ∙ digits-beyond a.bound a.s.now c.loop-b.b-index c.loop-b.value (omega arith) (omega arith))
 
-pub returns-then-bound-value-2 : goal.returns-then-bound-value-2
-returns-then-bound-value-2 c =
+pub loop-b-preserved : goal.loop-b-preserved
+unfolding is_digit
+loop-b-preserved c =
     let a = c.args in
-    sym (c.loop-i.invariant.2 ∙ digits-beyond a.bound a.s.now c.loop-i.i c.loop-i.value (omega arith) (omega arith))
-
-pub loop-i-preserved : goal.loop-i-preserved
-loop-i-preserved c =
-    let a = c.args in
-    (omega arith, omega arith, c.loop-i.invariant.2 ∙ digits_more a.bound a.s.now c.loop-i.i c.loop-i.value (omega arith) (omega arith) (omega arith))
+    let k = c.loop-b.b-index in
+    let d = digit_bounds _ (sym c.if-not-is_ascii_digit.ensures.value) in
+    let n : c.in_ok-value.value ≡ c.loop-b.value * 10 + (get_or a.s.now k 0 - 48) = omega arith in (
+      omega arith,
+      rw n (c.loop-b.invariant.1 ∙ digits_more a.bound a.s.now k c.loop-b.value (omega arith) d.0 d.1),
+    )
 
 pub returns : goal.returns
 returns c =
     let a = c.args in
-    sym (c.loop-i.invariant.2 ∙ digits-end a.bound a.s.now c.loop-i.i c.loop-i.value (omega arith) (omega arith))
+    sym (c.loop-b.invariant.1 ∙ digits-end a.bound a.s.now c.loop-b.b-index c.loop-b.value (omega arith) c.loop-b.invariant.0)

@@ -14,7 +14,7 @@ use Rattle.lines.proofs.writing.store_decoded.Goals as goal
 pub loop-i-init : goal.loop-i-init
 loop-i-init c =
     let a = c.args in
-    (omega arith, refl, sets_start a.out.now a.at (unhex a.field.now) c.requires.room)
+    (refl, sets_start a.out.now a.at (unhex a.field.now) c.requires.room)
 
 pub digit_value-requires : goal.digit_value-requires
 digit_value-requires c = decoded_digit c.args.field.now (unhex c.args.field.now) (2 * c.loop-i.i) c.requires.decodes (omega arith) (omega arith)
@@ -34,10 +34,10 @@ loop-i-preserved c =
     let b = c.digit_value.result * 16 + c.digit_value-in-loop-i.result in
     let u : unhex (drop (2 * i) f) ≡ b ∷ unhex (drop (2 * i + 2) f) = cc (unhex-pair f (2 * i) (omega arith)) in
     let n = sets_next c.loop-i.out (unhex (drop (2 * i) f)) (unhex (drop (2 * i + 2) f)) (a.at + i) (a.at + (i + 1)) b (omega arith) u in
-    (omega arith, simp length-set c.loop-i.invariant.1, rw k (c.loop-i.invariant.2 ∙ n))
+    (simp length-set c.loop-i.invariant.0, rw k (c.loop-i.invariant.1 ∙ n))
 
 pub returns : goal.returns
 returns c =
     let f = c.args.field.now in
     let d = drop (2 * c.loop-i.i) f in
-    sym (c.loop-i.invariant.2 ∙ sets_done c.loop-i.out (unhex d) _ (unhex_short d (omega (arith, length-drop (2 * c.loop-i.i) f))))
+    sym (c.loop-i.invariant.1 ∙ sets_done c.loop-i.out (unhex d) _ (unhex_short d (omega (arith, length-drop (2 * c.loop-i.i) f))))

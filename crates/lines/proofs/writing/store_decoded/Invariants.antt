@@ -10,7 +10,5 @@ use Rattle.lines.proofs.writing.store_decoded.Given as goal
 
 abbrev pub invariant-loop-i : goal.invariant-loop-i
 invariant-loop-i l =
-    (l.i ≤ length l.field / 2) × (length l.out ≡ length l.initial.out) × (written l.initial.out l.at (unhex l.field) ≡ sets l.out (l.at + l.i) (unhex (drop (2 * l.i) l.field)))
-
-abbrev pub decreases-loop-i : goal.decreases-loop-i
-decreases-loop-i l = length l.field / 2 - l.i
+    (length l.out ≡ length l.initial.out)
+    × (written l.initial.out l.at (unhex l.field) ≡ sets l.out (l.at + l.i) (unhex (drop (2 * l.i) l.field)))

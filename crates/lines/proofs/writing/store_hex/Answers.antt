@@ -13,7 +13,7 @@ use Rattle.lines.proofs.writing.store_hex.Goals as goal
 pub loop-i-init : goal.loop-i-init
 loop-i-init c =
     let a = c.args in
-    (omega arith, refl, sets_start a.out.now a.at (hex a.s.now) (omega (arith, length_hex a.s.now)))
+    (refl, sets_start a.out.now a.at (hex a.s.now) (omega (arith, length_hex a.s.now)))
 
 pub hex_digit-requires : goal.hex_digit-requires
 hex_digit-requires c = omega (arith, c.shared_slice_known-in-loop-i-1.given c.loop-i.i)
@@ -31,9 +31,9 @@ loop-i-preserved c =
     let rest = hex (drop (i + 1) s) in
     let m = sets_next c.loop-i.out (hex (drop i s)) (low ∷ rest) (a.at + 2 * i) (a.at + 2 * i + 1) high refl (hex_at s i (omega arith)) in
     let n = sets_next (set c.loop-i.out (a.at + 2 * i) high) (low ∷ rest) rest (a.at + 2 * i + 1) (a.at + 2 * (i + 1)) low (omega arith) refl in
-    (omega arith, simp length-set c.loop-i.invariant.1, rw (c.hex_digit.ensures, c.hex_digit-in-loop-i.ensures) (c.loop-i.invariant.2 ∙ m ∙ n))
+    (simp length-set c.loop-i.invariant.0, rw (c.hex_digit.ensures, c.hex_digit-in-loop-i.ensures) (c.loop-i.invariant.1 ∙ m ∙ n))
 
 pub returns : goal.returns
 returns c =
     let s = c.args.s.now in
-    sym (c.loop-i.invariant.2 ∙ sets_done c.loop-i.out (hex (drop c.loop-i.i s)) _ (hex_end s c.loop-i.i (omega arith)))
+    sym (c.loop-i.invariant.1 ∙ sets_done c.loop-i.out (hex (drop c.loop-i.i s)) _ (hex_end s c.loop-i.i (omega arith)))

@@ -9,7 +9,6 @@ use Rattle.lines.specs.Hex.{hex}
 use Rattle.lines.proofs.writing.store_hex.Given as goal
 
 abbrev pub invariant-loop-i : goal.invariant-loop-i
-invariant-loop-i l = (l.i ≤ length l.s) × (length l.out ≡ length l.initial.out) × (written l.initial.out l.at (hex l.s) ≡ sets l.out (l.at + 2 * l.i) (hex (drop l.i l.s)))
-
-abbrev pub decreases-loop-i : goal.decreases-loop-i
-decreases-loop-i l = length l.s - l.i
+invariant-loop-i l =
+    (length l.out ≡ length l.initial.out)
+    × (written l.initial.out l.at (hex l.s) ≡ sets l.out (l.at + 2 * l.i) (hex (drop l.i l.s)))

@@ -16,8 +16,8 @@ source_at-requires t c = c.requires.0
 
 pub kept_value-value-requires : goal.kept_value-value-requires
 kept_value-value-requires t c =
-    let f = step_told _ _ _ Retained c.in-Retained.is c.source_at.ensures in
-    record { whole = (c.requires.0, f.1); kept_size_bound = (c.requires.1.size_small, c.requires.2) }
+    let f = step_told _ _ Retained c.in-Retained.is c.is_before.ensures c.source_at.ensures in
+    record { whole = (c.requires.0, f.1); kept_size_bound = c.requires.1.size_small }
 
 pub next_node-requires : goal.next_node-requires
 next_node-requires t c = omega (arith, c.requires.0.small, c.requires.1.taken)
@@ -26,13 +26,13 @@ pub shown_entry-requires : goal.shown_entry-requires
 shown_entry-requires t c =
     let text = c.args.text.now in
     let ns = nodes_in c.args.nodes.now in
-    let (b, l) = block-entry [] text ns c.requires.0 c.requires.1 (step_told _ _ _ Shown c.in-Shown.is c.source_at.ensures) in
-    (c.requires.1, b, l, c.requires.2)
+    let (b, l) = block-entry [] text ns c.requires.0 c.requires.1 (step_told _ _ Shown c.in-Shown.is c.is_before.ensures c.source_at.ensures) in
+    (c.requires.1, b, l)
 
 pub subtree-left-requires : goal.subtree-left-requires
 subtree-left-requires t c =
-    let f = step_told _ _ _ Parent c.in-Parent.is c.source_at.ensures in
-    (omega (arith, c.decreases, f.0), (whole-left c.requires.0 f.0, c.requires.1, c.requires.2))
+    let f = step_told _ _ Parent c.in-Parent.is c.is_before.ensures c.source_at.ensures in
+    (omega (arith, c.decreases, f.0), (whole-left c.requires.0 f.0, c.requires.1))
 
 pub overflow_add-start : goal.overflow_add-start
 overflow_add-start t c = omega (arith, c.requires.0.small)
@@ -42,40 +42,40 @@ unfolding known_in
 subtree-right-requires t c =
     let text = c.args.text.now in
     let ns = nodes_in c.args.nodes.now in
-    let f = step_told _ _ _ Parent c.in-Parent.is c.source_at.ensures in
+    let f = step_told _ _ Parent c.in-Parent.is c.is_before.ensures c.source_at.ensures in
     let r = ready-right _ text ns c.requires.0 c.requires.1 _ f.0 c.subtree-left.ensures in
-    (omega (arith, c.decreases, f.0), (whole-right c.requires.0 f.0, r, c.requires.2))
+    (omega (arith, c.decreases, f.0), (whole-right c.requires.0 f.0, r))
 
 pub joined-requires : goal.joined-requires
 joined-requires t c =
-    let f = step_told _ _ _ Parent c.in-Parent.is c.source_at.ensures in
-    (whole-halves c.requires.0 f.0 _, c.requires.1.size_small, c.requires.2)
+    let f = step_told _ _ Parent c.in-Parent.is c.is_before.ensures c.source_at.ensures in
+    (whole-halves c.requires.0 f.0 _, c.requires.1.size_small)
 
 pub returns-in-Retained : goal.returns-in-Retained
 unfolding known_in
 returns-in-Retained t c =
     let text = c.args.text.now in
     let ns = nodes_in c.args.nodes.now in
-    block-retained _ text ns c.requires.0 c.requires.1 _ _ (step_told _ _ _ Retained c.in-Retained.is c.source_at.ensures) c.kept_value-value.ensures
+    block-retained _ text ns c.requires.0 c.requires.1 _ _ (step_told _ _ Retained c.in-Retained.is c.is_before.ensures c.source_at.ensures) c.kept_value-value.ensures
 
 pub returns-in-Given : goal.returns-in-Given
 unfolding known_in
 returns-in-Given t c =
     let text = c.args.text.now in
     let ns = nodes_in c.args.nodes.now in
-    c.next_node.ensures ∙ block-given _ text ns c.requires.0 c.requires.1 (step_told _ _ _ Given c.in-Given.is c.source_at.ensures)
+    c.next_node.ensures ∙ block-given _ text ns c.requires.0 c.requires.1 (step_told _ _ Given c.in-Given.is c.is_before.ensures c.source_at.ensures)
 
 pub returns-in-Shown : goal.returns-in-Shown
 unfolding known_in
 returns-in-Shown t c =
     let text = c.args.text.now in
     let ns = nodes_in c.args.nodes.now in
-    c.shown_entry.ensures ∙ block-shown-entry _ text ns c.requires.0 c.requires.1 (step_told _ _ _ Shown c.in-Shown.is c.source_at.ensures)
+    c.shown_entry.ensures ∙ block-shown-entry _ text ns c.requires.0 c.requires.1 (step_told _ _ Shown c.in-Shown.is c.is_before.ensures c.source_at.ensures)
 
 pub returns-in-Parent : goal.returns-in-Parent
 unfolding known_in
 returns-in-Parent t c =
     let text = c.args.text.now in
     let ns = nodes_in c.args.nodes.now in
-    let f = step_told _ _ _ Parent c.in-Parent.is c.source_at.ensures in
+    let f = step_told _ _ Parent c.in-Parent.is c.is_before.ensures c.source_at.ensures in
     block-parent _ text ns c.requires.0 c.requires.1 _ _ _ _ f c.subtree-left.ensures c.subtree-right.ensures c.joined.ensures

@@ -19,12 +19,12 @@ past_node-requires t c = omega (arith, c.requires.0.small, c.requires.1.taken)
 pub past_entry-requires : goal.past_entry-requires
 past_entry-requires t c =
     let text = c.args.text.now in
-    let (b, l) = block-entry [] text [] c.requires.0 c.requires.1 (step_told _ _ _ Shown c.in-Shown.is c.source_at.ensures) in
+    let (b, l) = block-entry [] text [] c.requires.0 c.requires.1 (step_told _ _ Shown c.in-Shown.is c.is_before.ensures c.source_at.ensures) in
     entry-room text c.requires.1 b l
 
 pub subtree_end-middle-requires : goal.subtree_end-middle-requires
 subtree_end-middle-requires t c =
-    let f = step_told _ _ _ Parent c.in-Parent.is c.source_at.ensures in
+    let f = step_told _ _ Parent c.in-Parent.is c.is_before.ensures c.source_at.ensures in
     (omega (arith, c.decreases, f.0), (whole-left c.requires.0 f.0, c.requires.1))
 
 pub overflow_add-start : goal.overflow_add-start
@@ -34,7 +34,7 @@ pub subtree_end-requires : goal.subtree_end-requires
 unfolding known_in
 subtree_end-requires t c =
     let text = c.args.text.now in
-    let f = step_told _ _ _ Parent c.in-Parent.is c.source_at.ensures in
+    let f = step_told _ _ Parent c.in-Parent.is c.is_before.ensures c.source_at.ensures in
     let r = ready-half text c.requires.0 c.requires.1 _ f.0 c.subtree_end-middle.ensures in
     (omega (arith, c.decreases, f.0), (whole-right c.requires.0 f.0, r))
 
@@ -42,21 +42,21 @@ pub returns-in-Retained : goal.returns-in-Retained
 unfolding known_in
 returns-in-Retained t c =
     let text = c.args.text.now in
-    end-retained text c.requires.0 c.requires.1 (step_told _ _ _ Retained c.in-Retained.is c.source_at.ensures)
+    end-retained text c.requires.0 c.requires.1 (step_told _ _ Retained c.in-Retained.is c.is_before.ensures c.source_at.ensures)
 
 pub returns-in-Given : goal.returns-in-Given
 unfolding known_in
 returns-in-Given t c =
     let text = c.args.text.now in
-    c.past_node.ensures ∙ end-given text c.requires.0 c.requires.1 (step_told _ _ _ Given c.in-Given.is c.source_at.ensures)
+    c.past_node.ensures ∙ end-given text c.requires.0 c.requires.1 (step_told _ _ Given c.in-Given.is c.is_before.ensures c.source_at.ensures)
 
 pub returns-in-Shown : goal.returns-in-Shown
 unfolding known_in
-returns-in-Shown t c = end_shown c.args.text.now c.requires.0 c.requires.1 (step_told _ _ _ Shown c.in-Shown.is c.source_at.ensures) _ c.past_entry.ensures
+returns-in-Shown t c = end_shown c.args.text.now c.requires.0 c.requires.1 (step_told _ _ Shown c.in-Shown.is c.is_before.ensures c.source_at.ensures) _ c.past_entry.ensures
 
 pub returns-in-Parent : goal.returns-in-Parent
 unfolding known_in
 returns-in-Parent t c =
     let text = c.args.text.now in
-    let f = step_told _ _ _ Parent c.in-Parent.is c.source_at.ensures in
+    let f = step_told _ _ Parent c.in-Parent.is c.is_before.ensures c.source_at.ensures in
     end-parent text c.requires.0 c.requires.1 _ _ f c.subtree_end-middle.ensures c.subtree_end.ensures

@@ -1,5 +1,6 @@
 -- `tree::log_tree::is_met` meets its contract: a full subtree is compared, another is not.
 use mathlib.Core.Path.{sym, ◌∙◌}
+use Rattle.lists.proofs.SameLaws.{slices_same}
 use Rattle.tree.specs.LogHead.{known_in}
 use Rattle.tree.proofs.WalkedLaws.{agrees_full, agrees-none}
 use Rattle.tree.proofs.log_tree.is_met.Goals as goal
@@ -10,11 +11,11 @@ is_full-requires c = c.requires.0
 pub kept_value-v-requires : goal.kept_value-v-requires
 kept_value-v-requires c =
     let p = c.requires in
-    record { whole = (p.0, sym c.is_full.ensures ∙ c.if-is_full.true); kept_size_bound = (p.1, p.2) }
+    record { whole = (p.0, sym c.is_full.ensures ∙ c.if-is_full.true); kept_size_bound = p.1 }
 
 pub returns-then-is_full : goal.returns-then-is_full
 unfolding known_in
-returns-then-is_full c = c.equal.ensures ∙ agrees_full _ _ _ (sym c.is_full.ensures ∙ c.if-is_full.true) _ c.kept_value-v.ensures
+returns-then-is_full c = c.eq.ensures ∙ slices_same _ _ ∙ agrees_full _ _ _ (sym c.is_full.ensures ∙ c.if-is_full.true) _ c.kept_value-v.ensures
 
 pub returns : goal.returns
 unfolding known_in

@@ -10,7 +10,7 @@ pub overflow_add-half : goal.overflow_add-half
 overflow_add-half c = omega (arith, halves_small _ _ _ _ c.requires.0 c.if-rest-half.true)
 
 pub is_met-requires : goal.is_met-requires
-is_met-requires c = (halves_even _ _ _ _ c.requires.0 c.if-rest-half.true, c.requires.1, c.requires.2)
+is_met-requires c = (halves_even _ _ _ _ c.requires.0 c.if-rest-half.true, c.requires.1)
 
 pub returns : goal.returns
 unfolding known_in

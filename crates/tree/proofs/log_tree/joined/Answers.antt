@@ -5,5 +5,5 @@ use Rattle.tree.proofs.log_tree.joined.Goals as goal
 
 pub returns : goal.returns
 returns c =
-    joined_made _ _ _ _ c.args.left c.args.right _ _ _ _ _ _ c.content_mark.ensures c.content_mark-2.ensures c.digest_66-value.ensures
-    c.is_parent_met-met.ensures c.both-below.ensures c.both.ensures
+    joined_made _ _ _ _ c.args.left c.args.right _ _ _ _ c.content_mark.ensures c.content_mark-2.ensures c.digest_66-value.ensures
+    c.is_parent_met-met.ensures

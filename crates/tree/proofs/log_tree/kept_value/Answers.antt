@@ -19,7 +19,7 @@ pub overflow_cast-kept_size : goal.overflow_cast-kept_size
 overflow_cast-kept_size c = omega (arith, ones-le 64 _ (lt_of_le_of_lt (div-le_self c.args.kept_size (2 * c.args.width)) c.ranges.kept_size.fits))
 
 pub stored_at-requires : goal.stored_at-requires
-stored_at-requires c = kept-room _ _ _ c.requires.whole.0 c.args.kept.now level_limit (omega arith) c.requires.kept_size_bound.0 c.requires.kept_size_bound.1 c.requires.whole.1
+stored_at-requires c = kept-room _ _ _ c.requires.whole.0 c.args.kept.now level_limit (omega arith) c.requires.kept_size_bound (omega arith) c.requires.whole.1
 
 pub returns : goal.returns
-returns c = c.stored_at.ensures ∙ kept-is _ _ _ c.requires.whole.0 c.args.kept.now level_limit (omega arith) c.requires.kept_size_bound.0 c.requires.kept_size_bound.1 c.requires.whole.1
+returns c = c.stored_at.ensures ∙ kept-is _ _ _ c.requires.whole.0 c.args.kept.now level_limit (omega arith) c.requires.kept_size_bound (omega arith) c.requires.whole.1

@@ -2,7 +2,7 @@
 -- start.
 use borrow.Author.Rules.{rules}
 use Rattle.tree.specs.LogHead.{known_in}
-use Rattle.tree.proofs.WalkLaws.{entry-room, entry-walked}
+use Rattle.tree.proofs.WalkLaws.{whole_one, entry-room, entry-walked}
 use Rattle.tree.proofs.log_tree.shown_entry.Goals as goal
 
 pub overflow_add-at : goal.overflow_add-at
@@ -10,14 +10,12 @@ overflow_add-at c =
     let r = entry-room c.args.text.now c.requires.0 c.requires.1 c.requires.2 in
     search rules
 
-pub is_entry_met-met-requires : goal.is_entry_met-met-requires
-is_entry_met-met-requires c =
-    let p = c.requires in
-    (p.1, p.0.size_small, p.3)
+pub is_met-met-requires : goal.is_met-met-requires
+is_met-met-requires c = (whole_one _ c.requires.1, c.requires.0.size_small)
 
 pub past_entry-next-requires : goal.past_entry-next-requires
 past_entry-next-requires c = entry-room c.args.text.now c.requires.0 c.requires.1 c.requires.2
 
 pub returns : goal.returns
 unfolding known_in
-returns c = entry-walked c.args.text.now c.requires.0 c.requires.1 c.requires.2 _ _ _ _ c.leaf_at-value.ensures c.past_entry-next.ensures c.is_entry_met-met.ensures
+returns c = entry-walked c.args.text.now c.requires.0 c.requires.1 c.requires.2 _ _ _ _ c.leaf_at-value.ensures c.past_entry-next.ensures c.is_met-met.ensures

@@ -1,18 +1,11 @@
 -- `tree::prefix_tree::lookup_root` meets its contract: from the siblings that are left the value
 -- leads to the root.
 use mathlib.Core.Path.{◌≡◌}
-use Prim.Native.Nat.{◌≤◌}
-use lib.ListN.{length, take}
+use lib.ListN.{take}
 use Rattle.tree.specs.LogText.{values_in}
 use Rattle.tree.specs.PrefixTree.{bits, value_above}
-use Rattle.tree.specs.Lookups.{output_bits}
 use Rattle.tree.proofs.prefix_tree.lookup_root.Given as goal
 
 abbrev pub invariant-loop-depth : goal.invariant-loop-depth
 invariant-loop-depth l =
-    (l.depth ≤ output_bits)
-    × (l.depth ≤ length (values_in l.siblings))
-    × (value_above (take l.depth (bits l.output)) (take l.depth (values_in l.siblings)) l.value ≡ value_above (bits l.output) (values_in l.siblings) l.initial.value)
-
-abbrev pub decreases-loop-depth : goal.decreases-loop-depth
-decreases-loop-depth l = l.depth
+    value_above (take l.depth (bits l.output)) (take l.depth (values_in l.siblings)) l.value ≡ value_above (bits l.output) (values_in l.siblings) l.initial.value

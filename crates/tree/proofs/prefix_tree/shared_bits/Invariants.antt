@@ -1,13 +1,8 @@
 -- `tree::prefix_tree::shared_bits` meets its contract: up to n the bits agree.
 use mathlib.Core.Path.{◌≡◌}
-use Prim.Native.Nat.{◌-◌, ◌≤◌}
 use lib.ListN.{take}
 use Rattle.tree.specs.PrefixTree.{bits}
-use Rattle.tree.specs.Lookups.{output_bits}
 use Rattle.tree.proofs.prefix_tree.shared_bits.Given as goal
 
 abbrev pub invariant-loop-n : goal.invariant-loop-n
-invariant-loop-n l = (l.n ≤ output_bits) × (take l.n (bits l.a) ≡ take l.n (bits l.b))
-
-abbrev pub decreases-loop-n : goal.decreases-loop-n
-decreases-loop-n l = output_bits - l.n
+invariant-loop-n l = take l.n (bits l.a) ≡ take l.n (bits l.b)

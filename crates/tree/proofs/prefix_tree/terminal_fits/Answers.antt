@@ -11,17 +11,17 @@ pub returns-then-shared-lt-OUTPUT_BITS : goal.returns-then-shared-lt-OUTPUT_BITS
 returns-then-shared-lt-OUTPUT_BITS c =
     let n = c.shared_bits-shared in
     let s = c.args in
-    other_fits s.output s.terminal n.result s.depth c.in-OtherLeaf.is n.ensures.1 (n.ensures.2 c.if-shared-lt-OUTPUT_BITS.true)
+    other_fits s.output _ _ s.terminal n.result s.depth c.in-OtherLeaf.is n.ensures.1 (n.ensures.2 c.if-shared-lt-OUTPUT_BITS.true)
 
 pub returns-else-shared-lt-OUTPUT_BITS : goal.returns-else-shared-lt-OUTPUT_BITS
 returns-else-shared-lt-OUTPUT_BITS c =
     let n = c.shared_bits-shared in
     let s = c.args in
     le-ltb n.result output_bits (omega arith)
-    ∙ same_unfit s.output s.terminal s.depth c.in-OtherLeaf.is (n.ensures.3 (omega arith))
+    ∙ same_unfit s.output _ _ s.terminal s.depth c.in-OtherLeaf.is (n.ensures.3 (omega arith))
 
 pub returns-in-SearchedLeaf : goal.returns-in-SearchedLeaf
-returns-in-SearchedLeaf c = let s = c.args in own_fits s.output s.terminal s.depth c.in-SearchedLeaf.is
+returns-in-SearchedLeaf c = let s = c.args in own_fits s.output _ s.terminal s.depth c.in-SearchedLeaf.is
 
 pub returns-in-Empty : goal.returns-in-Empty
 returns-in-Empty c = let s = c.args in empty_fits s.output s.terminal s.depth c.in-Empty.is

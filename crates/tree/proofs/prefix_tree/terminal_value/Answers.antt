@@ -7,7 +7,7 @@ use Rattle.tree.proofs.prefix_tree.terminal_value.Goals as goal
 pub returns-in-SearchedLeaf : goal.returns-in-SearchedLeaf
 returns-in-SearchedLeaf c =
     let s = c.args in
-    c.digest_65.ensures ∙ own_value s.output s.terminal c.in-SearchedLeaf.is
+    c.digest_65.ensures ∙ own_value s.output _ s.terminal c.in-SearchedLeaf.is
 
 pub returns-in-Empty : goal.returns-in-Empty
 unfolding zeros
@@ -16,4 +16,4 @@ returns-in-Empty c = let s = c.args in empty_value s.output s.terminal c.in-Empt
 pub returns-in-OtherLeaf : goal.returns-in-OtherLeaf
 returns-in-OtherLeaf c =
     let s = c.args in
-    c.digest_65-in-OtherLeaf.ensures ∙ other_value s.output s.terminal c.in-OtherLeaf.is
+    c.digest_65-in-OtherLeaf.ensures ∙ other_value s.output _ _ s.terminal c.in-OtherLeaf.is

@@ -1,24 +1,21 @@
--- `tree::search_tree::next_asked` meets its contract: `next` is the next of the frontier and the
--- right paths of the positions from i on.
-use mathlib.Core.Path.{◌≡◌, ◌∙◌}
-use Prim.Native.Nat.{◌-◌}
+-- `tree::search_tree::next_asked` meets its contract: `next` and the next of the frontier and the
+-- right paths of the positions that are left come to what is asked.
 use native.Mathlib.Omega.{arith}
-use Rattle.tree.proofs.AskedLaws.{asked_start, asked_step}
+use Rattle.tree.proofs.AskedLaws.{asked_start, asked_step, asked_end}
 use Rattle.tree.proofs.search_tree.next_asked.Goals as goal
 
-pub loop-i-init : goal.loop-i-init
-loop-i-init c =
-    let a = c.args in
-    (omega arith, c.next_on_frontier-next.ensures ∙ asked_start a.tree_size a.x a.positions.now)
+pub loop-position-init : goal.loop-position-init
+loop-position-init c = let a = c.args in asked_start a.tree_size a.x _ a.positions.now c.next_on_frontier-next.ensures
 
-pub loop-i-preserved : goal.loop-i-preserved
-loop-i-preserved c =
+pub loop-position-preserved : goal.loop-position-preserved
+loop-position-preserved c =
     let a = c.args in
-    let l = c.loop-i in (
-      omega arith,
-      asked_step a.tree_size a.x (l.i - 1) l.i l.next c.next_right_ancestor.result c.smaller-next.result a.positions.now (omega arith) l.invariant.0
-          l.invariant.1 c.next_right_ancestor.ensures c.smaller-next.ensures,
-    )
+    let l = c.loop-position in
+    asked_step a.tree_size a.x l.position-index _ l.next _ _ _ a.positions.now (omega arith) l.invariant
+    c.next_right_ancestor.ensures c.min-next.ensures
 
 pub returns : goal.returns
-returns c = let z : c.loop-i.i ≡ 0 = omega arith in rw z at c.loop-i.invariant.1
+returns c =
+    let a = c.args in
+    let l = c.loop-position in
+    asked_end a.tree_size a.x l.position-index l.next _ a.positions.now (omega arith) l.invariant

@@ -2,6 +2,8 @@
 -- word.
 use mathlib.Core.Path.{sym, ◌∙◌}
 use native.Mathlib.Omega.{arith}
+use borrow.Author.Tests.{not-true, not-false}
+use Rattle.lists.proofs.SameLaws.{slices_same}
 use Rattle.lines.proofs.CursorLaws.{word-beyond, word-other, word_same}
 use Rattle.lines.proofs.cursor.Cursor.word.Goals as goal
 
@@ -10,10 +12,10 @@ returns-then-line-self c = sym (word-beyond _ _ _ (omega arith))
 
 pub returns : goal.returns
 returns c =
-    let e = sym c.equal.ensures ∙ c.if-not-equal.false in
+    let e = sym (slices_same _ _) ∙ not-false _ (sym c.ne.ensures ∙ c.if-ne.false) in
     sym (word_same _ _ _ _ c.field-f.ensures (omega arith) e)
 
-pub returns-then-not-equal : goal.returns-then-not-equal
-returns-then-not-equal c =
-    let e = sym c.equal.ensures ∙ c.if-not-equal.true in
+pub returns-then-ne : goal.returns-then-ne
+returns-then-ne c =
+    let e = sym (slices_same _ _) ∙ not-true _ (sym c.ne.ensures ∙ c.if-ne.true) in
     sym (word-other _ _ _ _ c.field-f.ensures (omega arith) e)

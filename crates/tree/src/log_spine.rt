@@ -1,0 +1,142 @@
+// The walk over the log tree along its right edge (paper 01, Trees): over the last entries of a log,
+// by the full subtrees with which they begin.
+ghost use Rattle.std.specs.Prelude.{◌≡◌, [], ◌+◌, ◌-◌, ◌<◌, ◌≤◌, length};
+ghost use Rattle.std.specs.Int.Count.{ones};
+ghost use Rattle.hash.specs.Sha256.{digest_length};
+ghost use Rattle.tree.specs.LogText.{nodes_in};
+ghost use Rattle.tree.specs.LogHead.{level_limit, known_in};
+ghost use Rattle.tree.specs.LogWalk.{range, Ready, Tail, EdgeFacts, end_on, walked_on, Filled, values_from};
+
+use crate::log_head::LogHead;
+use crate::log_tree::{Walked, joined, next_node, shown_entry, subtree, subtree_end};
+use crate::search_tree::power;
+use crate::walk_cursor::WalkCursor;
+
+// What the entries from start on up to tree_size are, which begin with a full subtree of so many as
+// width: that alone, the next node, or that and more, in two.
+#[derive(Clone, Copy)]
+pub enum Edge {
+    Block,
+    Node,
+    Cut,
+}
+
+// Which of these, where one of the entries is shown or none is.
+fn edge_at(kept_size: u64, tree_size: u64, start: u64, width: u64, shown: bool) -> Edge
+    requires { start + width ≤ tree_size }
+    ensures { EdgeFacts kept_size tree_size start width shown result }
+{
+    if start + width == tree_size {
+        return Edge::Block;
+    }
+    if shown {
+        return Edge::Cut;
+    }
+    if kept_size <= start {
+        Edge::Node
+    } else {
+        Edge::Cut
+    }
+}
+
+// Puts a value into a block of values.
+fn put_value(block: &mut [u8; LogHead::BLOCK], i: usize, value: [u8; 32])
+    requires { i < level_limit }
+    ensures { (length value ≡ digest_length)
+        × Filled i block.old block.new value }
+{
+    block[32 * i..32 * i + 32].copy_from_slice(&value);
+}
+
+// The walk over the entries from start on up to tree_size. The values of the full subtrees of all
+// entries that are among them go into a block, after so many others.
+pub(crate) fn spine(
+    text: &[u8],
+    nodes: &[u8],
+    kept_size: u64,
+    kept: &[u8; LogHead::BLOCK],
+    tree_size: u64,
+    start: u64,
+    cursor: WalkCursor,
+    block: &mut [u8; LogHead::BLOCK],
+    count: usize,
+) -> Walked
+    requires tail { Tail tree_size start × Ready text.now kept_size start cursor
+        × (kept_size ≤ tree_size) }
+    requires room { count + ones (tree_size - start) ≤ level_limit }
+    ensures value { result ≡ walked_on text.now
+        (known_in text.now kept_size kept.now) (nodes_in nodes.now)
+        cursor.node (range start (tree_size - start)) }
+    ensures filled { Filled count block.old block.new
+        (values_from tree_size (known_in text.now kept_size kept.now)
+        (nodes_in nodes.now) start cursor.node) }
+{
+    let width = power(tree_size - start);
+    let shown = cursor.is_before(tree_size);
+    match edge_at(kept_size, tree_size, start, width, shown) {
+        Edge::Block => {
+            if width == 1 {
+                if shown {
+                    let entry = shown_entry(text, kept_size, kept, start, cursor);
+                    let value = entry.value;
+                    put_value(block, count, value);
+                    return entry;
+                }
+            }
+            let whole = subtree(text, nodes, kept_size, kept, start, width, cursor);
+            let value = whole.value;
+            put_value(block, count, value);
+            whole
+        }
+        Edge::Node => {
+            let given = next_node(nodes, cursor);
+            let value = given.value;
+            put_value(block, count, value);
+            given
+        }
+        Edge::Cut => {
+            let left = subtree(text, nodes, kept_size, kept, start, width, cursor);
+            let value = left.value;
+            put_value(block, count, value);
+            let next = start + width;
+            let middle = left.cursor;
+            let right = spine(
+                text,
+                nodes,
+                kept_size,
+                kept,
+                tree_size,
+                next,
+                middle,
+                block,
+                count + 1,
+            );
+            joined(kept_size, kept, start, width, left, tree_size - next, right)
+        }
+    }
+}
+
+// The same walk for where it ends alone.
+pub(crate) fn spine_end(
+    text: &[u8],
+    kept_size: u64,
+    tree_size: u64,
+    start: u64,
+    cursor: WalkCursor,
+) -> WalkCursor
+    requires { Tail tree_size start × Ready text.now kept_size start cursor
+        × (kept_size ≤ tree_size) }
+    ensures { result ≡ end_on text.now (known_in text.now kept_size [])
+        cursor.node (range start (tree_size - start)) }
+{
+    let width = power(tree_size - start);
+    let shown = cursor.is_before(tree_size);
+    match edge_at(kept_size, tree_size, start, width, shown) {
+        Edge::Block => subtree_end(text, kept_size, start, width, cursor),
+        Edge::Node => cursor.past_node(),
+        Edge::Cut => {
+            let middle = subtree_end(text, kept_size, start, width, cursor);
+            spine_end(text, kept_size, tree_size, start + width, middle)
+        }
+    }
+}
