@@ -18,16 +18,20 @@ use Rattle.lines.specs.Line.{Read, read_line}
 use Rattle.lines.specs.Cursor.{field_at, fields_from, read_at, word_at}
 use Rattle.lines.specs.Readings.{part_of}
 use Rattle.std.specs.Prelude.{MatchOption, Some, None, Option as CodeOption}
+use Rattle.std.specs.Bool.{then_some}
 use Rattle.lines.specs.declared.part.Part.{Part}
 use Rattle.lines.proofs.FormLaws.{word_form, word_on, word-off, line_on, line-off, field-on, field_off}
 use Rattle.lines.proofs.FormLaws.{field-given, with_rest, here-read, read-form, words-over, read-ended}
 use Rattle.lines.proofs.FormLaws.{read-number-on, bytes_fit, bytes-unfit}
 use Rattle.lines.proofs.NumberLaws.{decimal_read}
 use Rattle.rules.specs.Response.{Kind, search}
+use Rattle.rules.specs.Limits.{number_bound, version_bound, opening_length, value_limit}
+use Rattle.rules.specs.ResponseText.{version_field, head_form, target_form}
 use Rattle.rules.specs.ResponseText.{kind_word, kt_form, read_kind_line}
 use Rattle.rules.specs.ResponseText.{step_form, entry_form, in_form, no_form, nl_form, node_form, read_step}
 use Rattle.rules.specs.ResponseText.{read_entry_line, read_in, read_no, read_nl, read_node}
-use Rattle.inputs.specs.ResponseLines.{number_after, decoded, last_bytes_of, Decodes, StandsIn}
+use Rattle.inputs.specs.ResponseLines.{number_after, decoded, head_of, last_bytes_of, last_parts_of, Decodes}
+use Rattle.inputs.specs.ResponseLines.{StandsIn}
 
 -- ---- forms, parts and kinds
 
@@ -66,9 +70,27 @@ module _ (l : Bytes) where
         let (at, p, q) = bind_some (word_at w l 0) (read_at (read_number bound) l) (v, next) e in
         ap is_some (line_on l w (number bound ∷ fs) at p) ∙ field-given l (number bound) fs at v next (read-number-on l bound at ∙ q)
 
+  -- a `head` line is its word and a number
+  pub head-alone : (v next : ℕ) → number_after (ascii "head") number_bound l ≡ some (v, next)
+      → read_line head_form l ≡ head_of (then_some (ltb (length l) next) v)
+  unfolding bind provided
+  head-alone v next e = number-on (ascii "head") number_bound [] v next e ∙ ap (with_rest (number number_bound) [] v) (read-ended l next) ∙ go (ltb (length l) next)
+    where
+      go : (t : Bool) → with_rest (number number_bound) [] v (provided t tt) ≡ head_of (then_some t v)
+      go true = refl
+      go false = refl
+
+  -- a `target` line is its word, a version and two parts
+  pub target-parts : (v next : ℕ) → number_after (ascii "target") version_bound l ≡ some (v, next)
+      → (r : CodeOption (Part × Part)) → last_parts_of l r ≡ read_fields (exactly opening_length ∷ up_to value_limit ∷ []) (fields_from l next)
+      → read_line target_form l ≡ with_rest version_field (exactly opening_length ∷ up_to value_limit ∷ []) v (last_parts_of l r)
+  target-parts v next e r h =
+      let rest = exactly opening_length ∷ up_to value_limit ∷ [] in
+      number-on (ascii "target") version_bound rest v next e ∙ ap (with_rest version_field rest v) (sym h)
+
   -- the number after a word is not above its bound
-  pub number_bound : (w : Bytes) (bound v next : ℕ) → number_after w bound l ≡ some (v, next) → v ≤ bound
-  number_bound w bound v next e =
+  pub number-below : (w : Bytes) (bound v next : ℕ) → number_after w bound l ≡ some (v, next) → v ≤ bound
+  number-below w bound v next e =
       let (at, p, q) = bind_some (word_at w l 0) (read_at (read_number bound) l) (v, next) e in
       (decimal_read bound (field_at l at) v (here-read l (read_number bound) at v next q).1).1
 
