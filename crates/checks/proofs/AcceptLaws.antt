@@ -1,15 +1,17 @@
 -- Laws of acceptance and of refusal 16 (specs/Calls.antt): what each kind finds and its new map,
 -- and then, for either kind, the answer and what stands in the output bytes.
 use mathlib.Core.Path.{◌≡◌, refl, sym, ap, ap₂, subst, ◌∙◌}
-use mathlib.Core.Bool.{Bool, true, false, ◌||◌, or-true}
+use mathlib.Core.Bool.{Bool, true, false, ◌||◌, or-true, false≢true}
 use mathlib.Core.List.{List, []}
 use mathlib.Core.Option
-use mathlib.Core.Option.{Option, none, some, Option-elim, get_or}
+use mathlib.Core.Option.{Option, none, some, Option-elim, get_or, some-injective}
 use Prim.Native.Nat.{ℕ, ◌≤◌, ◌<◌}
 use native.Mathlib.Omega.{arith}
 use lib.Dec.{leb, ltb}
 use lib.ListN.{length, take, length-take}
 use borrow.Author.Tests.{le-leb, lt-ltb, le-ltb, leb-true, leb-false}
+use Rattle.std.specs.Prelude.{Option as CodeOption, Some, None, Ok, Err, Result, is_ok}
+use Rattle.std.specs.Result.{result_unwrap_or}
 use Rattle.lists.specs.Choice.{choose, is_some}
 use Rattle.lists.specs.Lists.{Bytes, written}
 use Rattle.lines.specs.Hex.{read_hex}
@@ -30,17 +32,20 @@ use Rattle.inputs.specs.declared.response_lines.Kind.{Kind}
 use Rattle.inputs.specs.declared.response_lines.Kind.TheVariants.{Search, Monitor}
 use Rattle.inputs.specs.declared.state.MonitoringMap.{MonitoringMap}
 use Rattle.inputs.specs.declared.state.State.{State as StateBlock}
+use Rattle.inputs.specs.declared.refusal.Refusal.{Refusal}
+use Rattle.inputs.specs.declared.refusal.Refusal.TheVariants.{Room}
+use Rattle.inputs.specs.Refusal.{refusal_number}
 use Rattle.inputs.specs.Response.{parts_in}
 use Rattle.inputs.specs.State.{block_of, contents, map_in}
 use Rattle.inputs.proofs.FrontLaws.{offset-fits, offset-over}
 use Rattle.inputs.proofs.PairLaws.{pairs_few}
 use Rattle.checks.specs.declared.readings.Call.{Call as CallBlock}
 use Rattle.checks.specs.declared.trial.Checked.{Checked}
-use Rattle.checks.specs.declared.call.Answer.{Answer}
-use Rattle.checks.specs.declared.map.NewMap.{NewMap}
-use Rattle.checks.specs.Map.{IsMap, Holds, HasPair, HoldsAll, IsNewMap, pairs_in, put_version}
-use Rattle.checks.specs.Calls.{block_after, version_of, answer_of, rules16, IsFirst, value_by, is_search}
-use Rattle.checks.specs.Calls.{version_by}
+use Rattle.checks.specs.declared.call.Accepted.{Accepted}
+use Rattle.checks.specs.declared.call.Found.{Found}
+use Rattle.checks.specs.Map.{IsMap, Holds, HoldsIfRoom, IsNewMap, pairs_in, put_version}
+use Rattle.checks.specs.Calls.{block_after, version_of, answer_of, refused_answer, accepted_answer, answer_from}
+use Rattle.checks.specs.Calls.{rules16, IsFirst, value_by, found_by}
 use Rattle.checks.specs.Calls.{Accepting, IsAcceptedAnswer, AreAcceptedBytes}
 use Rattle.checks.proofs.TargetLaws.{target_in, call-found, value-decoded, nothing-found}
 use Rattle.checks.proofs.StateStructLaws.{stands_for, Struct, made, made_next}
@@ -59,13 +64,9 @@ room_passed c e = rw e refl
 
 -- ---- the answer
 
--- a refusal: the state as given, and no value
-abbrev pub refusal : ℕ → StateBlock → Answer
-refusal k b = record { number = k; state = b; found = false; version = 0; length = 0 }
-
 -- it is the answer of a refused call
 pub answer_refused : (b : StateBlock) (j : Judgement) (k : ℕ) → j ≡ refused k
-    → refusal k b ≡ answer_of b j
+    → refused_answer k b ≡ answer_of b j
 unfolding answer_of number_of block_after version_of value_of is_some get_or
 answer_refused b j k e = rw e refl
 
@@ -101,6 +102,16 @@ bytes_passed s c j e = rw e (bytes_found_lem s (value_found c))
 
 -- ---- what a kind finds
 
+-- whether a version is found
+abbrev is_search : Kind → Bool
+is_search Search = true
+is_search Monitor = false
+
+-- and which one; 0 where there is none
+abbrev version_by : Kind → ℕ → ℕ
+version_by Search version = version
+version_by Monitor version = 0
+
 -- the value that is put, whether there is one, and its version
 record Finds (kind : Kind) (field : Bytes) (number : ℕ) (c : Call) : Type 0 where
   value : value_by kind field ≡ some (bytes_found c)
@@ -120,36 +131,86 @@ monitoring_finds : (c : Call) → c.parts.finding ≡ monitored → (field : Byt
 unfolding value_found target_of version_of Option.map get_or Option-elim is_some
 monitoring_finds c f field number = record { value = rw f refl; found = rw f refl; version = rw f refl }
 
--- ---- what is put to the output bytes
+-- ---- what is written to the output bytes
 
-module _ (kind : Kind) (field out : Bytes) where
-  -- the offset after the value, and the bytes then
-  abbrev Puts : Option ℕ → Bytes → Type 0
-  Puts o out' = (o ≡ offset_after_any out 0 (value_by kind field)) × (out' ≡ put_any out 0 (value_by kind field))
+module _ (kind : Kind) (version : ℕ) (field out : Bytes) where
+  -- what is found, and the bytes then
+  abbrev Puts : Result (CodeOption Found) Refusal → Bytes → Type 0
+  Puts r out' =
+      (r ≡ found_by kind version (offset_after_any out 0 (value_by kind field)))
+      × (out' ≡ put_any out 0 (value_by kind field))
 
   -- of a search, what its field encodes
   pub search-put : kind ≡ Search → (o : Option ℕ) (out' : Bytes)
-      → (o ≡ offset_after_any out 0 (read_hex field)) × (out' ≡ put_any out 0 (read_hex field)) → Puts o out'
-  search-put e o out' h = rw e h
+      → (o ≡ offset_after_any out 0 (read_hex field)) → (out' ≡ put_any out 0 (read_hex field))
+      → (r : Result (CodeOption Found) Refusal) → r ≡ found_by Search version o → Puts r out'
+  search-put e o out' h w r q = rw e (q ∙ ap (found_by Search version) h, w)
 
   -- of monitoring nothing
-  pub nothing_put : kind ≡ Monitor → Puts (some 0) out
+  pub nothing_put : kind ≡ Monitor → Puts (Ok None) out
+  unfolding found_by
   nothing_put e =
       let (p, w) = put_some out 0 (value_by Monitor field) [] refl in
       let (q, v) = put_fits out 0 [] (omega arith) in
-      rw e (sym (p ∙ q), sym (w ∙ v ∙ written_nil out 0 (omega arith)))
+      let o : offset_after_any out 0 (value_by Monitor field) ≡ some 0 = p ∙ q in
+      rw e (sym (ap (found_by Monitor version) o), sym (w ∙ v ∙ written_nil out 0 (omega arith)))
+
+-- what a kind finds, where something was written up to an offset
+abbrev found_as : Kind → ℕ → ℕ → CodeOption Found
+found_as Search version n = Some (record { version = version; length = n })
+found_as Monitor version n = None
+
+-- it is found where there was room
+found_was : (kind : Kind) (version : ℕ) (o : Option ℕ) (f : CodeOption Found) → Ok f ≡ found_by kind version o
+    → (n : ℕ) × (o ≡ some n) × (f ≡ found_as kind version n)
+unfolding found_by
+found_was kind version none f e = absurd (false≢true (sym (ap is_ok e)))
+found_was Search version (some n) f e = (n, refl, ap (λ (r : Result (CodeOption Found) Refusal). result_unwrap_or r f) e)
+found_was Monitor version (some n) f e = (n, refl, ap (λ (r : Result (CodeOption Found) Refusal). result_unwrap_or r f) e)
+
+-- and else 16 is the answer
+found_lacks : (kind : Kind) (version : ℕ) (o : Option ℕ) (e : Refusal)
+    → ◌≡◌ {A = Result (CodeOption Found) Refusal} (Err e) (found_by kind version o) → (o ≡ none) × (e ≡ Room)
+unfolding found_by
+found_lacks kind version none e q = (refl, ap (λ (r : Result (CodeOption Found) Refusal). error_or e r) q)
+  where
+    error_or : Refusal → Result (CodeOption Found) Refusal → Refusal
+    error_or d (Ok f) = d
+    error_or d (Err x) = x
+found_lacks Search version (some n) e q = absurd (false≢true (ap is_ok q))
+found_lacks Monitor version (some n) e q = absurd (false≢true (ap is_ok q))
+
+-- the answer, with what a kind finds
+answer_found : (kind : Kind) (version n : ℕ) (new : StateBlock) → (kind ≡ Monitor → n ≡ 0)
+    → accepted_answer new (found_as kind version n)
+    ≡ record { number = 0; state = new; found = is_search kind; version = version_by kind version; length = n }
+answer_found Search version n new h = refl
+answer_found Monitor version n new h = rw (h refl) refl
 
 -- ---- the new map
 
-module _ (kind : Kind) (n : ℕ) (m : MonitoringMap) (position version : ℕ) (r : NewMap) where
+module _ (kind : Kind) (n : ℕ) (m : MonitoringMap) (position version : ℕ) where
   -- of a search, with its pair
-  pub search-new : kind ≡ Search → HasPair m position version r → IsNewMap kind n m position version r
-  search-new e h = rw e h
+  pub search-new : (r : CodeOption MonitoringMap) → kind ≡ Search → HoldsIfRoom (put_version position version (pairs_in m)) r
+      → IsNewMap kind n m position version r
+  search-new r e h = rw e h
 
   -- of monitoring, moved
-  pub monitoring-new : kind ≡ Monitor → HoldsAll (map_after_monitoring n (pairs_in m)) r
-      → IsNewMap kind n m position version r
-  monitoring-new e h = rw e h
+  pub monitoring-new : (r : MonitoringMap) → IsMap m → kind ≡ Monitor
+      → Holds (map_after_monitoring n (pairs_in m)) r → IsNewMap kind n m position version (Some r)
+  monitoring-new r x e h = rw e (few, h)
+    where
+      few : length (map_after_monitoring n (pairs_in m)) ≤ map_limit
+      few =
+          let ps = take m.count m.positions in
+          let vs = take m.count m.versions in
+          omega (
+            arith,
+            x.few,
+            monitored_length n (pairs_in m),
+            pairs_few ps vs,
+            length-take m.count m.positions,
+          )
 
 -- ---- a call to which none of 1 to 15 applies
 
@@ -196,140 +257,117 @@ module _ (text : Bytes) (k : CallBlock) (b : StateBlock) (r : Checked) (block : 
         monitoring_map_lem c (nothing-found text k.response e c g.parts)
         ∙ ap₂ map_after_monitoring (ap (λ (p : Parts). p.tree_size) g.parts) call-pairs
 
-    -- they have room
-    moved-few : IsMap b.map → k.response.kind ≡ Monitor → length (map_after c) ≤ map_limit
-    moved-few h e =
-        let ps = take b.map.count b.map.positions in
-        let vs = take b.map.count b.map.versions in
-        omega (
-          arith,
-          h.few,
-          ap length (map-moved e),
-          monitored_length k.response.tree_size (pairs_in b.map),
-          pairs_few ps vs,
-          length-take b.map.count b.map.positions,
-        )
-
-    -- whether there is room for the new map, and what holds it
-    new-map : (kind : Kind) → k.response.kind ≡ kind → IsMap b.map → (m : NewMap)
-        → IsNewMap kind k.response.tree_size b.map r.position number m
-        → (m.fits ≡ leb (length (map_after c)) map_limit) × (m.fits ≡ true → Holds (map_after c) m.map)
-    new-map Search e h m n =
-        subst (λ (es : List MapEntry). (m.fits ≡ leb (length es) map_limit) × (m.fits ≡ true → Holds es m.map))
-        (sym (map-put e)) n
-    new-map Monitor e h m (f, n) = (
-      f ∙ sym (le-leb (length (map_after c)) map_limit (moved-few h e)),
-      λ _. subst (λ (es : List MapEntry). Holds es m.map) (sym (map-moved e)) n,
-    )
+    -- the new map holds them, if it has room
+    new-map : (kind : Kind) → k.response.kind ≡ kind → (m : CodeOption MonitoringMap)
+        → IsNewMap kind k.response.tree_size b.map r.position number m → HoldsIfRoom (map_after c) m
+    new-map Search e m n = subst (λ (es : List MapEntry). HoldsIfRoom es m) (sym (map-put e)) n
+    new-map Monitor e m n = subst (λ (es : List MapEntry). HoldsIfRoom es m) (sym (map-moved e)) n
 
   -- ---- the ways out
 
-  module _ (x : Struct b) (m : NewMap)
-      (h : IsNewMap k.response.kind k.response.tree_size b.map r.position number m)
-      (out : Bytes)
-    where
-      -- the answer, and the output bytes
-      abbrev Answers : Answer → Bytes → Type 0
-      Answers a out' =
-          IsAcceptedAnswer text k b r block (length out) a × AreAcceptedBytes text k b r block out out'
+  module _ (x : Struct b) (out : Bytes) where
+    -- the answer, and the output bytes
+    abbrev Answers : Result Accepted Refusal → Bytes → Type 0
+    Answers a out' =
+        IsAcceptedAnswer text k b r block (length out) a × AreAcceptedBytes text k b r block out out'
 
-      -- room for the map
-      map-room : (c : Call) → Passes (length out) c → m.fits ≡ leb (length (map_after c)) map_limit
-      map-room c g = (new-map c (length out) g k.response.kind refl x.is_map m h).0
+    -- 16 is the answer
+    sixteen : (out' : Bytes) → ((c : Call) → Passes (length out) c → out' ≡ out)
+        → ((c : Call) → Passes (length out) c → room_missing c ≡ true) → Answers (Err Room) out'
+    unfolding answer_from
+    sixteen out' w e = (
+      λ c g. answer_refused b (tried rules16 c) 16 (room_refused c (e c g)),
+      λ c g. w c g ∙ bytes_refused out (tried rules16 c) 16 (room_refused c (e c g)),
+    )
 
-      -- 16 is the answer
-      sixteen : (a : Answer) (out' : Bytes)
-          → a ≡ refusal 16 b
-          → ((c : Call) → Passes (length out) c → out' ≡ out)
-          → ((c : Call) → Passes (length out) c → room_missing c ≡ true) → Answers a out'
-      sixteen a out' q w e = (
-        λ c g. q ∙ answer_refused b (tried rules16 c) 16 (room_refused c (e c g)),
-        λ c g. w c g ∙ bytes_refused out (tried rules16 c) 16 (room_refused c (e c g)),
-      )
+    -- the map has no room for one pair more
+    pub map-full : IsNewMap k.response.kind k.response.tree_size b.map r.position number None
+        → Answers (Err Room) out
+    unfolding room_missing
+    map-full h = sixteen out (λ c g. refl) λ c g.
+        rw (lt-ltb map_limit (length (map_after c)) (new-map c (length out) g k.response.kind refl None h))
+        (or-true (ltb c.inputs.room (length (bytes_found c))))
 
-      -- the map has no room for one pair more
-      pub map-full : m.fits ≡ false → (a : Answer)
-          → a ≡ refusal 16 b
-          → Answers a out
-      unfolding room_missing
-      map-full f a q = sixteen a out q (λ c g. refl) λ c g.
-          let n = leb-false (length (map_after c)) map_limit (sym (map-room c g) ∙ f) in
-          rw (lt-ltb map_limit (length (map_after c)) n)
-          (or-true (ltb c.inputs.room (length (bytes_found c))))
+    module _ (f : Bytes) (is_field : f ≡ field) (out' : Bytes)
+        (w : out' ≡ put_any out 0 (value_by k.response.kind f))
+      where
+        -- the offset after what is written
+        abbrev o : Option ℕ
+        o = offset_after_any out 0 (value_by k.response.kind f)
 
-      module _ (f : Bytes) (is_field : f ≡ field) (out' : Bytes) (o : Option ℕ)
-          (p : o ≡ offset_after_any out 0 (value_by k.response.kind f))
-          (w : out' ≡ put_any out 0 (value_by k.response.kind f))
-        where
-          -- what is found is put
-          found-put : (c : Call) → Passes (length out) c
-              → (o ≡ offset_after out 0 (bytes_found c)) × (out' ≡ put_at out 0 (bytes_found c))
-          found-put c g =
-              let (a, d) = put_some out 0 (value_by k.response.kind f) (bytes_found c)
-              (ap (value_by k.response.kind) is_field ∙ (finds c (length out) g k.response.kind refl).value) in
-              (p ∙ a, w ∙ d)
+        -- what is found is put
+        found-put : (c : Call) → Passes (length out) c
+            → (o ≡ offset_after out 0 (bytes_found c)) × (out' ≡ put_at out 0 (bytes_found c))
+        found-put c g =
+            let (a, d) = put_some out 0 (value_by k.response.kind f) (bytes_found c)
+            (ap (value_by k.response.kind) is_field ∙ (finds c (length out) g k.response.kind refl).value) in
+            (a, w ∙ d)
 
-          -- the output bytes are too few
-          pub output-full : o ≡ none → (a : Answer)
-              → a ≡ refusal 16 b
-              → Answers a out'
-          unfolding room_missing
-          output-full e a q = sixteen a out' q
-              (λ c g. (found-put c g).1 ∙ (put_over out 0 (bytes_found c) (omega (arith, over c g))).1)
-              (λ c g. rw (lt-ltb c.inputs.room (length (bytes_found c)) (omega (arith, g.is_room, over c g))) refl)
-            where
-              over : (c : Call) → Passes (length out) c → length out < length (bytes_found c)
-              over c g = offset-over out (bytes_found c) (sym (found-put c g).0 ∙ e)
+        -- the output bytes are too few
+        pub output-full : (e : Refusal) → Err e ≡ found_by k.response.kind number o → Answers (Err e) out'
+        unfolding room_missing
+        output-full e q =
+            let (lacks, is_room) = found_lacks k.response.kind number o e q in
+            rw is_room
+            (sixteen out'
+            (λ c g. (found-put c g).1 ∙ (put_over out 0 (bytes_found c) (omega (arith, over lacks c g))).1)
+            (λ c g. rw (lt-ltb c.inputs.room (length (bytes_found c)) (omega (arith, g.is_room, over lacks c g))) refl))
+          where
+            over : o ≡ none → (c : Call) → Passes (length out) c → length out < length (bytes_found c)
+            over e c g = offset-over out (bytes_found c) (sym (found-put c g).0 ∙ e)
 
-          -- there is room for both: the call is accepted
-          pub both-fit : m.fits ≡ true → (n : ℕ) → o ≡ some n → (found : Bool)
-              → found ≡ is_search k.response.kind
-              → (version : ℕ) → version ≡ version_by k.response.kind number
-              → Answers
-              (record {
-                number = 0;
-                state = made b k.response.tree_size r.timestamp block m.map;
-                found = found;
-                version = version;
-                length = n;
-              })
-              out'
-          unfolding room_missing parts_in
-          both-fit y n e found is_found version is_version = (λ c g. answer c g, λ c g. bytes c g)
-            where
-              fits : (c : Call) → Passes (length out) c
-                  → (length (bytes_found c) ≤ length out) × (length (bytes_found c) ≡ n)
-              fits c g = offset-fits out (bytes_found c) n (sym (found-put c g).0 ∙ e)
+        -- there is room for both: the call is accepted
+        pub both-fit : (m : MonitoringMap)
+            → IsNewMap k.response.kind k.response.tree_size b.map r.position number (Some m)
+            → (found : CodeOption Found) → Ok found ≡ found_by k.response.kind number o
+            → Answers (Ok (record { state = made b k.response.tree_size r.timestamp block m; found = found })) out'
+        unfolding room_missing parts_in answer_from
+        both-fit m h found q = (λ c g. answer c g, λ c g. bytes c g)
+          where
+            n : ℕ
+            n = (found_was k.response.kind number o found q).0
 
-              go : (c : Call) → Passes (length out) c → tried rules16 c ≡ passed c
-              go c g =
-                  let l = leb-true (length (map_after c)) map_limit (sym (map-room c g) ∙ y) in
-                  room_passed c (ap₂ ◌||◌
-                  (le-ltb c.inputs.room (length (bytes_found c)) (omega (arith, g.is_room, (fits c g).0)))
-                  (le-ltb map_limit (length (map_after c)) l))
+            e : o ≡ some n
+            e = (found_was k.response.kind number o found q).1
 
-              answer : (c : Call) → Passes (length out) c
-                  → record {
-                    number = 0;
-                    state = made b k.response.tree_size r.timestamp block m.map;
-                    found = found;
-                    version = version;
-                    length = n;
-                  }
-                  ≡ answer_of b (tried rules16 c)
-              answer c g =
-                  let z = finds c (length out) g k.response.kind refl in
-                  let held = (new-map c (length out) g k.response.kind refl x.is_map m h).1 y in
-                  let size : k.response.tree_size ≡ c.parts.tree_size =
-                  sym (ap (λ (p : Parts). p.tree_size) g.parts) in
-                  answer_passed b c (tried rules16 c)
-                  (made b k.response.tree_size r.timestamp block m.map) found version n (go c g)
-                  (made_next b k.response.tree_size r.timestamp block m.map c
-                  (x.is_struct c.state g.state) size
-                  g.leaves.timestamp g.leaves.values held)
-                  (is_found ∙ z.found) (is_version ∙ z.version) (sym (fits c g).1)
+            fits : (c : Call) → Passes (length out) c
+                → (length (bytes_found c) ≤ length out) × (length (bytes_found c) ≡ n)
+            fits c g = offset-fits out (bytes_found c) n (sym (found-put c g).0 ∙ e)
 
-              bytes : (c : Call) → Passes (length out) c → out' ≡ output_after out (tried rules16 c)
-              bytes c g =
-                  (found-put c g).1 ∙ (put_fits out 0 (bytes_found c) (omega (arith, (fits c g).0))).1
-                  ∙ bytes_passed out c (tried rules16 c) (go c g)
+            go : (c : Call) → Passes (length out) c → tried rules16 c ≡ passed c
+            go c g =
+                let l = (new-map c (length out) g k.response.kind refl (Some m) h).0 in
+                room_passed c (ap₂ ◌||◌
+                (le-ltb c.inputs.room (length (bytes_found c)) (omega (arith, g.is_room, (fits c g).0)))
+                (le-ltb map_limit (length (map_after c)) l))
+
+            -- of monitoring nothing is written
+            nothing : (c : Call) → Passes (length out) c → k.response.kind ≡ Monitor → n ≡ 0
+            nothing c g h =
+                let v : value_by Monitor field ≡ some (bytes_found c) =
+                subst (λ (x : Kind). value_by x field ≡ some (bytes_found c)) h
+                (finds c (length out) g k.response.kind refl).value in
+                sym (fits c g).1 ∙ ap length (some-injective _ _ (sym v))
+
+            answer : (c : Call) → Passes (length out) c
+                → accepted_answer (made b k.response.tree_size r.timestamp block m) found
+                ≡ answer_of b (tried rules16 c)
+            answer c g =
+                let z = finds c (length out) g k.response.kind refl in
+                let held = (new-map c (length out) g k.response.kind refl (Some m) h).1 in
+                let size : k.response.tree_size ≡ c.parts.tree_size =
+                sym (ap (λ (p : Parts). p.tree_size) g.parts) in
+                let new = made b k.response.tree_size r.timestamp block m in
+                ap (accepted_answer new) (found_was k.response.kind number o found q).2
+                ∙ answer_found k.response.kind number n new (nothing c g)
+                ∙ answer_passed b c (tried rules16 c) new (is_search k.response.kind)
+                (version_by k.response.kind number) n (go c g)
+                (made_next b k.response.tree_size r.timestamp block m c
+                (x.is_struct c.state g.state) size
+                g.leaves.timestamp g.leaves.values held)
+                z.found z.version (sym (fits c g).1)
+
+            bytes : (c : Call) → Passes (length out) c → out' ≡ output_after out (tried rules16 c)
+            bytes c g =
+                (found-put c g).1 ∙ (put_fits out 0 (bytes_found c) (omega (arith, (fits c g).0))).1
+                ∙ bytes_passed out c (tried rules16 c) (go c g)

@@ -15,53 +15,23 @@ use Rattle.rules.proofs.NextStateLaws.{state_valid}
 use Rattle.inputs.specs.declared.state.State.{State as StateBlock}
 use Rattle.inputs.specs.State.{state_of}
 use Rattle.inputs.proofs.StateBlockLaws.{block_state}
-use Rattle.checks.specs.declared.call.AskedKind.{AskedKind}
-use Rattle.checks.specs.declared.call.Answer.{Answer}
-use Rattle.checks.specs.declared.readings.Call.{Call as CallBlock}
-use Rattle.checks.specs.declared.readings.ReadCall.TheVariants.{Read, Refused}
-use Rattle.checks.specs.Calls.{asked_kind, arguments_of, block_after, answer_of, IsReading, IsReadAnswer}
-use Rattle.checks.specs.Calls.{AreReadBytes}
-use Rattle.checks.proofs.AcceptLaws.{refusal, answer_refused, bytes_refused}
-use Rattle.checks.proofs.ReadingsLaws.{reading-refused, reading-tried}
+use Rattle.std.specs.Prelude.{Ok, Err, Result, MatchResult, IsErrAnd}
+use Rattle.inputs.specs.declared.refusal.Refusal.{Refusal}
+use Rattle.inputs.specs.declared.state.Refused.{Refused}
+use Rattle.checks.specs.declared.call.Accepted.{Accepted}
+use Rattle.checks.specs.Calls.{block_after, answer_of, answer_in, answer_from}
 
 -- ---- the answer
 
-module _
-    (asked : AskedKind) (response configuration : Bytes) (b : StateBlock) (identifier : Bytes) (clock : ℕ)
-    (outputs signed output : Bytes)
-  where
-    -- what the rules say of it
-    abbrev judged : Judgement
-    judged =
-        judge_call (asked_kind asked) (state_of b)
-        (arguments_of response configuration identifier clock outputs) signed (length output)
-
-    -- what is answered, and what stands in the output bytes
-    abbrev Answers : Answer → Bytes → Type 0
-    Answers a output' = (a ≡ answer_of b judged) × (output' ≡ output_after output judged)
-
-    -- 1 to 5: refused while it was read
-    pub call-refused : (n : ℕ) (a : Answer)
-        → IsReading response_limit (state_of b) response configuration identifier clock outputs signed
-        (Refused n)
-        → a ≡ refusal n b → Answers a output
-    call-refused n a h q =
-        let e =
-        reading-refused (state_of b) (asked_kind asked) response configuration identifier clock outputs signed
-        (length output) n h in
-        (q ∙ answer_refused b judged n e, bytes_refused output judged n e)
-
-    -- all others: it is tried
-    pub call_read : (k : CallBlock) (a : Answer) (output' : Bytes)
-        → IsReading response_limit (state_of b) response configuration identifier clock outputs signed (Read k)
-        → IsReadAnswer asked response k configuration b identifier outputs signed (length output) a
-        → AreReadBytes asked response k configuration b identifier outputs signed output output'
-        → Answers a output'
-    call_read k a output' h x y =
-        let (c, e, i) =
-        reading-tried (state_of b) (asked_kind asked) response configuration identifier clock outputs signed
-        (length output) k h in
-        (x response_limit c i ∙ ap (answer_of b) (sym e), y response_limit c i ∙ ap (output_after output) (sym e))
+-- a call that is given its state gives it back with a refusal
+pub given_back : (b : StateBlock) (r : Result Accepted Refusal) (r' : Result Accepted Refused)
+    (Learnt : Refusal → Refused → Type 0)
+    → ((e : Refusal) (x : Refused) → Learnt e x → x ≡ record { refusal = e; state = b })
+    → MatchResult r (λ a. r' ≡ Ok a) (λ e. IsErrAnd r' (Learnt e)) → answer_in r' ≡ answer_from b r
+unfolding answer_in answer_from
+given_back b (Ok a) r' Learnt f h = rw h refl
+given_back b (Err e) (Ok a) Learnt f h = absurd h
+given_back b (Err e) (Err x) Learnt f h = rw (f e x h) refl
 
 -- ---- what comes back
 

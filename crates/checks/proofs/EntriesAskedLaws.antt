@@ -1,14 +1,15 @@
 -- Laws of the entries of a response, one after the other (src/entries.rt): what is asked of them,
 -- their times, the pairs marked for them.
 use mathlib.Core.Path.{◌≡◌, refl, sym, ◌∙◌, ap}
-use mathlib.Core.Bool.{Bool, true, false, ◌&&◌, false≢true}
+use mathlib.Core.Bool.{Bool, true, false, ◌&&◌}
 use mathlib.Core.List.{List, [], ◌∷◌}
 use Prim.Native.Nat.{ℕ, ◌+◌, ◌-◌, ◌≤◌, ◌<◌}
 use native.Mathlib.Omega.{arith}
 use lib.Dec.{eqb}
 use lib.ListN.{length, drop}
 use borrow.Author.Tests.{eq-eqb, ne_eqb, eqb-true, eqb-false}
-use Rattle.std.specs.Prelude.{Some}
+use Rattle.std.specs.Prelude.{Some, None, Option as CodeOption, is_some, IfSome}
+use Rattle.std.specs.Bool.{then_some}
 use Rattle.lists.specs.Lists.{Bytes}
 use Rattle.lines.specs.Layout.{entry_fields}
 use Rattle.tree.specs.LogTree.{LogEntry}
@@ -22,7 +23,6 @@ use Rattle.rules.specs.Refusals.{entries_asked}
 use Rattle.inputs.specs.Response.{entries_in, loose_in}
 use Rattle.inputs.specs.declared.response_lines.Kind.{Kind}
 use Rattle.checks.specs.declared.timestamps.Timestamps.{Timestamps}
-use Rattle.checks.specs.declared.entries.EntriesAsked.{EntriesAsked}
 use Rattle.checks.specs.Sections.{EntryLines, IsNextEntry, AfterLookups}
 use Rattle.checks.specs.Entries.{versions_of, are_asked, AreTimestamps, no_timestamps, timestamps_after}
 use Rattle.checks.specs.MonitoredVersions.{ArePairsAsked, AreMarks, IsMarkedBy, AreMarkedBy}
@@ -37,11 +37,10 @@ use Rattle.checks.proofs.GatheredLaws.{AreGathered, from_zero, marks_none, marks
 use Rattle.checks.proofs.GatheredLaws.{marks-unasked, marks-end}
 
 -- what is told of the entries of a text: whether they are as asked, their times, the pairs marked
-abbrev Told : Kind → Bytes → ℕ → ℕ → ℕ → List ℕ → List ℕ → List ℕ → EntriesAsked → List ℕ → Type 0
+abbrev Told : Kind → Bytes → ℕ → ℕ → ℕ → List ℕ → List ℕ → List ℕ → CodeOption Timestamps → List ℕ → Type 0
 Told kind s n size timestamp ladder ps vs r marks =
-    (r.asked ≡ are_asked kind ladder n ps vs (entries_in s))
-    × (AreTimestamps size timestamp (entries_in s) r.asked r.timestamps r.timestamp
-    × AreMarkedBy kind n ps vs r.asked marks)
+    (is_some r ≡ are_asked kind ladder n ps vs (entries_in s))
+    × (IfSome r (AreTimestamps size timestamp (entries_in s)) × AreMarkedBy kind n ps vs (is_some r) marks)
 
 -- some entries are as asked from a position on
 abbrev are_asked_from : Kind → List ℕ → ℕ → List ℕ → List ℕ → ℕ → List Entry → Bool
@@ -79,9 +78,8 @@ module _ (kind : Kind) (s : Bytes) (n size timestamp : ℕ) (ladder ps vs : List
 
   -- where entries are not as asked, no more is told of them
   unasked : (marks : List ℕ) → AreMarks marks vs → are_asked kind ladder n ps vs (entries_in s) ≡ false
-      → (r : EntriesAsked) → r.asked ≡ false → Told kind s n size timestamp ladder ps vs r marks
-  unasked marks m e r f =
-      (f ∙ sym e, (λ z. absurd (false≢true (sym f ∙ z)), marks-unasked n ps vs marks m kind r.asked f))
+      → Told kind s n size timestamp ladder ps vs None marks
+  unasked marks m e = (sym e, (tt, marks-unasked n ps vs marks m kind false refl))
 
   module _ (marks : List ℕ) (at x : ℕ) (t : Timestamps) (c : Followed kind s n size timestamp ladder ps vs marks at x t)
       (a : ℕ) (next : a ≡ next_from n (frontier_and_paths n ps) x) where
@@ -115,12 +113,18 @@ module _ (kind : Kind) (s : Bytes) (n size timestamp : ℕ) (ladder ps vs : List
 
       -- where none is left, all is known
       pub followed-end :
-          Told kind s n size timestamp ladder ps vs
-          (record { asked = eqb at (length s); timestamps = t.fit; timestamp = t.latest }) marks
-      followed-end =
-          let b = eqb at (length s) in
-          let timestamps = timestamps_all size timestamp (entries_in s) b t timestamps-end in
-          (sym asked-end, (timestamps, marks-end n ps vs marks c.marks kind b x none_left c.versions))
+          Told kind s n size timestamp ladder ps vs (then_some (eqb at (length s)) t) marks
+      followed-end = go (eqb at (length s)) refl
+        where
+          go : (b : Bool) → eqb at (length s) ≡ b → Told kind s n size timestamp ladder ps vs (then_some b t) marks
+          go true e = (
+            sym (asked-end ∙ e),
+            (
+              timestamps_all size timestamp (entries_in s) t (timestamps-end e),
+              marks-end n ps vs marks c.marks kind true x none_left c.versions,
+            ),
+          )
+          go false e = unasked marks c.marks (asked-end ∙ e)
 
     module _ (h : a < n) where
       -- the position wanted is the first of those left
@@ -135,7 +139,7 @@ module _ (kind : Kind) (s : Bytes) (n size timestamp : ℕ) (ladder ps vs : List
 
       -- the entry is not there
       pub followed-missing : entries_in (drop at s) ≡ []
-          → (r : EntriesAsked) → r.asked ≡ false → Told kind s n size timestamp ladder ps vs r marks
+          → Told kind s n size timestamp ladder ps vs None marks
       followed-missing e =
           let rest = listed_from (a + 1) (frontier_and_paths n ps) in
           unasked marks c.marks
@@ -162,7 +166,7 @@ module _ (kind : Kind) (s : Bytes) (n size timestamp : ℕ) (ladder ps vs : List
 
           -- it has another position
           pub followed-elsewhere : (p ≡ a → ⊥)
-              → (r : EntriesAsked) → r.asked ≡ false → Told kind s n size timestamp ladder ps vs r marks
+              → Told kind s n size timestamp ladder ps vs None marks
           followed-elsewhere d =
               let other = ne_eqb e.0.position a (λ q. d (position-read ∙ q)) in
               unasked marks c.marks (next-asked ∙ rw other refl)
@@ -176,7 +180,7 @@ module _ (kind : Kind) (s : Bytes) (n size timestamp : ℕ) (ladder ps vs : List
 
             -- it has other lookups
             pub followed-unasked : b ≡ false
-                → (r : EntriesAsked) → r.asked ≡ false → Told kind s n size timestamp ladder ps vs r marks'
+                → Told kind s n size timestamp ladder ps vs None marks'
             followed-unasked z =
                 unasked marks' (marks-next n ps vs marks c.marks a marks' kind m)
                 (next-asked ∙ rw (position-same, ← shown, z) refl)

@@ -1,11 +1,13 @@
 -- Laws of an entry as its kind asks for it (specs/MonitoredVersions.antt): the lookups, compared
 -- with the versions wanted and counted, and in monitoring the pair whose versions these are.
-use mathlib.Core.Path.{◌≡◌, refl, subst}
-use mathlib.Core.Bool.{Bool, ◌&&◌, and_comm}
+use mathlib.Core.Path.{◌≡◌, refl, sym, subst}
+use mathlib.Core.Bool.{Bool, true, false, ◌&&◌, and_comm}
 use mathlib.Core.List.{List, [], ◌∷◌}
 use Prim.Native.Nat.{ℕ}
 use lib.Dec.{eqb, ltb, eqb-suc-zero}
 use lib.ListN.{length, length-map}
+use Rattle.std.specs.Prelude.{Option as CodeOption, is_some, IfSome}
+use Rattle.std.specs.Bool.{then_some}
 use Rattle.lists.specs.Lists.{same, begins}
 use Rattle.lists.proofs.SameLaws.{begins_same}
 use Rattle.rules.specs.Response.{Lookup}
@@ -14,6 +16,17 @@ use Rattle.inputs.specs.declared.response_lines.Kind.{Kind}
 use Rattle.inputs.specs.declared.response_lines.Kind.TheVariants.{Search, Monitor}
 use Rattle.checks.specs.Entries.{versions_of}
 use Rattle.checks.specs.MonitoredVersions.{IsLargest, shown_at, wanted_by, fit_by, IsMarkedFor, IsMarkedBy}
+
+-- ---- an answer by a test
+
+-- where the test holds there is an answer, of which is known what is known of the value
+pub told_if : {A : Type 0} {r : CodeOption A} {b : Bool} {x : A} → r ≡ then_some b x → (P : A → Type 0) → P x
+    → (is_some r ≡ b) × IfSome r P
+told_if {A} {r} {b} {x} e P p = subst (λ (o : CodeOption A). (is_some o ≡ b) × IfSome o P) (sym e) (go b)
+  where
+    go : (b : Bool) → (is_some (then_some b x) ≡ b) × IfSome (then_some b x) P
+    go true = (refl, p)
+    go false = (refl, tt)
 
 -- ---- the lookups of monitoring
 

@@ -1,21 +1,24 @@
 -- Rules 12 and 13 of a call to which neither 9 nor 10 applies, from what is found of its lookups
 -- (src/lookups.rt).
 use mathlib.Core.Path.{◌≡◌, refl, sym, ◌∙◌, ap, subst}
-use mathlib.Core.Bool.{Bool, true, false, ◌&&◌, not}
+use mathlib.Core.Logic.{◌⊎◌, inl, inr}
+use mathlib.Core.Bool.{Bool, true, false, ◌&&◌, not, false≢true}
 use mathlib.Core.List.{List, []}
 use Prim.Native.Nat.{ℕ, ◌-◌, ◌≤◌}
 use native.Mathlib.Omega.{arith}
 use lib.ListN.{length, take, drop, length-take, length-drop}
 use borrow.Author.Tests.{not-false}
+use Rattle.std.specs.Prelude.{Some, None, Option as CodeOption, is_some as is_found, Result as CodeResult}
+use Rattle.std.specs.Option.{ok_or}
+use Rattle.std.specs.Bool.{then_some}
 use Rattle.lists.specs.Lists.{Bytes, all}
-use Rattle.lists.proofs.ChoiceLaws.{and_holds}
 use Rattle.hash.specs.Bytes.{padded}
 use Rattle.hash.proofs.BytesLaws.{filled_front}
 use Rattle.lines.specs.declared.part.Part.{Part}
 use Rattle.lines.specs.Readings.{part_of}
 use Rattle.tree.specs.Ladder.{ladder, ladder_within, ladder_capacity}
 use Rattle.tree.proofs.LadderFillLaws.{within_some}
-use Rattle.rules.specs.Limits.{greatest_version, vrf_outputs_limit}
+use Rattle.rules.specs.Limits.{greatest_version}
 use Rattle.rules.specs.Response.{monitored, Parts}
 use Rattle.rules.specs.Commitment.{commitment_to}
 use Rattle.rules.specs.Kinds.{KindRules}
@@ -25,16 +28,18 @@ use Rattle.rules.specs.Refusals.{Call, not_as_asked, output_missing, lookups_hol
 use Rattle.rules.proofs.KindLaws.{search-rules, monitoring-rules}
 use Rattle.inputs.specs.declared.response_lines.Kind.{Kind}
 use Rattle.inputs.specs.declared.response_lines.Kind.TheVariants.{Search, Monitor}
+use Rattle.inputs.specs.declared.refusal.Refusal.{Refusal}
+use Rattle.inputs.specs.declared.refusal.Refusal.TheVariants.{Ladder as LadderFails}
+use Rattle.inputs.specs.Refusal.{refusal_number, number_in}
 use Rattle.inputs.specs.ResponseLines.{decoded}
 use Rattle.inputs.specs.Response.{entries_in, loose_in, parts_in}
 use Rattle.checks.specs.declared.readings.Call.{Call as CallBlock}
-use Rattle.checks.specs.declared.lookups.Judged.{Judged}
-use Rattle.checks.specs.declared.lookups.Sought.{Sought}
+use Rattle.checks.specs.declared.sought.Sought.{Sought}
 use Rattle.checks.specs.declared.lookups.Results.{Results}
 use Rattle.checks.specs.Calls.{offset_bound, IsCall, steps_text, entries_text, number_tried, rules12and13}
-use Rattle.checks.specs.Calls.{TargetFits, Triable, IsFirst, IsJudged}
+use Rattle.checks.specs.Calls.{Tells, TargetFits, Triable, IsFirst, IsJudged}
 use Rattle.checks.specs.Sections.{EntryLines}
-use Rattle.checks.specs.Steps.{records_capacity, CommitmentsBy}
+use Rattle.checks.specs.Steps.{CommitmentsBy}
 use Rattle.checks.specs.Lookups.{IsSoughtOf, TriedWith, AreResults, judged_by}
 use Rattle.checks.proofs.TrialLaws.{number-first, number-next, number_none}
 use Rattle.checks.proofs.TargetLaws.{target_in, call-found, nothing-found}
@@ -50,16 +55,12 @@ part_short s p k h =
     omega (arith, h, length-take (p.stop - p.start) (drop p.start s), length-drop p.start s)
 
 -- the entries of a response that was read can be judged
-pub entries_ready : (text : Bytes) (k : CallBlock) (outputs : Bytes) (offsets : List ℕ)
-    → Triable text k outputs
-    → length offsets ≡ records_capacity → (s : Bytes) → s ≡ entries_text text k
-    → EntryLines s
-    × ((loose_in s ≡ [])
-    × ((length s ≤ offset_bound) × ((length outputs ≤ vrf_outputs_limit) × (length offsets ≡ records_capacity))))
-entries_ready text k outputs offsets h room s e =
+pub entries_ready : (text : Bytes) (k : CallBlock) (outputs : Bytes) → Triable text k outputs → (s : Bytes)
+    → s ≡ entries_text text k → EntryLines s × (loose_in s ≡ []) × (length s ≤ offset_bound)
+entries_ready text k outputs h s e =
     let f = h.offsets.3 in
     let l = part_short text k.response.entries.part offset_bound h.short in
-    (rw e f.entries, (rw e f.none_loose, (rw e l, (h.outputs, room))))
+    (rw e f.entries, rw e f.none_loose, rw e l)
 
 -- the target of a search has a possible version, and fields of possible lengths
 pub target_ready : (text : Bytes) (k : CallBlock) (outputs : Bytes) → Triable text k outputs
@@ -81,18 +82,24 @@ ladder_held t count vs (e, f) h =
 
 -- ---- the two rules
 
--- the number, and what is known where it is 0, from whether the rules apply
+-- lookups that reach their roots are judged by what they show
+pub judged_shown : (reached : Bool) (shown : CodeOption ℕ) → reached ≡ true
+    → ok_or shown LadderFails ≡ judged_by reached shown
+unfolding judged_by
+judged_shown reached None e = rw e refl
+judged_shown reached (Some p) e = rw e refl
+
+-- the answer, from whether the lookups reach their roots and the position that they show
 module _ (c : Call) (P : ℕ → Type 0) where
-  judged-tried : (reached fit : Bool) (position : ℕ) → lookup_fails c ≡ not reached → results_wrong c ≡ not fit
-      → (fit ≡ true → P position)
-      → ((judged_by reached fit position).number ≡ number_tried rules12and13 c)
-      × ((judged_by reached fit position).number ≡ 0 → P (judged_by reached fit position).position)
+  judged-tried : (reached : Bool) (shown : CodeOption ℕ) → lookup_fails c ≡ not reached
+      → results_wrong c ≡ not (is_found shown) → ((p : ℕ) → shown ≡ Some p → P p)
+      → Tells (judged_by reached shown) rules12and13 c P
   unfolding judged_by
-  judged-tried false fit position a b h = (number-first 12 lookup_fails _ c a, λ z. absurd (omega arith))
-  judged-tried true false position a b h =
-      (number-first 13 results_wrong _ c b ∙ number-next 12 lookup_fails _ c a, λ z. absurd (omega arith))
-  judged-tried true true position a b h =
-      (number_none c ∙ number-next 13 results_wrong _ c b ∙ number-next 12 lookup_fails _ c a, λ _. h refl)
+  judged-tried false shown a b h = (number-first 12 lookup_fails _ c a, tt)
+  judged-tried true None a b h =
+      (number-first 13 results_wrong _ c b ∙ number-next 12 lookup_fails _ c a, tt)
+  judged-tried true (Some p) a b h =
+      (number_none c ∙ number-next 13 results_wrong _ c b ∙ number-next 12 lookup_fails _ c a, h p refl)
 
 -- what lookups are tried for is what calls seek
 abbrev IsSoughtBy : Bytes → CallBlock → Bytes → Bytes → Sought → Type 0
@@ -100,24 +107,28 @@ IsSoughtBy text k label outputs s =
     (c : Call) → IsCall c k text outputs → c.parts.label ≡ label
     → IsSoughtOf s.kind c s.version s.commitment
 
-module _ (text : Bytes) (k : CallBlock) (label outputs : Bytes) (offsets : List ℕ) (s : Sought)
-    (entries steps : Bytes) (is_entries : entries ≡ entries_text text k) (is_steps : steps ≡ steps_text text k)
-    (versions : List ℕ) (r : Results) (h : AreResults s outputs steps offsets versions (entries_in entries) r) where
+module _ (text : Bytes) (k : CallBlock) (label : Bytes) (s : Sought) (entries : Bytes)
+    (is_entries : entries ≡ entries_text text k) (is_steps : s.steps.now ≡ steps_text text k)
+    (r : Results) (h : AreResults s (entries_in entries) r) where
   -- the entries of a call are those of its section
-  entries-given : (c : Call) → IsCall c k text outputs → c.parts.entries ≡ entries_in entries
+  entries-given : (c : Call) → IsCall c k text s.outputs.now → c.parts.entries ≡ entries_in entries
   unfolding parts_in
   entries-given c g = ap (λ (p : Parts). p.entries) g.parts ∙ ap entries_in (sym is_entries)
 
-  module _ (is_sought : IsSoughtBy text k label outputs s) where
+  -- what is answered
+  abbrev Judged : CodeResult ℕ Refusal → Type 0
+  Judged j = IsJudged text k label s.outputs.now s.offsets.now j
+
+  module _ (is_sought : IsSoughtBy text k label s.outputs.now s) where
     -- whether 12 applies
-    twelve-known : (c : Call) → IsCall c k text outputs → c.parts.label ≡ label → not_as_asked c ≡ false
+    twelve-known : (c : Call) → IsCall c k text s.outputs.now → c.parts.label ≡ label → not_as_asked c ≡ false
         → output_missing c ≡ false
-        → CommitmentsBy (steps_text text k) c.outputs offsets c.parts.steps
+        → CommitmentsBy (steps_text text k) c.outputs s.offsets.now c.parts.steps
         → lookup_fails c ≡ not r.reached
     unfolding lookup_fails output_missing
     twelve-known c g l n o stand =
         let shown = entries-given c g in
-        let w : TriedWith c s outputs steps offsets =
+        let w : TriedWith c s =
         record {
           sought = is_sought c g l;
           outputs = g.outputs;
@@ -127,76 +138,94 @@ module _ (text : Bytes) (k : CallBlock) (label outputs : Bytes) (offsets : List 
         } in
         ap not (ap (all (lookups_hold c)) shown ∙ sym (h.reached c w (rw (← shown) (looked-up-steps c n))))
 
-    -- 12 and 13, where it is known whether 13 applies, and what is told where it does not
-    judged-call : (fit : Bool) (position : ℕ)
-        → ((c : Call) → IsCall c k text outputs → results_wrong c ≡ not fit)
-        → ((c : Call) → IsCall c k text outputs → fit ≡ true
-        → IsFirst k.response.kind c k.response.target.version position)
-        → (j : Judged) → j ≡ judged_by r.reached fit position → IsJudged text k label outputs offsets j
-    judged-call fit position thirteen is_first j told c g l n o stand =
+    -- 12 and 13, where it is known whether 13 applies, and what is shown where it does not
+    judged-call : (shown : CodeOption ℕ)
+        → ((c : Call) → IsCall c k text s.outputs.now → results_wrong c ≡ not (is_found shown))
+        → ((c : Call) → IsCall c k text s.outputs.now → (p : ℕ) → shown ≡ Some p
+        → IsFirst k.response.kind c k.response.target.version p)
+        → (j : CodeResult ℕ Refusal) → j ≡ judged_by r.reached shown → Judged j
+    judged-call shown thirteen is_first j told c g l n o stand =
         rw told
-        (judged-tried c (IsFirst k.response.kind c k.response.target.version) r.reached fit position
+        (judged-tried c (IsFirst k.response.kind c k.response.target.version) r.reached shown
         (twelve-known c g l n o stand) (thirteen c g) (is_first c g))
 
   -- in a search
   module _ (is_search : k.response.kind ≡ Search) (sought_search : s.kind ≡ Search)
       (sought_version : s.version ≡ k.response.target.version)
-      (is_ladder : versions ≡ ladder k.response.target.version) (o v : Bytes) where
-    pub search-judged : o ≡ part_of text k.response.target.opening
-        → v ≡ part_of text k.response.target.value
-        → s.commitment ≡ commitment_to (decoded o) label (decoded v)
-        → (j : Judged) → j ≡ judged_by r.reached (r.fits && r.found) r.position
-        → IsJudged text k label outputs offsets j
+      (is_ladder : s.ladder.now ≡ ladder k.response.target.version) (o v : Bytes)
+      (is_opening : o ≡ part_of text k.response.target.opening)
+      (is_value : v ≡ part_of text k.response.target.value)
+      (is_commitment : s.commitment ≡ commitment_to (decoded o) label (decoded v)) where
+    abbrev t : ℕ
+    t = k.response.target.version
+
+    search_sought : IsSoughtBy text k label s.outputs.now s
+    search_sought c g l =
+        rw sought_search (
+          target_in text k.response,
+          call-found text k.response is_search c g.parts,
+          sym sought_version,
+          is_commitment ∙ rw (is_opening, is_value, l) refl,
+        )
+
+    judged_is : (c : Call) → IsCall c k text s.outputs.now
+        → early_then_complete (ladder t) t c.parts.entries ≡ (r.fits && is_found r.first)
+    judged_is c g =
+        rw (entries-given c g, ← is_ladder, ← sought_version) (sym (results_fit s (entries_in entries) r h))
+
+    -- what is shown is the position of the first complete entry, where the results fit
+    pub search-judged : (shown : CodeOption ℕ)
+        → ((r.fits ≡ true) × (shown ≡ r.first)) ⊎ ((r.fits ≡ false) × (shown ≡ None))
+        → (j : CodeResult ℕ Refusal) → j ≡ judged_by r.reached shown → Judged j
     unfolding results_wrong search_rules
-    search-judged is_opening is_value is_commitment =
-        judged-call sought (r.fits && r.found) r.position thirteen is_first
+    search-judged shown way = judged-call search_sought shown thirteen is_first
       where
-        t : ℕ
-        t = k.response.target.version
+        is_shown : ((r.fits ≡ true) × (shown ≡ r.first)) ⊎ ((r.fits ≡ false) × (shown ≡ None))
+            → (r.fits && is_found r.first) ≡ is_found shown
+        is_shown (inl (f, e)) = rw (f, e) refl
+        is_shown (inr (f, e)) = rw (f, e) refl
 
-        sought : IsSoughtBy text k label outputs s
-        sought c g l =
-            rw sought_search (
-              target_in text k.response,
-              call-found text k.response is_search c g.parts,
-              sym sought_version,
-              is_commitment ∙ rw (is_opening, is_value, l) refl,
-            )
-
-        judged_is : (c : Call) → IsCall c k text outputs
-            → early_then_complete (ladder t) t c.parts.entries ≡ (r.fits && r.found)
-        judged_is c g =
-            rw (entries-given c g, ← is_ladder, ← sought_version)
-            (sym (results_fit s outputs steps offsets versions (entries_in entries) r h))
-
-        thirteen : (c : Call) → IsCall c k text outputs → results_wrong c ≡ not (r.fits && r.found)
+        thirteen : (c : Call) → IsCall c k text s.outputs.now → results_wrong c ≡ not (is_found shown)
         thirteen c g =
             let found = call-found text k.response is_search c g.parts in
             ap not
             (ap (λ (x : KindRules). x.results_fit) (search-rules c (target_in text k.response) found)
-            ∙ judged_is c g)
+            ∙ judged_is c g ∙ is_shown way)
 
-        is_first : (c : Call) → IsCall c k text outputs → (r.fits && r.found) ≡ true
-            → IsFirst k.response.kind c t r.position
-        is_first c g f =
-            let (e, i, p) = h.position (and_holds r.fits r.found f).1 in
-            rw is_search (e, rw (entries-given c g, ← is_ladder, ← sought_version) i, p)
+        from : ((r.fits ≡ true) × (shown ≡ r.first)) ⊎ ((r.fits ≡ false) × (shown ≡ None)) → (p : ℕ)
+            → shown ≡ Some p → r.first ≡ Some p
+        from (inl (f, e)) p q = sym e ∙ q
+        from (inr (f, e)) p q = absurd (false≢true (ap is_found (sym e ∙ q)))
 
-  -- in monitoring
+        is_first : (c : Call) → IsCall c k text s.outputs.now → (p : ℕ) → shown ≡ Some p
+            → IsFirst k.response.kind c t p
+        is_first c g p q =
+            let (e, i, n) = h.position p (from way p q) in
+            rw is_search (e, rw (entries-given c g, ← is_ladder, ← sought_version) i, n)
+
+  -- in monitoring, where no position is asked for
+  abbrev no_position : CodeOption ℕ
+  no_position = then_some r.included 0
+
   pub monitoring-judged : k.response.kind ≡ Monitor → s.kind ≡ Monitor
-      → (j : Judged) → j ≡ judged_by r.reached r.included 0 → IsJudged text k label outputs offsets j
+      → (j : CodeResult ℕ Refusal) → j ≡ judged_by r.reached no_position → Judged j
   unfolding results_wrong monitoring_rules
   monitoring-judged is_monitoring sought_monitoring =
-      judged-call sought r.included 0 thirteen (λ c g f. rw is_monitoring tt)
+      judged-call sought no_position thirteen (λ c g p q. rw is_monitoring tt)
     where
-      found : (c : Call) → IsCall c k text outputs → c.parts.finding ≡ monitored
+      found : (c : Call) → IsCall c k text s.outputs.now → c.parts.finding ≡ monitored
       found c g = nothing-found text k.response is_monitoring c g.parts
 
-      sought : IsSoughtBy text k label outputs s
+      sought : IsSoughtBy text k label s.outputs.now s
       sought c g l = rw sought_monitoring (found c g)
 
-      thirteen : (c : Call) → IsCall c k text outputs → results_wrong c ≡ not r.included
+      is_shown : (b : Bool) → b ≡ is_found {T = ℕ} (then_some b 0)
+      is_shown true = refl
+      is_shown false = refl
+
+      thirteen : (c : Call) → IsCall c k text s.outputs.now
+          → results_wrong c ≡ not (is_found no_position)
       thirteen c g =
           ap not
           (ap (λ (x : KindRules). x.results_fit) (monitoring-rules c (found c g))
-          ∙ ap all_included (entries-given c g) ∙ sym h.included)
+          ∙ ap all_included (entries-given c g) ∙ sym h.included ∙ is_shown r.included)

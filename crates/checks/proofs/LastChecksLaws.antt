@@ -6,28 +6,21 @@ use mathlib.Core.Bool.{Bool, true, false, not}
 use mathlib.Core.List.{List, [], ◌∷◌, ◌++◌}
 use mathlib.Core.Option.{Option}
 use Prim.Native.Nat.{ℕ}
-use native.Mathlib.Omega.{arith}
 use Rattle.lists.specs.Lists.{Bytes, same}
 use Rattle.rules.specs.Configuration.{tree_head}
 use Rattle.rules.specs.State.{State}
 use Rattle.rules.specs.Response.{Kind, Parts}
 use Rattle.rules.specs.Refusals.{Inputs, Call, refused, Rule, rule, tried, log_root, tree_head_of, head_differs}
-use Rattle.rules.specs.Refusals.{checks, last_checks}
+use Rattle.rules.specs.Refusals.{last_checks}
 use Rattle.rules.specs.Calls.{inputs_within}
 use Rattle.rules.proofs.RefusalLaws.{refuses, rest_tried}
 use Rattle.inputs.specs.Response.{parts_in}
 use Rattle.checks.specs.declared.readings.Call.{Call as CallBlock}
-use Rattle.checks.specs.Calls.{arguments_of, number_tried, rules16, IsGiven}
-use Rattle.checks.proofs.TrialLaws.{Numbered, none_applies}
+use Rattle.checks.specs.Calls.{arguments_of, rules16, IsGiven}
 
 -- 15 by itself
 abbrev rules15 : List Rule
 rules15 = rule 15 head_differs ∷ []
-
--- no rule of 6 to 14 has the number 0
-pub numbered_checks : Numbered checks
-unfolding checks
-numbered_checks = omega arith
 
 -- the text that the log signs, from its parts
 head_of : (c : Call) (a : Bytes) (n : ℕ) (root : Bytes) → c.inputs.configuration ≡ a
@@ -49,26 +42,20 @@ module _ {c : Call} {limit : ℕ} {kind : Option Kind} {st : Option State} {k : 
         (ap (λ (y : Inputs). y.configuration) i.inputs)
         (ap (λ (y : Parts). y.tree_size) i.call.parts) is_root
 
-    module _ (n : ℕ) (e : n ≡ number_tried checks c) (z : n ≡ 0) (b : Bool)
-        (is_same : b ≡ same signed (tree_head configuration k.response.tree_size root))
-      where
-        -- 15 and 16 are left
-        last-left : tried (checks ++ last_checks) c ≡ tried last_checks c
-        last-left = rest_tried checks last_checks c (none_applies checks c numbered_checks (sym z ∙ e))
+    module _ (b : Bool) (is_same : b ≡ same signed (tree_head configuration k.response.tree_size root)) where
+      -- whether 15 applies
+      fifteen-known : head_differs c ≡ not b
+      unfolding head_differs inputs_within
+      fifteen-known =
+          let s : c.inputs.signed_text ≡ signed = ap (λ (y : Inputs). y.signed_text) i.inputs in
+          ap not (ap (λ (x : Bytes). same x (tree_head_of c)) s ∙ ap (same signed) (sym head-given) ∙ sym is_same)
 
-        -- whether 15 applies
-        fifteen-known : head_differs c ≡ not b
-        unfolding head_differs inputs_within
-        fifteen-known =
-            let s : c.inputs.signed_text ≡ signed = ap (λ (y : Inputs). y.signed_text) i.inputs in
-            ap not (ap (λ (x : Bytes). same x (tree_head_of c)) s ∙ ap (same signed) (sym head-given) ∙ sym is_same)
+      -- the signed text differs
+      pub text-differs : b ≡ false → tried last_checks c ≡ refused 15
+      unfolding last_checks
+      text-differs f = refuses last_checks c 15 (inl (fifteen-known ∙ ap not f, refl))
 
-        -- the signed text differs
-        pub text-differs : b ≡ false → tried (checks ++ last_checks) c ≡ refused 15
-        unfolding last_checks
-        text-differs f = last-left ∙ refuses last_checks c 15 (inl (fifteen-known ∙ ap not f, refl))
-
-        -- it does not: 16 is left
-        pub text_same : b ≡ true → tried (checks ++ last_checks) c ≡ tried rules16 c
-        unfolding last_checks
-        text_same f = last-left ∙ rest_tried rules15 rules16 c (fifteen-known ∙ ap not f, tt)
+      -- it does not: 16 is left
+      pub text_same : b ≡ true → tried last_checks c ≡ tried rules16 c
+      unfolding last_checks
+      text_same f = rest_tried rules15 rules16 c (fifteen-known ∙ ap not f, tt)

@@ -8,6 +8,7 @@ use native.Mathlib.Numerals.{add-one}
 use native.Mathlib.Omega.{arith}
 use lib.Dec.{eqb, leb}
 use lib.ListN.{length, get_or, drop, set, replicate}
+use Rattle.std.specs.Prelude.{Some, None, Option as CodeOption}
 use Rattle.lists.specs.Lists.{any, select, largest}
 use Rattle.lists.proofs.ListLaws.{select_here, select_later, select_length, largest_more, largest_none}
 use Rattle.lines.proofs.OffsetLaws.{at_cons, at_end}
@@ -22,7 +23,7 @@ use Rattle.rules.specs.State.{MapEntry, versions}
 use Rattle.rules.specs.Monitoring.{reaches, versions_reaching, versions_shown}
 use Rattle.inputs.specs.State.{map_of}
 use Rattle.inputs.proofs.PairLaws.{pairs_from_lem}
-use Rattle.checks.specs.MonitoredVersions.{not_above, shown_at}
+use Rattle.checks.specs.MonitoredVersions.{not_above, shown_at, IsLargest}
 use Rattle.checks.proofs.NotAboveLaws.{up_to, up_to_here, up_to_later}
 
 -- ---- the pair with the largest version
@@ -31,11 +32,12 @@ use Rattle.checks.proofs.NotAboveLaws.{up_to, up_to_here, up_to_later}
 abbrev reaching_from : ℕ → List ℕ → List ℕ → ℕ → ℕ → List ℕ
 reaching_from n ps vs x i = versions_reaching n (map_of (drop i ps) (drop i vs)) x
 
--- among the pairs from the i-th on whose right path holds x, the largest version is that of a pair,
--- and `above` is one more; or there is none, and `above` is 0
-pub record Found (n : ℕ) (ps vs : List ℕ) (x i pair above : ℕ) : Type 0 where
-  pub top : above ≡ largest (map suc (reaching_from n ps vs x i))
-  pub held : 0 < above → (pair < length vs) × (above ≡ suc (get_or vs pair 0))
+-- among the pairs from the i-th on whose right path holds x, the largest version is that of a pair;
+-- or there is none
+abbrev pub Found : ℕ → List ℕ → List ℕ → ℕ → ℕ → CodeOption ℕ → Type 0
+Found n ps vs x i None = 0 ≡ largest (map suc (reaching_from n ps vs x i))
+Found n ps vs x i (Some pair) =
+    (pair < length vs) × (suc (get_or vs pair 0) ≡ largest (map suc (reaching_from n ps vs x i)))
 
 -- of no pairs no version is looked up
 shown_none : (ws : List ℕ) → 0 ≡ largest (map suc ws) → versions_shown ws ≡ []
@@ -50,19 +52,14 @@ shown_some (w ∷ ws) v e = let z : largest (w ∷ ws) ≡ v = omega (arith, lar
 
 module _ (n : ℕ) (ps vs : List ℕ) (x : ℕ) (e : length ps ≡ length vs) where
   -- past the last pair there is none
-  pub found-start : Found n ps vs x (length ps) 0 0
+  pub found-start : Found n ps vs x (length ps) None
   unfolding largest versions_reaching select map_of
-  found-start = record { top = rw (at_end ps (length ps) (omega arith)) refl; held = λ h. absurd (omega arith) }
+  found-start = rw (at_end ps (length ps) (omega arith)) refl
 
-  -- the answer, where there is none
-  pub found_none : (pair : ℕ) → Found n ps vs x 0 pair 0 → shown_at n ps vs x ≡ []
-  found_none pair f = shown_none (versions_reaching n (map_of ps vs) x) f.top
-
-  -- and where there is one
-  pub found_some : (pair above : ℕ) → Found n ps vs x 0 pair above → (above ≡ 0 → ⊥) → (pair < length vs) × (shown_at n ps vs x ≡ not_above (get_or vs pair 0))
-  found_some pair above f h =
-      let (l, q) = f.held (omega arith) in
-      (l, shown_some (versions_reaching n (map_of ps vs) x) (get_or vs pair 0) (sym q ∙ f.top))
+  -- the answer
+  pub found_all : (o : CodeOption ℕ) → Found n ps vs x 0 o → IsLargest n ps vs x o
+  found_all None f = shown_none (versions_reaching n (map_of ps vs) x) f
+  found_all (Some pair) (l, f) = (l, shown_some (versions_reaching n (map_of ps vs) x) (get_or vs pair 0) f)
 
   module _ (i k : ℕ) (z : k ≡ suc i) (l : k ≤ length ps) (r : Bool) (t : r ≡ any (eqb x) (right_ancestors n (get_or ps i 0))) where
     -- the pairs after the i-th
@@ -85,23 +82,30 @@ module _ (n : ℕ) (ps vs : List ℕ) (x : ℕ) (e : length ps ≡ length vs) wh
     reaching-not h =
         rw from-here (ap versions (select_later (reaches n x) (record { position = get_or ps i 0; version = get_or vs i 0 }) behind (sym t ∙ h)))
 
-    module _ (pair above : ℕ) (f : Found n ps vs x k pair above) where
-      -- a pair that does not count is passed over
-      pub found-past : r ≡ false → Found n ps vs x i pair above
-      found-past h = record { top = f.top ∙ ap (λ (ws : List ℕ). largest (map suc ws)) (sym (reaching-not h)); held = f.held }
+    -- a pair that does not count is passed over
+    pub found-past : r ≡ false → (o : CodeOption ℕ) → Found n ps vs x k o → Found n ps vs x i o
+    found-past h None f = f ∙ ap (λ (ws : List ℕ). largest (map suc ws)) (sym (reaching-not h))
+    found-past h (Some pair) (b, f) = (b, f ∙ ap (λ (ws : List ℕ). largest (map suc ws)) (sym (reaching-not h)))
 
+    module _ (h : r ≡ true) where
       -- of one that counts the version is compared with the largest
-      top-held : r ≡ true → largest (map suc (reaching_from n ps vs x i)) ≡ max (suc (get_or vs i 0)) above
+      top-held : (above : ℕ) → above ≡ largest (map suc (reaching_from n ps vs x k))
+          → largest (map suc (reaching_from n ps vs x i)) ≡ max (suc (get_or vs i 0)) above
       unfolding largest
-      top-held h = rw (reaching-held h) (ap (max (suc (get_or vs i 0))) (sym f.top))
+      top-held above f = rw (reaching-held h) (ap (max (suc (get_or vs i 0))) (sym f))
 
-      -- one with a smaller version is passed over
-      pub found_below : r ≡ true → get_or vs i 0 < above → Found n ps vs x i pair above
-      found_below h b = record { top = omega (arith, top-held h); held = f.held }
+      -- the first that counts
+      pub found-first : Found n ps vs x k None → Found n ps vs x i (Some i)
+      found-first f = (omega arith, omega (arith, top-held 0 f))
 
-      -- one with a version that is not smaller takes the place of that found before
-      pub found-above : r ≡ true → above ≤ get_or vs i 0 → Found n ps vs x i i (get_or vs i 0 + 1)
-      found-above h b = record { top = omega (arith, top-held h); held = λ p. (omega arith, omega arith) }
+      module _ (pair : ℕ) (f : Found n ps vs x k (Some pair)) where
+        -- one with a version that is not larger is passed over
+        pub found_below : get_or vs i 0 ≤ get_or vs pair 0 → Found n ps vs x i (Some pair)
+        found_below b = (f.0, omega (arith, top-held (suc (get_or vs pair 0)) f.1))
+
+        -- one with a larger version takes the place of that found before
+        pub found-above : get_or vs pair 0 < get_or vs i 0 → Found n ps vs x i (Some i)
+        found-above b = (omega arith, omega (arith, top-held (suc (get_or vs pair 0)) f.1))
 
 -- ---- the versions not above a version, stored
 
@@ -109,6 +113,10 @@ module _ (n : ℕ) (ps vs : List ℕ) (x : ℕ) (e : length ps ≡ length vs) wh
 pub not_above_fits : (v : ℕ) → v ≤ greatest_version → length (not_above v) ≤ ladder_capacity
 unfolding not_above
 not_above_fits v h = omega (arith, ladder_fits v (omega arith), select_length (λ (u : ℕ). leb u v) (ladder v))
+
+-- nor has the whole ladder more
+pub within_fits : (v : ℕ) → v ≤ greatest_version → length (ladder_within v) ≤ ladder_capacity
+within_fits v h = omega (arith, ladder_fits v (omega arith), ap length (within_some v (omega arith)))
 
 -- those of the ladder's first i versions that are not above v are stored
 abbrev pub Storing : ℕ → List ℕ → ℕ → ℕ → Type 0
@@ -119,29 +127,21 @@ pub storing_start : (v : ℕ) → Storing v (replicate ladder_capacity 0) 0 0
 unfolding not_above
 storing_start v = filling_start ladder_capacity (not_above v)
 
-module _ (v : ℕ) (h : v ≤ greatest_version) (all : List ℕ) (whole : ℕ)
-    (a : all ≡ padded ladder_capacity (ladder_within v)) (b : whole ≡ length (ladder_within v)) where
+module _ (v : ℕ) (h : v ≤ greatest_version) (all : List ℕ) (a : all ≡ ladder_within v) where
   -- the ladder is within 32 bits
-  whole_length : whole ≡ length (ladder v)
-  whole_length = b ∙ ap length (within_some v (omega arith))
-
-  -- it has no more versions than the room
-  pub whole-fits : whole ≤ ladder_capacity
-  whole-fits = omega (arith, whole_length, ladder_fits v (omega arith))
+  is_ladder : all ≡ ladder v
+  is_ladder = a ∙ within_some v (omega arith)
 
   module _ (array : List ℕ) (count i : ℕ) (f : Storing v array count i) where
     -- past the ladder's last version all are stored
-    pub storing-end : whole ≤ i → (array ≡ padded ladder_capacity (not_above v)) × (count ≡ length (not_above v))
+    pub storing-end : length all ≤ i → (array ≡ padded ladder_capacity (not_above v)) × (count ≡ length (not_above v))
     unfolding select
-    storing-end l = filling_end (filling_same (ap (up_to v) (at_end (ladder v) i (omega (arith, whole_length)))) f)
+    storing-end l = filling_end (filling_same (ap (up_to v) (at_end (ladder v) i (omega (arith, ap length is_ladder)))) f)
 
-    module _ (l : i < whole) where
+    module _ (l : i < length all) where
       -- the ladder from its i-th version on
       ladder-from : drop i (ladder v) ≡ get_or all i 0 ∷ drop (i + 1) (ladder v)
-      ladder-from =
-          let w : i < length (ladder v) = omega (arith, whole_length) in
-          let s = filled_at ladder_capacity i (ladder v) all (a ∙ ap (padded ladder_capacity) (within_some v (omega arith))) w in
-          rw s (at_cons (ladder v) i w)
+      ladder-from = rw (← is_ladder) (at_cons all i l)
 
       -- a version above v is passed over
       pub storing-past : v < get_or all i 0 → Storing v array count (i + 1)

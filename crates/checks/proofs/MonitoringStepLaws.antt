@@ -8,41 +8,22 @@ use native.Mathlib.Omega.{arith}
 use lib.Dec.{eqb}
 use lib.ListN.{length, drop}
 use borrow.Author.Tests.{eqb-true, eqb-false, not-true, not-false}
-use Rattle.std.specs.Prelude.{Some}
+use Rattle.std.specs.Prelude.{Some, None, Option as CodeOption}
+use Rattle.std.specs.Bool.{then_some}
 use Rattle.lists.specs.Lists.{Bytes}
 use Rattle.lists.proofs.ChoiceLaws.{or_holds, or_fails}
 use Rattle.tree.specs.SearchTree.{next_from}
 use Rattle.tree.proofs.NextLaws.{listed_from, from_all, from_none, next_above, from_next}
 use Rattle.rules.specs.Limits.{vrf_outputs_limit, version_bound}
 use Rattle.inputs.specs.Response.{steps_in}
-use Rattle.checks.specs.declared.sections.NextStep.{NextStep}
-use Rattle.checks.specs.Sections.{StepLines, IsNextStep}
-use Rattle.checks.specs.Steps.{records_capacity, IsNoted}
+use Rattle.checks.specs.Sections.{StepLines}
+use Rattle.checks.specs.Steps.{records_capacity, IsWantedStep}
 use Rattle.checks.specs.MonitoredVersions.{counted, smallest, stepped_on, AreMarks}
 use Rattle.checks.proofs.MarkLaws.{counted_rising}
 use Rattle.checks.proofs.NextVersionLaws.{smallest_bound, nexts, nexts_length, nexts_start, nexts_on}
 use Rattle.checks.proofs.NextVersionLaws.{next_counted, counted_within}
-use Rattle.checks.proofs.StepLaws.{rising_distinct, StepsRead, Answered, read_start, read-end}
-use Rattle.checks.proofs.StepLaws.{read_short}
-use Rattle.checks.proofs.StepLaws.{read_more, read_other, read_next}
-
--- ---- tests
-
--- a version is not another, or there is no commitment
-abbrev mismatch : ℕ → ℕ → Bool → Bool
-mismatch version w present = not (eqb version w) || not present
-
--- then it is not that it is the other and there is one
-mismatched : (version w : ℕ) (present : Bool) → mismatch version w present ≡ true → version ≡ w → present ≡ true → ⊥
-mismatched version w present t e g = ⊎_elim
-    (λ h. eqb-false version w (not-true (eqb version w) h) e) (λ h. false≢true (sym (not-true present h) ∙ g))
-    (or_holds (not (eqb version w)) (not present) t)
-
--- else it is
-matched : (version w : ℕ) (present : Bool) → mismatch version w present ≡ false → (version ≡ w) × (present ≡ true)
-matched version w present t =
-    let (p, q) = or_fails (not (eqb version w)) (not present) t in
-    (eqb-true version w (not-false (eqb version w) p), not-false present q)
+use Rattle.checks.proofs.StepLaws.{rising_distinct, StepsRead, Answered, read_start, read_all}
+use Rattle.checks.proofs.StepLaws.{read_refused, read_taken}
 
 -- ---- the steps
 
@@ -54,9 +35,8 @@ pub record Stepping (s outputs : Bytes) (ms vs next offsets : List ℕ) (at : �
   pub pairs : next ≡ nexts ms vs from
 
 -- what is answered of them
-abbrev SteppingAnswered : Bytes → Bytes → List ℕ → List ℕ → Bool → Bool → List ℕ → Type 0
-SteppingAnswered s outputs ms vs asked there offsets =
-    Answered s outputs (counted ms vs) (λ (v : ℕ). true) asked there offsets
+abbrev SteppingAnswered : Bytes → Bytes → List ℕ → List ℕ → CodeOption Bool → List ℕ → Type 0
+SteppingAnswered s outputs ms vs r offsets = Answered s outputs (counted ms vs) (λ (v : ℕ). true) r offsets
 
 -- at first none
 pub stepping_start : (s outputs : Bytes) (ms vs offsets : List ℕ) → AreMarks ms vs
@@ -87,7 +67,7 @@ module _ {s outputs : Bytes} {ms vs next offsets : List ℕ} {at : ℕ} {there :
         from_none version_bound r.from (counted ms vs) (counted_within ms vs a.versions) (omega (arith, wanted))
 
     -- else it is below the bound
-    wanted-below : (w ≡ version_bound → ⊥) → w < version_bound
+    pub wanted-below : (w ≡ version_bound → ⊥) → w < version_bound
     wanted-below b = omega (arith, smallest_bound next, b)
 
     -- and the first of those left
@@ -102,42 +82,27 @@ module _ {s outputs : Bytes} {ms vs next offsets : List ℕ} {at : ℕ} {there :
     wanted-above b =
         omega (arith, wanted, next_above version_bound r.from (counted ms vs) (omega (arith, wanted, wanted-below b)))
 
-    -- where no step is left, they are as asked if no version is
-    pub stepping-end : steps_in (drop at s) ≡ [] → SteppingAnswered s outputs ms vs (eqb w version_bound) there offsets
-    stepping-end n = go (eqb w version_bound) refl
-      where
-        go : (t : Bool) → eqb w version_bound ≡ t → SteppingAnswered s outputs ms vs t there offsets
-        go true q = read-end r.read n (wanted-none (eqb-true w version_bound q))
-        go false q = read_short r.read n (wanted-first (eqb-false w version_bound q))
+    -- where no version is left, they are as asked if no step is
+    pub stepping-end : w ≡ version_bound → at ≤ length s
+        → SteppingAnswered s outputs ms vs (then_some (eqb at (length s)) there) offsets
+    stepping-end b h = read_all r.read (wanted-none b) h
 
-    module _ {x : NextStep} (k : IsNextStep s at (Some x)) where
-      -- where a step is left and no version is, they are not as asked
-      pub stepping-more : w ≡ version_bound → SteppingAnswered s outputs ms vs false there offsets
-      stepping-more b = read_more r.read (λ n. omega (arith, ap length (sym k.1 ∙ n))) (wanted-none b)
+    module _ (b : w ≡ version_bound → ⊥) (offsets' : List ℕ) where
+      -- where the next step is not the next version's, they are not as asked
+      pub stepping-other : IsWantedStep s at w true outputs offsets None offsets'
+          → SteppingAnswered s outputs ms vs None offsets'
+      stepping-other k = read_refused r.read (wanted-first b) offsets' k
 
-      module _ (b : w ≡ version_bound → ⊥) where
-        -- nor where the next step has not the next version or has no commitment
-        pub stepping-other : mismatch x.version w x.committed ≡ true → SteppingAnswered s outputs ms vs false there offsets
-        stepping-other h = read_other r.read k (wanted-first b) (mismatched x.version w x.committed h)
-
-        module _ (m : mismatch x.version w x.committed ≡ false) where
-          -- otherwise its version is below the bound
-          pub stepping-fit : x.version < version_bound
-          stepping-fit = omega (arith, wanted-below b, (matched x.version w x.committed m).0)
-
-          -- and it is one of those read
-          pub stepping-next : length outputs ≤ vrf_outputs_limit → {found : Bool} {next' offsets' : List ℕ}
-              → IsNoted outputs x.version x.commitment offsets found offsets' → length offsets' ≡ length offsets
-              → next' ≡ stepped_on vs next (x.version + 1) → Stepping s outputs ms vs next' offsets' x.next (there && found)
-          stepping-next l i z n =
-              let (q, g) = matched x.version w x.committed m in
-              record {
-                from = w + 1;
-                read =
-                    read_next r.read k (rising_distinct (counted ms vs) (counted_rising ms vs)) l
-                    (wanted-first b ∙ ap (λ (v : ℕ). v ∷ listed_from (w + 1) (counted ms vs)) (sym q)) g i z;
-                pairs =
-                    n ∙ ap₂ (λ (l : List ℕ) (v : ℕ). stepped_on vs l (v + 1)) r.pairs q
-                    ∙ nexts_on ms vs r.from w (wanted-above b) (wanted-below b)
-                    (omega (arith, e, ap smallest r.pairs));
-              }
+      -- otherwise it is one of those read
+      pub stepping-next : length outputs ≤ vrf_outputs_limit → {found : Bool} {after : ℕ} {next' : List ℕ}
+          → IsWantedStep s at w true outputs offsets (Some (found, after)) offsets'
+          → length offsets' ≡ records_capacity → next' ≡ stepped_on vs next (w + 1)
+          → Stepping s outputs ms vs next' offsets' after (there && found)
+      stepping-next l k z n =
+          record {
+            from = w + 1;
+            read = read_taken r.read (wanted-first b) (rising_distinct (counted ms vs) (counted_rising ms vs)) l k z;
+            pairs =
+                n ∙ ap (λ (l : List ℕ). stepped_on vs l (w + 1)) r.pairs
+                ∙ nexts_on ms vs r.from w (wanted-above b) (wanted-below b) (omega (arith, e, ap smallest r.pairs));
+          }

@@ -10,6 +10,8 @@ use lib.Dec.{eqb, ltb}
 use lib.ListN.{length, take, drop, get_or, replicate, length-take, length-drop, drop_of_length-le}
 use lib.Seq.{get_or-take}
 use borrow.Author.Tests.{eq-eqb, ne_eqb, eqb-true, eqb-false, ltb-true, le-leb}
+use Rattle.std.specs.Prelude.{Some, None, IsSome, Option as CodeOption}
+use Rattle.std.proofs.lemmas.Option.{same_Some}
 use Rattle.lists.specs.Choice.{choose}
 use Rattle.lists.specs.Lists.{first, rising, last_or}
 use Rattle.lists.proofs.ChoiceLaws.{and_holds}
@@ -25,8 +27,7 @@ use Rattle.rules.proofs.NextStateLaws.{monitored_length, monitored_rises}
 use Rattle.inputs.specs.declared.state.MonitoringMap.{MonitoringMap}
 use Rattle.inputs.specs.State.{map_of}
 use Rattle.inputs.proofs.PairLaws.{pairs_from_lem, pairs_few}
-use Rattle.checks.specs.declared.map.NewMap.{NewMap}
-use Rattle.checks.specs.Map.{IsMap, pairs_in, put_version, Holds, HoldsAll, HasPair, version_at}
+use Rattle.checks.specs.Map.{IsMap, pairs_in, put_version, Holds, HoldsIfRoom, version_at}
 use Rattle.checks.proofs.MapBlockLaws.{filled, held-pairs, held-map}
 
 -- ---- the pairs of a struct from an index on
@@ -175,14 +176,12 @@ module _ (n : ℕ) (m : MonitoringMap) (h : IsMap m) where
       )
 
   -- at first none is moved
-  pub moved_none : HoldsAll (moved_from n m m.count) (record { fits = true; map = no_pairs })
+  pub moved_none : Holds (moved_from n m m.count) no_pairs
   unfolding map_after_monitoring
-  moved_none = (
-    refl,
-    subst (λ (es : List MapEntry). Holds es no_pairs)
-        (ap (map_after_monitoring n) (pairs_end m m.count (omega arith)))
-        (record { positions = padded_nil map_limit; versions = padded_nil map_limit; count = refl }),
-  )
+  moved_none =
+      subst (λ (es : List MapEntry). Holds es no_pairs)
+      (ap (map_after_monitoring n) (pairs_end m m.count (omega arith)))
+      (record { positions = padded_nil map_limit; versions = padded_nil map_limit; count = refl })
 
   -- the pair at an index, at the end of its right path
   abbrev moved_pair : ℕ → MapEntry
@@ -199,26 +198,35 @@ module _ (n : ℕ) (m : MonitoringMap) (h : IsMap m) where
       ap (map_after_monitoring n) (pairs_at m h (i - 1) (omega arith))
       ∙ ap (λ (j : ℕ). put_entry max (moved_pair (i - 1)) (moved_from n m j)) on
 
-  module _ (i : ℕ) (r : NewMap) (g : HoldsAll (moved_from n m i) r) where
+  module _ (i : ℕ) (r : MonitoringMap) (g : Holds (moved_from n m i) r) where
     -- the struct is a map
-    pub moved-map : IsMap r.map
-    moved-map = held-map (moved_from n m i) r.map g.1 (moved-rises i) (moved-few i)
+    pub moved-map : IsMap r
+    moved-map = held-map (moved_from n m i) r g (moved-rises i) (moved-few i)
 
     -- the pair before them is moved too
-    pub moved-next : (end there v : ℕ) (new : NewMap) → 0 < i → i ≤ m.count
+    pub moved-next : (end there v : ℕ) (new : CodeOption MonitoringMap) → 0 < i → i ≤ m.count
         → end ≡ last_or (get_or m.positions (i - 1) 0) (right_ancestors n (get_or m.positions (i - 1) 0))
-        → there ≡ version_at end (pairs_in r.map) → v ≡ max (get_or m.versions (i - 1) 0) there
-        → HasPair r.map end v new → HoldsAll (moved_from n m (i - 1)) new
+        → there ≡ version_at end (pairs_in r) → v ≡ max (get_or m.versions (i - 1) 0) there
+        → HoldsIfRoom (put_version end v (pairs_in r)) new
+        → IsSome new × ((x : MonitoringMap) → new ≡ Some x → Holds (moved_from n m (i - 1)) x)
     moved-next end there v new l w q t u k =
-        let e : pairs_in r.map ≡ moved_from n m i = held-pairs (moved_from n m i) r.map g.1 in
+        let e : pairs_in r ≡ moved_from n m i = held-pairs (moved_from n m i) r g in
         let o = get_or m.versions (i - 1) 0 in
         let version : v ≡ max o (version_at end (moved_from n m i)) =
         u ∙ ap (max o) (t ∙ ap (version_at end) e) in
-        let whole = put_version end v (pairs_in r.map) in
+        let whole = put_version end v (pairs_in r) in
         let put : whole ≡ moved_from n m (i - 1) =
         ap₂ (put_version end) version e
         ∙ sym (put_larger (record { position = end; version = o }) (moved_from n m i) (moved-rises i))
         ∙ ap (λ (p : ℕ). put_entry max (record { position = p; version = o }) (moved_from n m i)) q
         ∙ sym (moved_before i l w) in
-        let fits = k.0 ∙ le-leb (length whole) map_limit (omega (arith, moved-few (i - 1), ap length put)) in
-        (fits, subst (λ (es : List MapEntry). Holds es new.map) put (k.1 fits))
+        go whole put new k
+      where
+        go : (es : List MapEntry) → es ≡ moved_from n m (i - 1) → (o : CodeOption MonitoringMap) → HoldsIfRoom es o
+            → IsSome o × ((x : MonitoringMap) → o ≡ Some x → Holds (moved_from n m (i - 1)) x)
+        go es e None f = absurd (omega (arith, moved-few (i - 1), ap length e, f))
+        go es e (Some x) f = (
+          refl,
+          λ y q. subst (λ (z : MonitoringMap). Holds (moved_from n m (i - 1)) z) (same_Some x y q)
+              (subst (λ (l : List MapEntry). Holds l x) e f.1),
+        )

@@ -27,33 +27,27 @@ use Rattle.checks.proofs.MarkLaws.{counts, counts_not, counts_too, counted_risin
 
 -- ---- the smallest version
 
--- from a version on it is that version or the smallest after it
-smallest_from : (xs : List ℕ) (k : ℕ) → 0 < k → k ≤ length xs → smallest (drop (k - 1) xs) ≡ min (get_or xs (k - 1) 0) (smallest (drop k xs))
-unfolding smallest
-smallest_from xs k p h =
-    let e : k - 1 + 1 ≡ k = omega arith in
-    ap smallest (at_cons xs (k - 1) (omega arith)) ∙ ap (λ (n : ℕ). min (get_or xs (k - 1) 0) (smallest (drop n xs))) e
-
--- of no versions it is the bound
-pub smallest_none : (xs : List ℕ) (k : ℕ) → length xs ≤ k → version_bound ≡ smallest (drop k xs)
-unfolding smallest
-smallest_none xs k h = rw (at_end xs k h) refl
-
--- a version below the smallest after it is the smallest
-pub smallest_less : (xs : List ℕ) (k least : ℕ) → 0 < k → k ≤ length xs → least ≡ smallest (drop k xs) → get_or xs (k - 1) 0 < least
-    → get_or xs (k - 1) 0 ≡ smallest (drop (k - 1) xs)
-smallest_less xs k least p h e l = sym (smallest_from xs k p h ∙ min-eq_left (omega arith))
-
--- with one that is not below it stays
-pub smallest_stays : (xs : List ℕ) (k least : ℕ) → 0 < k → k ≤ length xs → least ≡ smallest (drop k xs) → least ≤ get_or xs (k - 1) 0
-    → least ≡ smallest (drop (k - 1) xs)
-smallest_stays xs k least p h e l = e ∙ sym (smallest_from xs k p h ∙ min-eq_right (omega arith))
-
 -- it is not above the bound
 pub smallest_bound : (xs : List ℕ) → smallest xs ≤ version_bound
 unfolding smallest
 smallest_bound [] = omega arith
 smallest_bound (x ∷ xs) = omega (arith, min-le_right x (smallest xs), smallest_bound xs)
+
+-- at first it is the smallest
+pub smallest_start : (xs : List ℕ) → min version_bound (smallest xs) ≡ smallest xs
+smallest_start xs = min-eq_right (smallest_bound xs)
+
+-- one version more is compared
+pub smallest_next : (xs : List ℕ) (i least : ℕ) → i < length xs
+    → min (min least (get_or xs i 0)) (smallest (drop (i + 1) xs)) ≡ min least (smallest (drop i xs))
+unfolding smallest
+smallest_next xs i least h = rw (at_cons xs i h) (omega arith)
+
+-- after the last it is the smallest
+pub smallest_end : (xs : List ℕ) (i least : ℕ) → length xs ≤ i → least ≤ version_bound
+    → min least (smallest (drop i xs)) ≡ least
+unfolding smallest
+smallest_end xs i least h b = rw (at_end xs i h) (min-eq_left b)
 
 -- ---- the next version of each pair, moved on
 

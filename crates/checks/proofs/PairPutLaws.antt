@@ -9,6 +9,7 @@ use lib.Dec.{eqb, leb, ltb}
 use lib.ListN.{length, take, get_or, set, replicate, length-append, length-map}
 use lib.Seq.{set_at, get_or_at}
 use borrow.Author.Tests.{lt-ltb, le-ltb, eq-eqb, ne_eqb, le-leb, lt-leb, ltb-true}
+use Rattle.std.specs.Prelude.{Some, None}
 use Rattle.lists.specs.Lists.{rising}
 use Rattle.lists.proofs.ChoiceLaws.{choose_true, choose_false, and_holds}
 use Rattle.lists.proofs.RisingLaws.{rising_tail}
@@ -19,7 +20,7 @@ use Rattle.rules.specs.State.{MapEntry, positions, versions}
 use Rattle.rules.specs.Kinds.{put_entry}
 use Rattle.inputs.specs.declared.state.MonitoringMap.{MonitoringMap}
 use Rattle.inputs.proofs.PairLaws.{map_positions, map_versions, map_length}
-use Rattle.checks.specs.Map.{IsMap, pairs_in, put_version, Holds}
+use Rattle.checks.specs.Map.{IsMap, pairs_in, put_version, Holds, HoldsIfRoom}
 use Rattle.checks.proofs.MapBlockLaws.{filled}
 
 -- ---- a pair against the first of a map
@@ -147,9 +148,7 @@ module _ {whole : List MapEntry} {count : ℕ} {ps vs : List ℕ} {p v i : ℕ} 
     (c : Carrying whole count ps vs p v i) where
   -- so many pairs, of these positions and versions, are the whole, and fit
   abbrev Told : ℕ → List ℕ → List ℕ → Type 0
-  Told n qs ws =
-      (true ≡ leb (length whole) map_limit) ×
-      (true ≡ true → Holds whole (record { positions = qs; versions = ws; count = n }))
+  Told n qs ws = HoldsIfRoom whole (Some (record { positions = qs; versions = ws; count = n }))
 
   -- they are, where the arrays hold them
   told : (n : ℕ) (qs ws : List ℕ) (es : List MapEntry) → es ≡ whole → n ≤ map_limit → n ≡ length es
@@ -163,7 +162,7 @@ module _ {whole : List MapEntry} {count : ℕ} {ps vs : List ℕ} {p v i : ℕ} 
         versions = b ∙ ap (λ (x : List MapEntry). padded map_limit (versions x)) e;
         count = l ∙ ap length e;
       } in
-      (sym (le-leb (length whole) map_limit k), λ _. r)
+      (k, r)
 
   -- the pair that stands at an index which is left, and those after it
   record Here : Type 0 where
@@ -301,10 +300,10 @@ module _ {whole : List MapEntry} {count : ℕ} {ps vs : List ℕ} {p v i : ℕ} 
     front-whole = omega (arith, c.counted, c.front)
 
     -- with no room for it
-    pub carried-beyond : count ≡ map_limit → false ≡ leb (length whole) map_limit
+    pub carried-beyond : count ≡ map_limit → HoldsIfRoom whole None
     carried-beyond e =
         let l = length-append c.done (record { position = p; version = v } ∷ []) in
-        sym (lt-leb (length whole) map_limit (omega (arith, l, front-whole, ap length one_more)))
+        omega (arith, l, front-whole, ap length one_more)
 
     -- with room
     pub carried-last : count < map_limit → Told (count + 1) (set ps count p) (set vs count v)

@@ -1,149 +1,230 @@
--- Laws of a call that was read (specs/Calls.antt): what 6 to 14 say of it, then 15, and 16 on what
--- they let pass.
+-- Laws of a call that is given a response (specs/Calls.antt): what 1 to 14 say of it, then 15, and 16
+-- on what they let pass.
 use mathlib.Core.Path.{◌≡◌, refl, sym, ap, ◌∙◌}
 use mathlib.Core.Bool.{Bool, true, false}
 use mathlib.Core.List.{[], ◌++◌}
 use mathlib.Core.Option.{Option}
 use Prim.Native.Nat.{ℕ}
+use native.Mathlib.Omega.{arith}
 use lib.Count.{ones}
 use lib.ListN.{length, take}
+use Rattle.std.specs.Prelude.{Option as CodeOption, Ok, Err, Result}
 use Rattle.lists.specs.Lists.{Bytes, same, runs}
-use Rattle.rules.specs.Limits.{hash_length}
+use Rattle.rules.specs.Limits.{response_limit, hash_length}
 use Rattle.rules.specs.Configuration.{tree_head}
 use Rattle.rules.specs.State.{State}
 use Rattle.rules.specs.Response.{Kind}
-use Rattle.rules.specs.Refusals.{Inputs, Call, refused, tried, checks, last_checks}
-use Rattle.rules.specs.Calls.{inputs_within, output_after}
+use Rattle.rules.specs.Refusals.{Inputs, Call, Judgement, refused, passed, tried, tried_after, read_call, checks}
+use Rattle.rules.specs.Refusals.{last_checks, judge, judge_without_head}
+use Rattle.rules.specs.Calls.{number_of, inputs_within, library_inputs, judge_call, output_after}
+use Rattle.rules.proofs.RefusalLaws.{passes, number_refused, tried_append}
+use Rattle.inputs.specs.declared.refusal.Refusal.{Refusal}
+use Rattle.inputs.specs.declared.refusal.Refusal.TheVariants.{SignedText}
+use Rattle.inputs.specs.declared.response_lines.Kind.{Kind as KindBlock}
 use Rattle.inputs.specs.declared.state.State.{State as StateBlock}
+use Rattle.inputs.specs.Refusal.{refusal_number, number_in}
 use Rattle.inputs.specs.State.{state_of, contents, label_in, log_in, map_in}
-use Rattle.checks.specs.declared.call.AskedKind.{AskedKind}
-use Rattle.checks.specs.declared.call.Answer.{Answer}
+use Rattle.checks.specs.declared.call.Accepted.{Accepted}
 use Rattle.checks.specs.declared.readings.Call.{Call as CallBlock}
 use Rattle.checks.specs.declared.trial.Tried.{Tried}
 use Rattle.checks.specs.declared.trial.Checked.{Checked}
-use Rattle.checks.specs.Calls.{asked_kind, arguments_of, answer_of, number_tried, rules16, IsGiven}
-use Rattle.checks.specs.Calls.{Readable, Checkable, Is6to13Tried, Is14Tried, IsChecked, Leaves}
-use Rattle.checks.specs.Calls.{Accepting, IsAcceptedAnswer, AreAcceptedBytes, IsReadAnswer}
-use Rattle.checks.specs.Calls.{AreReadBytes}
-use Rattle.checks.proofs.TrialLaws.{first_refuses}
+use Rattle.checks.specs.declared.trial.Passed.{Passed as PassedBlock}
+use Rattle.checks.specs.Calls.{asked_kind, arguments_of, answer_of, answer_from, number_tried, rules16, IsGiven}
+use Rattle.checks.specs.Calls.{IsReading, Tells, Checkable, Is6to13Tried, Is14Tried, Is1to14Tried, Leaves}
+use Rattle.checks.specs.Calls.{Accepting, IsAcceptedAnswer, AreAcceptedBytes, Readable}
+use Rattle.checks.proofs.TrialLaws.{Numbered, none_applies, refusal_numbered}
 use Rattle.checks.proofs.Trial6to14Laws.{lines-refused, lines-passed}
 use Rattle.checks.proofs.StateStructLaws.{stands_for}
 use Rattle.checks.proofs.LastChecksLaws.{text-differs, text_same}
-use Rattle.checks.proofs.AcceptLaws.{refusal, answer_refused, bytes_refused}
+use Rattle.checks.proofs.AcceptLaws.{answer_refused, bytes_refused}
 
--- what 6 to 14 say of the calls with the state of a struct
-abbrev pub IsStateChecked : AskedKind → Bytes → CallBlock → StateBlock → Bytes → Bytes → Checked → Bytes → Type 0
-IsStateChecked asked text k b identifier outputs r block =
-    IsChecked asked text k identifier (take b.label.length b.label.bytes)
-    (take b.map.count b.map.positions) (take b.map.count b.map.versions) outputs b.log.values
-    r block
+-- no rule of 6 to 14 has the number 0
+numbered_checks : Numbered checks
+unfolding checks
+numbered_checks = omega arith
 
--- what 6 to 13 say of them
-abbrev pub IsStateTried : AskedKind → Bytes → CallBlock → StateBlock → Bytes → Bytes → Tried → Type 0
-IsStateTried asked text k b identifier outputs t =
+-- what 6 to 13 say of the calls with the state of a struct
+abbrev pub IsStateTried : CodeOption KindBlock → Bytes → CallBlock → StateBlock → Bytes → Bytes
+    → Result Tried Refusal → Type 0
+IsStateTried asked text k b identifier outputs r =
     Is6to13Tried asked text k identifier (take b.label.length b.label.bytes)
-    (take b.map.count b.map.positions) (take b.map.count b.map.versions) outputs t
+    (take b.map.count b.map.positions) (take b.map.count b.map.versions) outputs r
 
--- 6 to 14 where one of 6 to 13 applies
-abbrev pub stopped : Tried → Checked
-stopped t = record { number = t.number; position = 0; timestamp = 0; root = [] }
+-- ---- 1 to 14
 
-module _ (asked : AskedKind) (text : Bytes) (k : CallBlock) (b : StateBlock) (identifier outputs : Bytes)
-    (x : Checkable text k identifier b.label.bytes b.label.length b.map.positions
-    b.map.versions b.map.count outputs) (t : Tried) (g : IsStateTried asked text k b identifier outputs t)
+module _ (asked : CodeOption KindBlock) (text configuration : Bytes) (b : StateBlock) (identifier : Bytes)
+    (clock : ℕ) (outputs signed block : Bytes)
   where
-    pub state-stopped : (t.number ≡ 0 → ⊥)
-        → IsStateChecked asked text k b identifier outputs (stopped t) []
-    state-stopped z = lines-refused x asked t g z b.log.values (stopped t) [] refl
+    -- what comes of them
+    abbrev Told : Result PassedBlock Refusal → Type 0
+    Told r = Is1to14Tried asked text configuration b identifier clock outputs signed r block
 
-    -- where none does, 14 decides
-    pub state-checked : t.number ≡ 0 → (r : Checked) (block : Bytes)
-        → Is14Tried text k t b.log.values r block → IsStateChecked asked text k b identifier outputs r block
-    state-checked w r block h = lines-passed x asked t g w b.log.values r block h
+    -- what is read
+    abbrev Read : Result CallBlock Refusal → Type 0
+    Read r = IsReading response_limit (state_of b) text configuration identifier clock outputs signed r
 
-module _ (asked : AskedKind) (text : Bytes) (k : CallBlock) (b : StateBlock) (identifier outputs : Bytes)
-    (r : Checked) (block : Bytes) (t : IsStateChecked asked text k b identifier outputs r block)
-  where
-    -- of the one that was read
-    pub call-checked : {c : Call} {limit : ℕ} {kind : Option Kind} {configuration signed : Bytes} {room : ℕ}
-        → kind ≡ asked_kind asked
-        → IsGiven c limit kind (state_of b) k text configuration identifier outputs signed room
-        → (r.number ≡ number_tried checks c) × (r.number ≡ 0 → Leaves c k r block)
-    unfolding contents label_in log_in map_in inputs_within arguments_of
-    call-checked {c = c} q i =
-        let e : c.state ≡ contents b = stands_for b c.state i.state in
-        let n : b.log.size ≡ k.kept_size = sym (ap (λ (y : State). y.log.size) e) ∙ i.call.size in
-        t c i.call (ap (λ (y : Inputs). y.kind) i.inputs ∙ q)
-        (ap (λ (y : Inputs). y.identifier) i.inputs)
-        (ap (λ (y : State). y.label) e) (ap (λ (y : State). y.monitoring_map) e)
-        (ap (λ (y : State). y.log.values) e ∙ ap (λ (m : ℕ). runs (ones m) hash_length b.log.values) n)
+    -- refused while it was read
+    pub reading-refused : (e : Refusal) → Read (Err e) → Told (Err e)
+    unfolding judge_without_head tried_after library_inputs
+    reading-refused e h room = ap (tried_after checks) (h (asked_kind asked) room)
 
-    module _ (configuration signed output : Bytes) where
-      -- a call is the one that was read, with the output bytes as room for the value
-      abbrev IsRead : ℕ → Call → Type 0
-      IsRead limit c =
-          IsGiven c limit (asked_kind asked) (state_of b) k text configuration identifier outputs signed
-          (length output)
+    module _ (k : CallBlock) (h : Read (Ok k))
+        (x : Checkable text k identifier b.label.bytes b.label.length b.map.positions
+        b.map.versions b.map.count outputs)
+      where
+        -- a call that was read, given some room
+        abbrev IsRead : ℕ → Call → Type 0
+        IsRead room c =
+            IsGiven c response_limit (asked_kind asked) (state_of b) k text configuration identifier outputs signed room
 
-      -- the answer to it, and the output bytes
-      abbrev Answers : Answer → Bytes → Type 0
-      Answers a output' =
-          IsReadAnswer asked text k configuration b identifier outputs signed (length output) a
-          × AreReadBytes asked text k configuration b identifier outputs signed output output'
+        -- what 1 to 14 judge
+        abbrev judged : ℕ → Judgement
+        judged room =
+            judge_without_head (state_of b) (library_inputs (asked_kind asked)
+            (arguments_of text configuration identifier clock outputs) signed room)
 
-      -- a number with which it is refused is the answer
-      refused-with : (n : ℕ) (a : Answer)
-          → a ≡ refusal n b
-          → ((limit : ℕ) (c : Call) → IsRead limit c → tried (checks ++ last_checks) c ≡ refused n)
-          → Answers a output
-      refused-with n a e h = (
-        λ limit c i. e ∙ answer_refused b (tried (checks ++ last_checks) c) n (h limit c i),
-        λ limit c i. bytes_refused output (tried (checks ++ last_checks) c) n (h limit c i),
-      )
+        -- it is what 6 to 14 do of the one that was read
+        rules-left : (room : ℕ) → (c : Call) × (judged room ≡ tried checks c) × IsRead room c
+        unfolding judge_without_head tried_after library_inputs
+        rules-left room =
+            let (_, _, f) = h in
+            let (c, e, i) = f (asked_kind asked) room in
+            (c, ap (tried_after checks) e, i)
 
-      -- refused with 6 to 14
-      pub checks-refused : (a : Answer) → (r.number ≡ 0 → ⊥)
-          → a ≡ refusal r.number b
-          → Answers a output
-      checks-refused a w e = refused-with r.number a e λ limit c i.
-          first_refuses checks last_checks c r.number (call-checked refl i).0 w
+        module _ (room : ℕ) (c : Call) (i : IsRead room c) where
+          -- its state is that of the struct
+          state-is : c.state ≡ contents b
+          state-is = stands_for b c.state i.state
 
-      module _ (w : r.number ≡ 0) (is_head : Bool)
-          (is_same : is_head ≡ same signed (tree_head configuration k.response.tree_size r.root))
-        where
-          -- refused with 15
-          pub head-refused : (a : Answer) → is_head ≡ false
-              → a ≡ refusal 15 b
-              → Answers a output
-          head-refused a f e = refused-with 15 a e λ limit c i.
-              let (n, left) = call-checked refl i in
-              text-differs i r.root (left w).root r.number n w is_head is_same f
+          -- refused with 6 to 13
+          six-refused : (e : Refusal) → IsStateTried asked text k b identifier outputs (Err e)
+              → refusal_number e ≡ number_tried checks c
+          unfolding contents label_in map_in inputs_within arguments_of
+          six-refused e g =
+              lines-refused x asked c i.call (ap (λ (y : Inputs). y.kind) i.inputs)
+              (ap (λ (y : Inputs). y.identifier) i.inputs)
+              (ap (λ (y : State). y.label) state-is) (ap (λ (y : State). y.monitoring_map) state-is) e g
 
-          -- 16 is left, or acceptance
-          pub accept-told : (a : Answer) (output' : Bytes) → Readable (state_of b) text k identifier outputs
-              → is_head ≡ true
-              → IsAcceptedAnswer text k b r block (length output) a
-              → AreAcceptedBytes text k b r block output output' → Answers a output'
-          unfolding inputs_within
-          accept-told a output' h f u v = (
-            λ limit c i. u c (accepting limit c i) ∙ ap (answer_of b) (sym (rest limit c i)),
-            λ limit c i. v c (accepting limit c i) ∙ ap (output_after output) (sym (rest limit c i)),
+          -- what is left of 6 to 14 is 14
+          walk-told : (t : Tried) → IsStateTried asked text k b identifier outputs (Ok t)
+              → (r : Result Checked Refusal) → Is14Tried text k t b.log.values r block
+              → Tells r checks c (λ y. Leaves c k y block)
+          unfolding contents label_in log_in map_in inputs_within arguments_of
+          walk-told t g r w =
+              let n : b.log.size ≡ k.kept_size = sym (ap (λ (y : State). y.log.size) state-is) ∙ i.call.size in
+              lines-passed x asked c i.call (ap (λ (y : Inputs). y.kind) i.inputs)
+              (ap (λ (y : Inputs). y.identifier) i.inputs)
+              (ap (λ (y : State). y.label) state-is) (ap (λ (y : State). y.monitoring_map) state-is) t g
+              b.log.values
+              (ap (λ (y : State). y.log.values) state-is
+              ∙ ap (λ (m : ℕ). runs (ones m) hash_length b.log.values) n)
+              r block w
+
+        -- refused with 6 to 14
+        told-refused : (e : Refusal)
+            → ((room : ℕ) (c : Call) → IsRead room c → refusal_number e ≡ number_tried checks c) → Told (Err e)
+        told-refused e f room =
+            let (c, q, i) = rules-left room in
+            q ∙ number_refused (tried checks c) (refusal_number e) (f room c i) (refusal_numbered e)
+
+        -- refused with 6 to 13
+        pub state-refused : (e : Refusal) → IsStateTried asked text k b identifier outputs (Err e) → Told (Err e)
+        state-refused e g = told-refused e (λ room c i. six-refused room c i e g)
+
+        module _ (t : Tried) (g : IsStateTried asked text k b identifier outputs (Ok t)) where
+          -- refused with 14
+          pub walk-refused : (e : Refusal) → Is14Tried text k t b.log.values (Err e) block → Told (Err e)
+          walk-refused e w = told-refused e (λ room c i. (walk-told room c i t g (Err e) w).0)
+
+          -- all passed
+          pub walk-passed : (r : Checked) → Is14Tried text k t b.log.values (Ok r) block
+              → Told (Ok (record { call = k; checked = r }))
+          walk-passed r w = (
+            h.0,
+            λ room.
+                let (c, q, i) = rules-left room in
+                let (n, l) = walk-told room c i t g (Ok r) w in
+                (c, q ∙ passes checks c (none_applies checks c numbered_checks n), i, l),
           )
-            where
-              rest : (limit : ℕ) (c : Call) → IsRead limit c
-                  → tried (checks ++ last_checks) c ≡ tried rules16 c
-              rest limit c i =
-                  let (n, left) = call-checked refl i in
-                  text_same i r.root (left w).root r.number n w is_head is_same f
 
-              accepting : (limit : ℕ) (c : Call) → IsRead limit c
-                  → Accepting c text k b r block (length output)
-              accepting limit c i =
-                  record {
-                    parts = i.call.parts;
-                    read = h.read;
-                    offsets = h.offsets;
-                    state = i.state;
-                    leaves = (call-checked refl i).1 w;
-                    is_room = ap (λ (y : Inputs). y.room) i.inputs;
-                  }
+-- ---- 15 and 16
+
+module _ (asked : CodeOption KindBlock) (text configuration : Bytes) (b : StateBlock) (identifier : Bytes)
+    (clock : ℕ) (outputs signed block output : Bytes)
+  where
+    -- what the rules say of the call
+    abbrev whole : Judgement
+    whole =
+        judge_call (asked_kind asked) (state_of b) (arguments_of text configuration identifier clock outputs) signed
+        (length output)
+
+    -- what is answered, and what stands in the output bytes
+    abbrev Answers : Result Accepted Refusal → Bytes → Type 0
+    Answers a output' = (answer_from b a ≡ answer_of b whole) × (output' ≡ output_after output whole)
+
+    -- after 1 to 14 the others are tried
+    last-left : whole
+        ≡ tried_after last_checks (judge_without_head (state_of b) (library_inputs (asked_kind asked)
+        (arguments_of text configuration identifier clock outputs) signed (length output)))
+    unfolding judge_call judge judge_without_head tried_after
+    last-left =
+        go (read_call (state_of b) (library_inputs (asked_kind asked)
+        (arguments_of text configuration identifier clock outputs) signed (length output)))
+      where
+        go : (j : Judgement) → tried_after (checks ++ last_checks) j ≡ tried_after last_checks (tried_after checks j)
+        go (refused n) = refl
+        go (passed c) = tried_append checks last_checks c
+
+    -- a refusal
+    refused-with : (e : Refusal) → whole ≡ refused (refusal_number e) → Answers (Err e) output
+    unfolding answer_from
+    refused-with e q = (answer_refused b whole (refusal_number e) q, bytes_refused output whole (refusal_number e) q)
+
+    -- refused with 1 to 14
+    pub checks-refused : (e : Refusal)
+        → Is1to14Tried asked text configuration b identifier clock outputs signed (Err e) block
+        → Answers (Err e) output
+    unfolding tried_after
+    checks-refused e h = refused-with e (last-left ∙ ap (tried_after last_checks) (h (length output)))
+
+    module _ (p : PassedBlock)
+        (h : Is1to14Tried asked text configuration b identifier clock outputs signed (Ok p) block)
+        (is_head : Bool)
+        (is_same : is_head ≡ same signed (tree_head configuration p.call.response.tree_size p.checked.root))
+      where
+        -- the call
+        abbrev IsThis : Call → Type 0
+        IsThis c =
+            IsGiven c response_limit (asked_kind asked) (state_of b) p.call text configuration identifier outputs
+            signed (length output)
+
+        shown : (c : Call) × (whole ≡ tried last_checks c) × IsThis c × Leaves c p.call p.checked block
+        unfolding tried_after
+        shown =
+            let (c, e, i, l) = h.1 (length output) in
+            (c, last-left ∙ ap (tried_after last_checks) e, i, l)
+
+        -- refused with 15
+        pub head-refused : is_head ≡ false → Answers (Err SignedText) output
+        head-refused f =
+            let (c, e, i, l) = shown in
+            refused-with SignedText (e ∙ text-differs i p.checked.root l.root is_head is_same f)
+
+        -- 16 is left, or acceptance
+        pub accept-told : (a : Result Accepted Refusal) (output' : Bytes) → is_head ≡ true
+            → IsAcceptedAnswer text p.call b p.checked block (length output) a
+            → AreAcceptedBytes text p.call b p.checked block output output' → Answers a output'
+        unfolding inputs_within
+        accept-told a output' f u v =
+            let (c, e, i, l) = shown in
+            let rest : whole ≡ tried rules16 c = e ∙ text_same i p.checked.root l.root is_head is_same f in
+            let g : Accepting c text p.call b p.checked block (length output) =
+            record {
+              parts = i.call.parts;
+              read = h.0.read;
+              offsets = h.0.offsets;
+              state = i.state;
+              leaves = l;
+              is_room = ap (λ (y : Inputs). y.room) i.inputs;
+            } in
+            (u c g ∙ ap (answer_of b) (sym rest), v c g ∙ ap (output_after output) (sym rest))

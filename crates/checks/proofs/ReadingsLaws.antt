@@ -2,7 +2,7 @@
 -- thing after the other, for each kind and room; and what the rules after it are tried on.
 use mathlib.Core.Path.{◌≡◌, refl, sym, ap, ◌∙◌}
 use mathlib.Core.Bool.{Bool, true, false}
-use mathlib.Core.List.{List, [], ◌++◌}
+use mathlib.Core.List.{List}
 use mathlib.Core.Option.{Option, none, some}
 use Prim.Native.Nat.{ℕ, ◌≤◌}
 use native.Mathlib.Omega.{arith}
@@ -20,8 +20,7 @@ use Rattle.rules.specs.Response.{Kind, Parts}
 use Rattle.rules.specs.ResponseText.{read_response}
 use Rattle.rules.specs.Refusals.{Inputs, Call, refused, passed, reading, lengths_fit, valid_state}
 use Rattle.rules.specs.Refusals.{read_call}
-use Rattle.rules.specs.Refusals.{Rule, tried, tried_after, judge, judge_without_head, checks, last_checks}
-use Rattle.rules.specs.Calls.{inputs_within, library_inputs, judge_call, judge_unsigned}
+use Rattle.rules.specs.Calls.{inputs_within}
 use Rattle.rules.proofs.RefusalLaws.{valid_some}
 use Rattle.inputs.specs.declared.configuration.Configuration.{Configuration as ConfigurationBlock}
 use Rattle.inputs.specs.declared.response.Response.{Response}
@@ -31,9 +30,12 @@ use Rattle.inputs.specs.Configuration.{configuration_in}
 use Rattle.inputs.specs.Response.{parts_in, Offsets}
 use Rattle.inputs.specs.State.{state_of, contents, log_in, room_is_zero}
 use Rattle.checks.specs.declared.readings.Call.{Call as CallBlock}
-use Rattle.checks.specs.declared.readings.ReadCall.{ReadCall}
-use Rattle.checks.specs.declared.readings.ReadCall.TheVariants.{Read, Refused}
-use Rattle.checks.specs.Calls.{arguments_of, are_lengths_fit, offset_bound, IsGiven, IsReading, IsReadCall}
+use Rattle.std.specs.Prelude.{Ok, Err, Result}
+use Rattle.inputs.specs.declared.refusal.Refusal.{Refusal}
+use Rattle.inputs.specs.declared.refusal.Refusal.TheVariants.{Length, Configuration as NoConfiguration}
+use Rattle.inputs.specs.declared.refusal.Refusal.TheVariants.{State as NoState, VrfOutputs as NoOutputs, Lines as NoLines}
+use Rattle.inputs.specs.Refusal.{refusal_number}
+use Rattle.checks.specs.Calls.{arguments_of, are_lengths_fit, offset_bound, IsReadCall}
 
 -- ---- what is given is read
 
@@ -106,16 +108,16 @@ module _ (limit : ℕ) (response configuration identifier : Bytes) (clock : ℕ)
 
   module _ (valid : Bool) (size timestamp : ℕ) where
     -- what comes of the reading
-    abbrev Reads : ReadCall → Type 0
+    abbrev Reads : Result CallBlock Refusal → Type 0
     Reads x = IsReadCall limit response configuration valid size timestamp identifier clock outputs signed x
 
     -- 1: a length does not fit
-    pub inputs_long : false ≡ fits → Reads (Refused 1)
+    pub inputs_long : false ≡ fits → Reads (Err Length)
     inputs_long e st _ _ kind room = given-long st (inputs kind room) (lengths-same kind room ∙ sym e)
 
     module _ (l : true ≡ fits) where
       -- 2: there is no configuration
-      pub inputs-unconfigured : read_configuration configuration ≡ none → Reads (Refused 2)
+      pub inputs-unconfigured : read_configuration configuration ≡ none → Reads (Err NoConfiguration)
       unfolding inputs_within arguments_of
       inputs-unconfigured e st _ _ kind room =
           given-unconfigured st (inputs kind room) (lengths-same kind room ∙ sym l) e
@@ -125,7 +127,7 @@ module _ (limit : ℕ) (response configuration identifier : Bytes) (clock : ℕ)
         read = configuration_in configuration k
 
         -- 3: the state is not valid
-        pub inputs-invalid : valid ≡ false → Reads (Refused 3)
+        pub inputs-invalid : valid ≡ false → Reads (Err NoState)
         unfolding inputs_within arguments_of
         inputs-invalid e st v _ kind room =
             given-invalid st (inputs kind room) (lengths-same kind room ∙ sym l) read eg
@@ -133,7 +135,7 @@ module _ (limit : ℕ) (response configuration identifier : Bytes) (clock : ℕ)
 
         module _ (y : valid ≡ true) where
           -- 4: there are no outputs
-          pub inputs-outputless : false ≡ is_some (read_outputs outputs) → Reads (Refused 4)
+          pub inputs-outputless : false ≡ is_some (read_outputs outputs) → Reads (Err NoOutputs)
           unfolding inputs_within arguments_of
           inputs-outputless e st v _ kind room =
               let (s, es) = given_some (valid_state st) (sym v ∙ y) in
@@ -142,7 +144,7 @@ module _ (limit : ℕ) (response configuration identifier : Bytes) (clock : ℕ)
 
           module _ (o : true ≡ is_some (read_outputs outputs)) where
             -- 5: there is no response
-            pub inputs-broken : read_response response ≡ none → Reads (Refused 5)
+            pub inputs-broken : read_response response ≡ none → Reads (Err NoLines)
             unfolding inputs_within arguments_of
             inputs-broken e st v _ kind room =
                 let (s, es) = given_some (valid_state st) (sym v ∙ y) in
@@ -152,7 +154,7 @@ module _ (limit : ℕ) (response configuration identifier : Bytes) (clock : ℕ)
             -- all others: the call was read
             pub inputs_read : limit ≤ offset_bound → (r : Response) → Offsets response (ReadAs r)
                 → read_response response ≡ some (parts_in response r)
-                → Reads (Read (record {
+                → Reads (Ok (record {
                   configuration = k;
                   response = r;
                   clock = clock;
@@ -192,65 +194,6 @@ module _ (limit : ℕ) (response configuration identifier : Bytes) (clock : ℕ)
                     },
                   ),
                 )
-
-  -- ---- what is said of a call then
-
-  module _ (st : Option State) (kind : Option Kind) (room : ℕ) where
-    -- a number with which the reading ends is that of the call, whatever rules are tried after it
-    rules-refused : (rs : List Rule) (n : ℕ) → IsReading limit st response configuration identifier clock outputs signed (Refused n)
-        → tried_after rs (read_call st (inputs kind room)) ≡ refused n
-    unfolding tried_after
-    rules-refused rs n h = ap (tried_after rs) (h kind room)
-
-    -- and else the rules are tried on what was read
-    rules-tried : (rs : List Rule) (k : CallBlock)
-        → IsReading limit st response configuration identifier clock outputs signed (Read k)
-        → (c : Call) × (tried_after rs (read_call st (inputs kind room)) ≡ tried rs c)
-        × IsGiven c limit kind st k response configuration identifier outputs signed room
-    unfolding tried_after
-    rules-tried rs k (_, _, h) =
-        let (c, e, i) = h kind room in
-        (c, ap (tried_after rs) e, i)
-
--- ---- the library's calls
-
-module _ (st : Option State) (kind : Option Kind) (response configuration identifier : Bytes) (clock : ℕ) (outputs : Bytes) where
-  module _ (signed : Bytes) (room : ℕ) where
-    -- a search or monitoring is refused by the reading
-    pub reading-refused : (n : ℕ)
-        → IsReading response_limit st response configuration identifier clock outputs signed (Refused n)
-        → judge_call kind st (arguments_of response configuration identifier clock outputs) signed room ≡ refused n
-    unfolding judge_call judge library_inputs
-    reading-refused n h =
-        rules-refused response_limit response configuration identifier clock outputs signed st kind room (checks ++ last_checks) n h
-
-    -- or judged by all rules after it
-    pub reading-tried : (k : CallBlock)
-        → IsReading response_limit st response configuration identifier clock outputs signed (Read k)
-        → (c : Call)
-        × (judge_call kind st (arguments_of response configuration identifier clock outputs) signed room
-        ≡ tried (checks ++ last_checks) c)
-        × IsGiven c response_limit kind st k response configuration identifier outputs signed room
-    unfolding judge_call judge library_inputs
-    reading-tried k h =
-        rules-tried response_limit response configuration identifier clock outputs signed st kind room (checks ++ last_checks) k h
-
-  -- so is a signed text, by 6 to 14
-  pub unsigned-refused : (n : ℕ)
-      → IsReading response_limit st response configuration identifier clock outputs [] (Refused n)
-      → judge_unsigned st kind (arguments_of response configuration identifier clock outputs) ≡ refused n
-  unfolding judge_unsigned judge_without_head library_inputs
-  unsigned-refused n h =
-      rules-refused response_limit response configuration identifier clock outputs [] st kind 0 checks n h
-
-  pub unsigned-tried : (k : CallBlock)
-      → IsReading response_limit st response configuration identifier clock outputs [] (Read k)
-      → (c : Call)
-      × (judge_unsigned st kind (arguments_of response configuration identifier clock outputs) ≡ tried checks c)
-      × IsGiven c response_limit kind st k response configuration identifier outputs [] 0
-  unfolding judge_unsigned judge_without_head library_inputs
-  unsigned-tried k h =
-      rules-tried response_limit response configuration identifier clock outputs [] st kind 0 checks k h
 
 -- ---- the state of a struct
 

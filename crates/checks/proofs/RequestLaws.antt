@@ -35,9 +35,9 @@ use Rattle.inputs.specs.declared.response_lines.Target.{Target}
 use Rattle.inputs.specs.ResponseLines.{decoded}
 use Rattle.inputs.specs.Response.{finding_in, parts_in, Fields}
 use Rattle.inputs.proofs.FrontLaws.{put_first, offset-fits, offset-over}
-use Rattle.checks.specs.declared.call.AskedKind.{AskedKind}
-use Rattle.checks.specs.declared.call.AskedKind.TheVariants.{Search as AskedSearch}
-use Rattle.checks.specs.declared.call.AskedKind.TheVariants.{Monitor as AskedMonitor, Nothing}
+use Rattle.std.specs.Prelude.{Option as CodeOption, Some, None}
+use Rattle.std.specs.Option.{option_eq}
+use Rattle.inputs.specs.contracts.response_lines.KindPartialEq.TheImpl.{eq-value}
 use Rattle.checks.specs.declared.readings.Call.{Call as CallBlock}
 use Rattle.checks.specs.Calls.{number_tried, rules6to8, asked_kind, kind_in, is_kind_asked, IsRequested}
 use Rattle.checks.specs.Calls.{FoundKind, FitsTarget, IsNumber6to8}
@@ -86,14 +86,24 @@ decoded_same field f bytes w g = let (b, e) = given_some (read_hex f) g in rw (w
 -- ---- 6: the response is that of the call
 
 -- a kind is asked for where the test says so
-pub asked_kinds : (k : Kind) (asked : AskedKind) → Option-elim (asked_kind asked) false (same_kind (kind_in k)) ≡ is_kind_asked k asked
+pub asked_kinds : (k : Kind) (asked : CodeOption Kind) → Option-elim (asked_kind asked) false (same_kind (kind_in k)) ≡ is_kind_asked k asked
 unfolding asked_kind is_kind_asked same_kind kind_in Option-elim
-asked_kinds Search AskedSearch = refl
-asked_kinds Search AskedMonitor = refl
-asked_kinds Search Nothing = refl
-asked_kinds Monitor AskedSearch = refl
-asked_kinds Monitor AskedMonitor = refl
-asked_kinds Monitor Nothing = refl
+asked_kinds Search (Some Search) = refl
+asked_kinds Search (Some Monitor) = refl
+asked_kinds Search None = refl
+asked_kinds Monitor (Some Search) = refl
+asked_kinds Monitor (Some Monitor) = refl
+asked_kinds Monitor None = refl
+
+-- the code's equality of kinds is that test
+pub kinds_equal : (k : Kind) (asked : CodeOption Kind) → option_eq eq-value.it asked (Some k) ≡ is_kind_asked k asked
+unfolding is_kind_asked
+kinds_equal Search (Some Search) = refl
+kinds_equal Search (Some Monitor) = refl
+kinds_equal Search None = refl
+kinds_equal Monitor (Some Search) = refl
+kinds_equal Monitor (Some Monitor) = refl
+kinds_equal Monitor None = refl
 
 -- what was found is of the kind of the response
 found_kind : (text : Bytes) (k : Kind) (t : Target) → kind_of (finding_in text k t) ≡ kind_in k
@@ -102,12 +112,12 @@ found_kind text Search t = refl
 found_kind text Monitor t = refl
 
 -- a response is of the kind asked for
-kind_test : (text : Bytes) (r : Response) (asked : AskedKind) (c : Call) → c.parts ≡ parts_in text r
+kind_test : (text : Bytes) (r : Response) (asked : CodeOption Kind) (c : Call) → c.parts ≡ parts_in text r
     → c.inputs.kind ≡ asked_kind asked → kind_asked c ≡ is_kind_asked r.kind asked
 unfolding kind_asked parts_in
 kind_test text r asked c p q = rw (q, p, found_kind text r.kind r.target) (asked_kinds r.kind asked)
 
-module _ (text : Bytes) (r : Response) (asked : AskedKind) (identifier label : Bytes) where
+module _ (text : Bytes) (r : Response) (asked : CodeOption Kind) (identifier label : Bytes) where
   -- one of another kind is not that of the call
   pub kind_foreign : is_kind_asked r.kind asked ≡ false → IsRequested asked text r identifier label false
   unfolding foreign
@@ -235,7 +245,7 @@ module _ (version : ℕ) (vs : List ℕ) where
 
 -- ---- the first number
 
-module _ (asked : AskedKind) (text : Bytes) (k : CallBlock) (identifier label : Bytes) (map : List ℕ) where
+module _ (asked : CodeOption Kind) (text : Bytes) (k : CallBlock) (identifier label : Bytes) (map : List ℕ) where
   -- the response
   abbrev r : Response
   r = k.response

@@ -8,6 +8,7 @@ use native.Mathlib.Omega.{arith}
 use lib.Dec.{ltb}
 use lib.ListN.{length, take, drop, length-append, length-take, length-drop}
 use lib.Seq.{take-append_seam}
+use Rattle.std.specs.Prelude.{Some, None, Option as CodeOption, is_some, IfSome}
 use Rattle.lists.specs.Lists.{Bytes, all, same, unfalling, last_or}
 use Rattle.lists.proofs.ChoiceLaws.{and_holds}
 use Rattle.lines.specs.declared.part.Part.{Part}
@@ -33,6 +34,7 @@ use Rattle.inputs.specs.State.{map_of}
 use Rattle.inputs.proofs.PairLaws.{map_positions}
 use Rattle.checks.specs.declared.readings.Call.{Call as CallBlock}
 use Rattle.checks.specs.declared.trial.Shape.{Shape}
+use Rattle.checks.specs.declared.timestamps.Timestamps.{Timestamps}
 use Rattle.checks.specs.Steps.{versions_of, CommitmentsBy}
 use Rattle.checks.specs.Entries.{timestamps_of, are_asked, AreTimestamps}
 use Rattle.checks.specs.MonitoredVersions.{counted, ArePairs, AreMarks, wanted_by, fit_by}
@@ -100,63 +102,79 @@ module _ {c : Call} {k : CallBlock} {text outputs : Bytes} (i : IsCall c k text 
   unfolding parts_in
   entries_by = ap (λ (p : Parts). p.entries) i.parts ∙ ap entries_in (sym is_entries)
 
-  module _ (s : Shape) (offsets : List ℕ) {ea : Bool} (entries : ea ≡ entries_fit rules (entries_in en)) where
+  module _ (offsets : List ℕ) {ea : Bool} (entries : ea ≡ entries_fit rules (entries_in en)) where
     -- where the entries are not as asked, there is nothing else to tell
-    not-shaped : ea ≡ false → s.asked ≡ false → HasShape c (steps_text text k) s offsets
-    not-shaped h e = record {
-      shaped =
-          e ∙ sym (shaped-by ∙ ap (λ (b : Bool). steps_fit rules (steps_in st) && b) (sym entries ∙ h)
-          ∙ and-false (steps_fit rules (steps_in st)));
-      outputs = λ t. absurd (false≢true (sym e ∙ t));
-      timestamps = λ t. absurd (false≢true (sym e ∙ t));
-      timestamp = λ t. absurd (false≢true (sym e ∙ t));
-      stand = λ t. absurd (false≢true (sym e ∙ t));
-    }
+    not-shaped : ea ≡ false → HasShape c (steps_text text k) None offsets
+    not-shaped h =
+        shaped-by ∙ ap (λ (b : Bool). steps_fit rules (steps_in st) && b) (sym entries ∙ h)
+        ∙ and-false (steps_fit rules (steps_in st))
 
-    -- it is told of both
-    has-shape : {sa : Bool} → Answered st outputs rules.steps rules.is_committed sa s.outputs offsets
-        → AreTimestamps k.kept_size k.kept_timestamp (entries_in en) ea s.timestamps s.timestamp → s.asked ≡ (ea && sa)
-        → HasShape c (steps_text text k) s offsets
-    unfolding output_missing last_timestamp
-    has-shape {sa} a t b = record {
-      shaped = b ∙ and_comm ea sa ∙ ap₂ (λ (x y : Bool). x && y) a.0 entries ∙ sym shaped-by;
-      outputs = λ h.
-          a.1.0 (both h).1 c.outputs i.outputs
-          ∙ ap (λ (l : List Step). all (has_output c.outputs) (versions_of l)) (sym steps-by)
-          ∙ sym (not-not (all (has_output c.outputs) (step_versions c.parts)));
-      timestamps = λ h.
-          (t (both h).0).0 c.state.log i.size i.timestamp
-          ∙ ap (λ (l : List Entry). unfalling (timestamps_of l) && all (timestamp_fits c.state.log) l) (sym entries_by);
-      timestamp = λ h. (t (both h).0).1 ∙ ap (λ (l : List Entry). last_or 0 (timestamps_of l)) (sym entries_by);
-      stand = λ h g.
-          subst (CommitmentsBy (steps_text text k) c.outputs offsets) (sym steps-by)
-          (subst (λ (y : Bytes). CommitmentsBy y c.outputs offsets (steps_in st)) is_steps
-          (a.1.1 (both h).1 g c.outputs i.outputs));
-    }
-      where
-        both : s.asked ≡ true → (ea ≡ true) × (sa ≡ true)
-        both h = and_holds ea sa (sym b ∙ h)
+    module _ (h : ea ≡ true) where
+      -- nor where the steps are not
+      steps-unasked : Answered st outputs rules.steps rules.is_committed None offsets
+          → HasShape c (steps_text text k) None offsets
+      steps-unasked a = shaped-by ∙ ap (λ (b : Bool). b && entries_fit rules (entries_in en)) a
+
+      -- else it is told of both
+      has-shape : (s : Shape) → Answered st outputs rules.steps rules.is_committed (Some s.outputs) offsets
+          → AreTimestamps k.kept_size k.kept_timestamp (entries_in en) s.timestamps
+          → HasShape c (steps_text text k) (Some s) offsets
+      unfolding output_missing last_timestamp
+      has-shape s (a, p) t = record {
+        shaped = shaped-by ∙ ap₂ (λ (x y : Bool). x && y) a (sym entries ∙ h);
+        outputs =
+            (p c.outputs i.outputs).0
+            ∙ ap (λ (l : List Step). all (has_output c.outputs) (versions_of l)) (sym steps-by)
+            ∙ sym (not-not (all (has_output c.outputs) (step_versions c.parts)));
+        timestamps =
+            t.0 c.state.log i.size i.timestamp
+            ∙ ap (λ (l : List Entry). unfalling (timestamps_of l) && all (timestamp_fits c.state.log) l) (sym entries_by);
+        timestamp = t.1 ∙ ap (λ (l : List Entry). last_or 0 (timestamps_of l)) (sym entries_by);
+        stand = λ g.
+            subst (CommitmentsBy (steps_text text k) c.outputs offsets) (sym steps-by)
+            (subst (λ (y : Bytes). CommitmentsBy y c.outputs offsets (steps_in st)) is_steps
+            ((p c.outputs i.outputs).1 g));
+      }
 
 -- ---- a search
 
 module _ {c : Call} {k : CallBlock} {text outputs : Bytes} (i : IsCall c k text outputs)
     (kind : k.response.kind ≡ Search) {st en : Bytes} (is_steps : st ≡ steps_text text k)
-    (is_entries : en ≡ entries_text text k) (s : Shape) (offsets : List ℕ)
-    (wanted : List ℕ) (is_ladder : wanted ≡ ladder k.response.target.version) {ea sa : Bool} where
-  -- its shape, from its entries, which are those of the frontier, and its steps
-  pub search-shape : ea ≡ are_asked Search wanted k.response.tree_size [] [] (entries_in en)
-      → Answered st outputs (ladder k.response.target.version) (λ (v : ℕ). ltb v k.response.target.version) sa
-      s.outputs offsets
-      → AreTimestamps k.kept_size k.kept_timestamp (entries_in en) ea s.timestamps s.timestamp → s.asked ≡ (ea && sa)
-      → HasShape c (steps_text text k) s offsets
-  unfolding search_rules asked_by_search fit_by wanted_by frontier_and_paths parts_in
-  search-shape e a t b =
-      has-shape i (search-rules c (target_in text k.response) (call-found text k.response kind c i.parts))
-      is_steps is_entries s offsets
-      (e
+    (is_entries : en ≡ entries_text text k) (offsets : List ℕ)
+    (wanted : List ℕ) (is_ladder : wanted ≡ ladder k.response.target.version) {ea : Bool}
+    (entries : ea ≡ are_asked Search wanted k.response.tree_size [] [] (entries_in en)) where
+  -- what its rules are
+  search-known : kind_rules c ≡ search_rules (target_in text k.response) c.configuration c.state c.parts
+  search-known = search-rules c (target_in text k.response) (call-found text k.response kind c i.parts)
+
+  -- whether its entries, which are those of the frontier, are as asked
+  search_entries : ea ≡ entries_asked is_beginning (asked_by_search c.parts.tree_size k.response.target.version) (entries_in en)
+  unfolding asked_by_search fit_by wanted_by frontier_and_paths parts_in
+  search_entries =
+      entries
       ∙ ap₂ (λ (l : List ℕ) (n : ℕ). entries_asked is_beginning (asked_at (λ _. l) (frontier n)) (entries_in en)) is_ladder
-      (sym (ap (λ (p : Parts). p.tree_size) i.parts)))
-      a t b
+      (sym (ap (λ (p : Parts). p.tree_size) i.parts))
+
+  -- its shape, where they are not
+  pub search-not : ea ≡ false → HasShape c (steps_text text k) None offsets
+  unfolding search_rules
+  search-not = not-shaped i search-known is_steps is_entries offsets search_entries
+
+  module _ (h : ea ≡ true) where
+    -- or its steps are not
+    pub search-unasked : Answered st outputs (ladder k.response.target.version) (λ (v : ℕ). ltb v k.response.target.version)
+        None offsets → HasShape c (steps_text text k) None offsets
+    unfolding search_rules
+    search-unasked = steps-unasked i search-known is_steps is_entries offsets search_entries h
+
+    -- and where both are
+    pub search-shape : (s : Shape)
+        → Answered st outputs (ladder k.response.target.version) (λ (v : ℕ). ltb v k.response.target.version)
+        (Some s.outputs) offsets
+        → AreTimestamps k.kept_size k.kept_timestamp (entries_in en) s.timestamps
+        → HasShape c (steps_text text k) (Some s) offsets
+    unfolding search_rules
+    search-shape = has-shape i search-known is_steps is_entries offsets search_entries h
 
 -- ---- monitoring
 
@@ -181,7 +199,7 @@ module _ {c : Call} {k : CallBlock} {text outputs : Bytes} (i : IsCall c k text 
   unfolding parts_in
   entries-known = ap₂ asked_by_monitoring (ap (λ (p : Parts). p.tree_size) i.parts) is_map
 
-  module _ {st en : Bytes} (is_steps : st ≡ steps_text text k) (is_entries : en ≡ entries_text text k) (s : Shape)
+  module _ {st en : Bytes} (is_steps : st ≡ steps_text text k) (is_entries : en ≡ entries_text text k)
       (offsets : List ℕ) (l : List ℕ) {ea : Bool}
       (entries : ea ≡ are_asked Monitor l k.response.tree_size ps vs (entries_in en)) where
     -- whether its entries are as asked
@@ -194,19 +212,31 @@ module _ {c : Call} {k : CallBlock} {text outputs : Bytes} (i : IsCall c k text 
         (monitoring_asks k.response.tree_size ps vs alike l ∙ sym entries-known)
 
     -- its shape, where they are not
-    pub monitoring-not : ea ≡ false → s.asked ≡ false → HasShape c (steps_text text k) s offsets
+    pub monitoring-not : ea ≡ false → HasShape c (steps_text text k) None offsets
     unfolding monitoring_rules
-    monitoring-not = not-shaped i monitoring-known is_steps is_entries s offsets entries_as_asked
+    monitoring-not = not-shaped i monitoring-known is_steps is_entries offsets entries_as_asked
 
-    -- and where they are, from its steps, whose versions are those of the pairs that count
-    pub monitoring-shape : (marks : List ℕ) → ea ≡ true
-        → counted marks vs ≡ versions_asked (asked_by_monitoring k.response.tree_size (map_of ps vs))
-        → Answered st outputs (counted marks vs) (λ (v : ℕ). true) s.asked s.outputs offsets
-        → AreTimestamps k.kept_size k.kept_timestamp (entries_in en) ea s.timestamps s.timestamp
-        → HasShape c (steps_text text k) s offsets
-    unfolding monitoring_rules
-    monitoring-shape marks h m a t =
-        has-shape i monitoring-known is_steps is_entries s offsets entries_as_asked
-        (subst (λ (w : List ℕ). Answered st outputs w (λ (v : ℕ). true) s.asked s.outputs offsets)
-        (m ∙ ap versions_asked (sym entries-known)) a)
-        t (rw h refl)
+    module _ (marks : List ℕ) (h : ea ≡ true)
+        (m : counted marks vs ≡ versions_asked (asked_by_monitoring k.response.tree_size (map_of ps vs))) where
+      -- what is answered of its steps, whose versions are those of the pairs that count
+      steps-answered : (r : CodeOption Bool) → Answered st outputs (counted marks vs) (λ (v : ℕ). true) r offsets
+          → Answered st outputs (versions_asked (asked_by_monitoring c.parts.tree_size c.state.monitoring_map))
+          (λ (v : ℕ). true) r offsets
+      steps-answered r a =
+          subst (λ (w : List ℕ). Answered st outputs w (λ (v : ℕ). true) r offsets)
+          (m ∙ ap versions_asked (sym entries-known)) a
+
+      -- where the steps are not as asked
+      pub monitoring-unasked : Answered st outputs (counted marks vs) (λ (v : ℕ). true) None offsets
+          → HasShape c (steps_text text k) None offsets
+      unfolding monitoring_rules
+      monitoring-unasked a =
+          steps-unasked i monitoring-known is_steps is_entries offsets entries_as_asked h (steps-answered None a)
+
+      -- and where both are
+      pub monitoring-shape : (s : Shape) → Answered st outputs (counted marks vs) (λ (v : ℕ). true) (Some s.outputs) offsets
+          → AreTimestamps k.kept_size k.kept_timestamp (entries_in en) s.timestamps
+          → HasShape c (steps_text text k) (Some s) offsets
+      unfolding monitoring_rules
+      monitoring-shape s a =
+          has-shape i monitoring-known is_steps is_entries offsets entries_as_asked h s (steps-answered (Some s.outputs) a)

@@ -8,6 +8,7 @@ use native.Mathlib.Omega.{arith}
 use lib.Dec.{eqb, leb}
 use lib.ListN.{length}
 use borrow.Author.Tests.{eq-eqb, ne_eqb, not-true, not-false}
+use Rattle.std.specs.Prelude.{Some, None}
 use Rattle.lists.specs.Lists.{Bytes, all, every, same, unfalling}
 use Rattle.lists.proofs.ChoiceLaws.{and_holds}
 use Rattle.tree.specs.LogTree.{node_count}
@@ -21,7 +22,10 @@ use Rattle.inputs.specs.State.{map_of}
 use Rattle.inputs.specs.Response.{parts_in}
 use Rattle.checks.specs.declared.readings.Call.{Call as CallBlock}
 use Rattle.checks.specs.declared.trial.Shape.{Shape}
-use Rattle.checks.specs.declared.trial.Tried9to11.{Tried9to11}
+use Rattle.std.specs.Prelude.{Ok, Err, Result}
+use Rattle.inputs.specs.declared.refusal.Refusal.{Refusal}
+use Rattle.inputs.specs.declared.refusal.Refusal.TheVariants.{Shape as WrongShape, MissingOutput, Time}
+use Rattle.inputs.specs.Refusal.{refusal_number, number_in}
 use Rattle.checks.specs.Entries.{near_clock}
 use Rattle.checks.specs.Calls.{IsCall, entries_text, number_tried, rules9to11}
 use Rattle.checks.specs.Calls.{Shapeable, is_shaped, IsShape, Is9to11Tried}
@@ -99,35 +103,33 @@ eleven_parts {c} {k} i =
 -- ---- the ways out
 
 module _ {text : Bytes} {k : CallBlock} {ps vs : List ℕ} {outputs : Bytes}
-    (p : Shapeable text k ps vs outputs) {shape : Shape} {offsets : List ℕ}
-    (h : IsShape text k ps vs outputs shape offsets)
+    (p : Shapeable text k ps vs outputs) (offsets : List ℕ)
   where
     -- what is said of each call that the arguments stand for
     abbrev Each : (Call → Type 0) → Type 0
     Each P = (c : Call) → IsCall c k text outputs → c.state.monitoring_map ≡ map_of ps vs → P c
 
     -- what comes of 9 to 11
-    abbrev Told : Tried9to11 → Type 0
-    Told s = Is9to11Tried text k ps vs outputs s offsets
+    abbrev Told : Result ℕ Refusal → Type 0
+    Told r = Is9to11Tried text k ps vs outputs r offsets
 
     -- a refusal
-    told-refused : {s : Tried9to11} {n : ℕ} → s.number ≡ n → 1 ≤ n → Each (λ c. n ≡ number_tried rules9to11 c)
-        → Told s
-    told-refused e l f c i m = (e ∙ f c i m, λ z. absurd (omega (arith, e, z, l)))
+    told-refused : (e : Refusal) → Each (λ c. refusal_number e ≡ number_tried rules9to11 c) → Told (Err e)
+    told-refused e f c i m = (f c i m, tt)
 
     -- steps, commitments or entries are not as asked
-    pub shape-refused : shape.asked ≡ false → (s : Tried9to11) → s.number ≡ 9 → Told s
-    shape-refused f s e = told-refused e (omega arith) λ c i m. number-first 9 not_as_asked _ c
-        (nine_parts c ∙ ap (λ (b : Bool). not (b && are_nodes_asked c)) (sym (h c i m).shaped ∙ f))
+    pub shape-refused : IsShape text k ps vs outputs None offsets → Told (Err WrongShape)
+    shape-refused h = told-refused WrongShape λ c i m. number-first 9 not_as_asked _ c
+        (nine_parts c ∙ ap (λ (b : Bool). not (b && are_nodes_asked c)) (h c i m))
 
-    module _ (right : shape.asked ≡ true) {s : Bytes} {n : ℕ} (is_entries : s ≡ entries_text text k)
+    module _ {shape : Shape} (h : IsShape text k ps vs outputs (Some shape) offsets) {s : Bytes} {n : ℕ} (is_entries : s ≡ entries_text text k)
         (is_asked : n ≡ nodes_asked k.response.tree_size (known_in s k.kept_size []))
       where
         -- then the number of nodes decides
         nine-left : Each (λ c. not_as_asked c ≡ not (eqb k.response.nodes.count n))
         unfolding parts_in
         nine-left c i m =
-            let a : is_shaped c ≡ true = sym (h c i m).shaped ∙ right in
+            let a : is_shaped c ≡ true = (h c i m).shaped in
             let given : length c.parts.nodes ≡ k.response.nodes.count =
             ap (λ (x : Parts). length x.nodes) i.parts ∙ sym p.triable.offsets.1.nodes in
             let wanted : node_count (log_walk c) ≡ n =
@@ -135,8 +137,8 @@ module _ {text : Bytes} {k : CallBlock} {ps vs : List ℕ} {outputs : Bytes}
             nine_parts c ∙ ap₂ (λ (b d : Bool). not (b && d)) a (ap₂ eqb given wanted)
 
         -- the nodes are not as many as asked
-        pub nodes-refused : (n ≡ k.response.nodes.count → ⊥) → (s : Tried9to11) → s.number ≡ 9 → Told s
-        nodes-refused f s e = told-refused e (omega arith) λ c i m. number-first 9 not_as_asked _ c
+        pub nodes-refused : (n ≡ k.response.nodes.count → ⊥) → Told (Err WrongShape)
+        nodes-refused f = told-refused WrongShape λ c i m. number-first 9 not_as_asked _ c
             (nine-left c i m ∙ ap not (ne_eqb _ _ (λ z. f (sym z))))
 
         module _ (same_count : n ≡ k.response.nodes.count) where
@@ -145,46 +147,46 @@ module _ {text : Bytes} {k : CallBlock} {ps vs : List ℕ} {outputs : Bytes}
           nine-passed c i m = nine-left c i m ∙ ap not (eq-eqb _ _ (sym same_count))
 
           -- an output is missing
-          pub outputs-refused : shape.outputs ≡ false → (s : Tried9to11) → s.number ≡ 10 → Told s
-          outputs-refused f s e = told-refused e (omega arith) λ c i m.
-              number-first 10 output_missing _ c (not-false _ (sym ((h c i m).outputs right) ∙ f))
+          pub outputs-refused : shape.outputs ≡ false → Told (Err MissingOutput)
+          outputs-refused f = told-refused MissingOutput λ c i m.
+              number-first 10 output_missing _ c (not-false _ (sym (h c i m).outputs ∙ f))
               ∙ number-next 9 not_as_asked _ c (nine-passed c i m)
 
           module _ (there : shape.outputs ≡ true) where
             -- then 11 is left
             timestamps-left : Each (λ c. number_tried (rule 11 timestamps_wrong ∷ []) c ≡ number_tried rules9to11 c)
             timestamps-left c i m =
-                number-next 10 output_missing _ c (not-true _ (sym ((h c i m).outputs right) ∙ there))
+                number-next 10 output_missing _ c (not-true _ (sym (h c i m).outputs ∙ there))
                 ∙ number-next 9 not_as_asked _ c (nine-passed c i m)
 
             -- and the times and the clock decide
-            eleven-left : Each (λ c. timestamps_wrong c ≡ not (shape.timestamps && is_near k shape.timestamp))
+            eleven-left : Each (λ c. timestamps_wrong c ≡ not (shape.timestamps.fit && is_near k shape.timestamps.latest))
             eleven-left c i m =
                 eleven_parts i
                 ∙ ap₂ (λ (b : Bool) (t : ℕ). not (b && is_near k t))
-                (sym ((h c i m).timestamps right)) (sym ((h c i m).timestamp right))
+                (sym (h c i m).timestamps) (sym (h c i m).timestamp)
 
             -- the times of the entries do not fit
-            pub timestamps-refused : shape.timestamps ≡ false → (s : Tried9to11) → s.number ≡ 11 → Told s
-            timestamps-refused f s e = told-refused e (omega arith) λ c i m.
+            pub timestamps-refused : shape.timestamps.fit ≡ false → Told (Err Time)
+            timestamps-refused f = told-refused Time λ c i m.
                 number-first 11 timestamps_wrong _ c
-                (eleven-left c i m ∙ ap (λ (b : Bool). not (b && is_near k shape.timestamp)) f)
+                (eleven-left c i m ∙ ap (λ (b : Bool). not (b && is_near k shape.timestamps.latest)) f)
                 ∙ timestamps-left c i m
 
-            module _ (fit : shape.timestamps ≡ true) {b : Bool} (is_clock : b ≡ is_near k shape.timestamp) where
+            module _ (fit : shape.timestamps.fit ≡ true) {b : Bool} (is_clock : b ≡ is_near k shape.timestamps.latest) where
               -- then the clock decides
               clock-left : Each (λ c. timestamps_wrong c ≡ not b)
               clock-left c i m = eleven-left c i m ∙ ap₂ (λ (x y : Bool). not (x && y)) fit (sym is_clock)
 
               -- the time of the last entry is too far from it
-              pub clock-refused : b ≡ false → (s : Tried9to11) → s.number ≡ 11 → Told s
-              clock-refused f s e = told-refused e (omega arith) λ c i m.
+              pub clock-refused : b ≡ false → Told (Err Time)
+              clock-refused f = told-refused Time λ c i m.
                   number-first 11 timestamps_wrong _ c (clock-left c i m ∙ ap not f) ∙ timestamps-left c i m
 
               -- none of 9 to 11 applies
-              pub tried_passed : b ≡ true → Told (record { number = 0; timestamp = shape.timestamp })
+              pub tried_passed : b ≡ true → Told (Ok shape.timestamps.latest)
               tried_passed f c i m = (
                 number_none c ∙ number-next 11 timestamps_wrong _ c (clock-left c i m ∙ ap not f)
                     ∙ timestamps-left c i m,
-                λ _. ((h c i m).timestamp right, (h c i m).stand right there),
+                ((h c i m).timestamp, (h c i m).stand there),
               )

@@ -3,8 +3,8 @@
 -- have their versions, and where their commitments stand.
 use mathlib.Core.Path.{◌≡◌, refl, sym, ◌∙◌, ap, subst}
 use mathlib.Core.HLevel.{⊥_prop}
-use mathlib.Core.Logic.{◌⊎◌, inl, inr, ∥∥₁_elim}
-use mathlib.Core.Bool.{Bool, true, false, ◌&&◌, not, false≢true, and-true, and-false}
+use mathlib.Core.Logic.{◌⊎◌, inl, inr, ⊎_elim, ∥∥₁_elim}
+use mathlib.Core.Bool.{Bool, true, false, ◌&&◌, ◌||◌, not, beq, false≢true, and-true, and-false}
 use mathlib.Core.List.{List, [], ◌∷◌, ◌++◌, append-nil, append_cancel_left, map-append}
 use mathlib.Core.List.Memᴰ
 use mathlib.Core.List.{Nodup, Nodup-nil, Nodup-cons, Nodup-append, Memᴰ}
@@ -14,11 +14,12 @@ use native.Mathlib.Omega.{arith}
 use lib.Dec.{eqb, ltb}
 use lib.ListN.{length, get_or, drop, set, length-map}
 use lib.Seq.{append_snoc, get_or-set_same, get_or-set_other}
-use borrow.Author.Tests.{eqb-true, le-ltb, not-true}
-use Rattle.std.specs.Prelude.{Some}
+use borrow.Author.Tests.{eqb-true, eqb-false, le-ltb, not-true, not-false}
+use Rattle.std.specs.Prelude.{Some, None, Option as CodeOption}
+use Rattle.std.specs.Bool.{then_some}
 use Rattle.lists.specs.Choice.{is_some}
 use Rattle.lists.specs.Lists.{Bytes, all, same, rising, runs}
-use Rattle.lists.proofs.ChoiceLaws.{and_holds, holds_and, never_holds, provided_some}
+use Rattle.lists.proofs.ChoiceLaws.{and_holds, holds_and, never_holds, or_holds, or_fails, provided_some}
 use Rattle.lists.proofs.ListLaws.{all_at, all_with, all_without, any_at, mapped_at, same_true, equal_same}
 use Rattle.lists.proofs.ListLaws.{select_fewer, select_length}
 use Rattle.lists.proofs.RisingLaws.{rising_first, rising_tail}
@@ -30,12 +31,14 @@ use Rattle.rules.specs.Response.{Step}
 use Rattle.rules.specs.Refusals.{commitment_asked}
 use Rattle.inputs.specs.declared.vrf_outputs.FoundOutput.{FoundOutput}
 use Rattle.inputs.specs.VrfOutputs.{records_below, IsRecordOf}
+use Rattle.rules.specs.ResponseText.{read_step}
 use Rattle.inputs.specs.Response.{steps_in}
 use Rattle.inputs.proofs.VrfOutputLaws.{found_is, found_index, fewer_below}
+use Rattle.checks.proofs.LineStepLaws.{no-line-end, some-line}
 use Rattle.checks.specs.declared.sections.NextStep.{NextStep}
 use Rattle.checks.specs.Sections.{StepLines, CommitmentAt, IsNextStep}
-use Rattle.checks.specs.Steps.{versions_of, records_capacity, CommitmentsBy, IsNoted}
-use Rattle.checks.specs.Steps.{AreOutputsThere, AreCommitmentsBy}
+use Rattle.checks.specs.Steps.{versions_of, records_capacity, CommitmentsBy, IsNoted, IsWantedStep}
+use Rattle.checks.specs.Steps.{ArePlaced, AreSteps}
 
 -- ---- records of outputs
 
@@ -58,6 +61,38 @@ record_within s xs v h e t =
     let b = le-ltb a.version v (omega (arith, eqb-true a.version v z)) in
     let f = select_fewer (λ (x : VrfOutput). ltb x.version v) (λ _. true) xs a (λ x _. refl) m b refl in
     omega (arith, f, select_length {A = VrfOutput} (λ _. true) xs, l)
+
+-- ---- tests
+
+-- a version is not another, or a test is not as another
+abbrev differs : ℕ → ℕ → Bool → Bool → Bool
+differs a b s t = not (eqb a b) || not (beq s t)
+
+-- tests that are told apart differ
+tests_differ : (a b : Bool) → not (beq a b) ≡ true → a ≡ b → ⊥
+tests_differ true true e q = false≢true e
+tests_differ true false e q = false≢true (sym q)
+tests_differ false true e q = false≢true q
+tests_differ false false e q = false≢true e
+
+-- those that are not are equal
+tests_agree : (a b : Bool) → not (beq a b) ≡ false → a ≡ b
+tests_agree true true e = refl
+tests_agree true false e = e
+tests_agree false true e = sym e
+tests_agree false false e = refl
+
+-- then not both are equal
+pub not_both : (a b : ℕ) (s t : Bool) → differs a b s t ≡ true → a ≡ b → s ≡ t → ⊥
+not_both a b s t h e q =
+    ⊎_elim (λ p. eqb-false a b (not-true (eqb a b) p) e) (λ p. tests_differ s t p q)
+    (or_holds (not (eqb a b)) (not (beq s t)) h)
+
+-- else they are
+pub both : (a b : ℕ) (s t : Bool) → differs a b s t ≡ false → (a ≡ b) × (s ≡ t)
+both a b s t h =
+    let (p, q) = or_fails (not (eqb a b)) (not (beq s t)) h in
+    (eqb-true a b (not-false (eqb a b) p), tests_agree s t q)
 
 -- ---- the offset of one commitment
 
@@ -87,20 +122,13 @@ no_versions : (steps : List Step) → versions_of steps ≡ [] → steps ≡ []
 no_versions [] e = refl
 no_versions (x ∷ steps) e = absurd (omega (arith, ap length e))
 
--- it is told whether outputs have the versions of all steps, and where they have, the commitments
--- stand at the offsets with the numbers of the records
-abbrev Placed : Bytes → Bytes → List ℕ → Bool → List Step → Type 0
-Placed s outputs offsets there steps =
-    (xs : List VrfOutput) → read_outputs outputs ≡ some xs
-    → (there ≡ all (has_output xs) (versions_of steps)) × (there ≡ true → CommitmentsBy s xs offsets steps)
-
 module _ (s outputs : Bytes) (offsets : List ℕ) (there : Bool) (steps : List Step)
-    (p : Placed s outputs offsets there steps) (room : length offsets ≡ records_capacity)
+    (p : ArePlaced s outputs offsets there steps) (room : length offsets ≡ records_capacity)
     (few : length outputs ≤ vrf_outputs_limit) (x : Step) (offset : ℕ) (r : Bool) (offsets' : List ℕ) where
   -- a step more, of a version that none of the others has, whose commitment was noted
   placed-next : IsNoted outputs x.version offset offsets r offsets' → CommitmentAt s offset x.commitment
       → ((y : Step) → Memᴰ y steps → y.version ≡ x.version → ⊥)
-      → Placed s outputs offsets' (there && r) (steps ++ x ∷ [])
+      → ArePlaced s outputs offsets' (there && r) (steps ++ x ∷ [])
   placed-next i c n xs e = go r (i xs e)
     where
       v : ℕ
@@ -185,15 +213,13 @@ pub record StepsRead (s outputs : Bytes) (wanted : List ℕ) (f : ℕ → Bool) 
   pub versions : wanted ≡ versions_of done ++ left
   pub asked : all (commitment_asked f) done ≡ true
   pub room : length offsets ≡ records_capacity
-  pub placed : Placed s outputs offsets there done
+  pub placed : ArePlaced s outputs offsets there done
   pub lines : StepLines (drop at s)
 
--- what is answered of the steps: whether they are as asked, whether outputs have all versions, and
--- the offsets
-abbrev pub Answered : Bytes → Bytes → List ℕ → (ℕ → Bool) → Bool → Bool → List ℕ → Type 0
-Answered s outputs wanted f asked there offsets =
-    (asked ≡ (same (versions_of (steps_in s)) wanted && all (commitment_asked f) (steps_in s)))
-    × (AreOutputsThere s outputs asked there × AreCommitmentsBy s outputs asked there offsets)
+-- what is answered of the steps: that they are not as asked, or whether outputs have all versions
+abbrev pub Answered : Bytes → Bytes → List ℕ → (ℕ → Bool) → CodeOption Bool → List ℕ → Type 0
+Answered s outputs wanted f r offsets =
+    AreSteps s outputs (same (versions_of (steps_in s)) wanted && all (commitment_asked f) (steps_in s)) r offsets
 
 -- at first none has been read
 pub read_start : (s outputs : Bytes) (wanted : List ℕ) (f : ℕ → Bool) (offsets : List ℕ)
@@ -214,15 +240,12 @@ module _ {s outputs : Bytes} {wanted : List ℕ} {f : ℕ → Bool} {left offset
   -- steps are not as asked where it is absurd that the others have the versions left, and
   -- commitments
   refuted : (versions_of (steps_in (drop at s)) ≡ left → all (commitment_asked f) (steps_in s) ≡ true → ⊥)
-      → Answered s outputs wanted f false there offsets
+      → Answered s outputs wanted f None offsets
   refuted h =
       let t = same (versions_of (steps_in s)) wanted in
-      let u = all (commitment_asked f) (steps_in s) in (
-        sym (
-            never_holds (t && u)
-            (λ q. h (others (same_true (versions_of (steps_in s)) wanted (and_holds t u q).0)) (and_holds t u q).1)),
-        (λ q. absurd (false≢true q), λ q. absurd (false≢true q)),
-      )
+      let u = all (commitment_asked f) (steps_in s) in
+      never_holds (t && u)
+      (λ q. h (others (same_true (versions_of (steps_in s)) wanted (and_holds t u q).0)) (and_holds t u q).1)
     where
       others : versions_of (steps_in s) ≡ wanted → versions_of (steps_in (drop at s)) ≡ left
       others v =
@@ -231,35 +254,40 @@ module _ {s outputs : Bytes} {wanted : List ℕ} {f : ℕ → Bool} {left offset
           ∙ v ∙ r.versions)
 
   -- where neither a step nor a version is left, they are as asked
-  pub read-end : steps_in (drop at s) ≡ [] → left ≡ [] → Answered s outputs wanted f true there offsets
+  pub read-end : steps_in (drop at s) ≡ [] → left ≡ [] → Answered s outputs wanted f (Some there) offsets
   read-end n e =
       let whole : steps_in s ≡ r.done = r.split ∙ ap (λ (l : List Step). r.done ++ l) n ∙ append-nil r.done in
       let v : wanted ≡ versions_of r.done =
       r.versions ∙ ap (λ (l : List ℕ). versions_of r.done ++ l) e ∙ append-nil (versions_of r.done) in (
-        sym (
-            holds_and (same (versions_of (steps_in s)) wanted) (all (commitment_asked f) (steps_in s))
+        holds_and (same (versions_of (steps_in s)) wanted) (all (commitment_asked f) (steps_in s))
             (equal_same (versions_of (steps_in s)) wanted (ap versions_of whole ∙ sym v))
-            (ap (all (commitment_asked f)) whole ∙ r.asked)),
-        (
-          λ _ xs i. (r.placed xs i).0 ∙ ap (λ (l : List Step). all (has_output xs) (versions_of l)) (sym whole),
-          λ _ t xs i. subst (CommitmentsBy s xs offsets) (sym whole) ((r.placed xs i).1 t),
-        ),
+            (ap (all (commitment_asked f)) whole ∙ r.asked),
+        subst (ArePlaced s outputs offsets there) (sym whole) r.placed,
       )
 
   -- where a version is left and no step is, they are not
   pub read_short : {v : ℕ} {rest : List ℕ} → steps_in (drop at s) ≡ [] → left ≡ v ∷ rest
-      → Answered s outputs wanted f false there offsets
+      → Answered s outputs wanted f None offsets
   read_short n e = refuted (λ v c. omega (arith, ap length (sym (ap versions_of n) ∙ v ∙ e)))
 
   -- nor where a step is left and no version is
-  pub read_more : (steps_in (drop at s) ≡ [] → ⊥) → left ≡ [] → Answered s outputs wanted f false there offsets
+  pub read_more : (steps_in (drop at s) ≡ [] → ⊥) → left ≡ [] → Answered s outputs wanted f None offsets
   read_more n e = refuted (λ v c. n (no_versions (steps_in (drop at s)) (v ∙ e)))
+
+  -- where no version is left, they are as asked if the lines end here
+  pub read_all : left ≡ [] → at ≤ length s → Answered s outputs wanted f (then_some (eqb at (length s)) there) offsets
+  unfolding steps_in
+  read_all e h = go (eqb at (length s)) refl
+    where
+      go : (q : Bool) → eqb at (length s) ≡ q → Answered s outputs wanted f (then_some q there) offsets
+      go true q = read-end (no-line-end read_step s at (omega (arith, eqb-true at (length s) q))) e
+      go false q = read_more (some-line read_step s at r.lines (omega (arith, eqb-false at (length s) q))) e
 
   module _ {n : NextStep} (k : IsNextStep s at (Some n)) where
     -- nor where the next step has another version than the next one left, or a commitment that is
     -- not asked, or lacks one that is
     pub read_other : {v : ℕ} {rest : List ℕ} → left ≡ v ∷ rest → (n.version ≡ v → n.committed ≡ f n.version → ⊥)
-        → Answered s outputs wanted f false there offsets
+        → Answered s outputs wanted f None offsets
     read_other {v} e h = refuted (λ w c.
         h (sym k.2 ∙ ap (λ (l : List ℕ). get_or l 0 0) (sym (ap versions_of k.1) ∙ w ∙ e))
         (sym k.3 ∙ commitment-was f k.0 (all_at (commitment_asked f) (steps_in s) k.0 c member) ∙ ap f k.2))
@@ -270,7 +298,7 @@ module _ {s outputs : Bytes} {wanted : List ℕ} {f : ℕ → Bool} {left offset
     -- otherwise it is one of those read, once its commitment is noted
     pub read_next : {rest offsets' : List ℕ} {b : Bool} → Nodup wanted → length outputs ≤ vrf_outputs_limit
         → left ≡ n.version ∷ rest → n.committed ≡ f n.version → IsNoted outputs n.version n.commitment offsets b offsets'
-        → length offsets' ≡ length offsets → StepsRead s outputs wanted f rest offsets' n.next (there && b)
+        → length offsets' ≡ records_capacity → StepsRead s outputs wanted f rest offsets' n.next (there && b)
     read_next {rest} {offsets'} {b} d l e g i z = record {
       done = r.done ++ x ∷ [];
       split =
@@ -281,7 +309,7 @@ module _ {s outputs : Bytes} {wanted : List ℕ} {f : ℕ → Bool} {left offset
           ∙ ap (λ (l : List ℕ). l ++ rest)
           (sym (versions_snoc r.done x ∙ ap (λ (v : ℕ). versions_of r.done ++ v ∷ []) k.2));
       asked = all_with (commitment_asked f) r.done x (commitment-right f x (k.3 ∙ g ∙ ap f (sym k.2))) ∙ r.asked;
-      room = z ∙ r.room;
+      room = z;
       placed =
           placed-next s outputs offsets there r.done r.placed r.room l x n.commitment b offsets' (rw k.2 i) k.4
           other;
@@ -299,3 +327,17 @@ module _ {s outputs : Bytes} {wanted : List ℕ} {f : ℕ → Bool} {left offset
             never_before (versions_of r.done) n.version rest (subst (λ (l : List ℕ). Nodup l) both d)
             (subst (λ (v : ℕ). Memᴰ v (versions_of r.done)) (q ∙ k.2)
             (mapped_at (λ (x : Step). x.version) r.done y m))
+
+  module _ {v : ℕ} {rest : List ℕ} (e : left ≡ v ∷ rest) where
+    -- where the step at the offset is not the one wanted, they are not as asked
+    pub read_refused : (offsets' : List ℕ) → IsWantedStep s at v (f v) outputs offsets None offsets'
+        → Answered s outputs wanted f None offsets'
+    read_refused offsets' k = ⊎_elim (λ n. read_short n e) (λ m. read_other m.1 e (λ a b. m.2 a (b ∙ ap f a))) k
+
+    -- otherwise it is one of those read
+    pub read_taken : {offsets' : List ℕ} {b : Bool} {next : ℕ} → Nodup wanted → length outputs ≤ vrf_outputs_limit
+        → IsWantedStep s at v (f v) outputs offsets (Some (b, next)) offsets'
+        → length offsets' ≡ records_capacity → StepsRead s outputs wanted f rest offsets' next (there && b)
+    read_taken {offsets'} {b} d l (n, k, a, c, q, i) z =
+        subst (λ (y : ℕ). StepsRead s outputs wanted f rest offsets' y (there && b)) q
+        (read_next k d l (e ∙ ap (λ (y : ℕ). y ∷ rest) (sym a)) (c ∙ ap f (sym a)) (rw a i) z)

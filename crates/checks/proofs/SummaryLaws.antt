@@ -14,7 +14,7 @@ use Rattle.rules.specs.Response.{Lookup, Entry, is_included}
 use Rattle.rules.specs.Search.{result_fits, is_complete, ends_early}
 use Rattle.rules.specs.Refusals.{lookup_passes}
 use Rattle.inputs.specs.Response.{entries_in, loose_in}
-use Rattle.checks.specs.declared.lookups.Sought.{Sought}
+use Rattle.checks.specs.declared.sought.Sought.{Sought}
 use Rattle.checks.specs.declared.lookups.Summary.{Summary}
 use Rattle.std.specs.Prelude.{Some}
 use Rattle.checks.specs.Sections.{EntryLines, IsNextLookup, AfterLookups, OfLookup}
@@ -54,9 +54,9 @@ ends_snoc t (k ∷ ls) l = go ls (ends_snoc t ls l)
 
 -- ---- summaries
 
-module _ (s : Sought) (outputs steps : Bytes) (offsets ladder : List ℕ) where
+module _ (s : Sought) where
   -- of no lookup
-  pub summary-start : (root : Bytes) → IsSummary s outputs steps offsets ladder root [] (no_lookups root)
+  pub summary-start : (root : Bytes) → IsSummary s root [] (no_lookups root)
   unfolding all begins ends_early no_lookups
   summary-start root =
       record {
@@ -73,9 +73,9 @@ module _ (s : Sought) (outputs steps : Bytes) (offsets ladder : List ℕ) where
   pub summary-next : (line : Bytes) (x : Summary) (v : ℕ) (there passed stands : Bool)
       → OfLookup line (λ (l : Lookup). l.version) v
       → OfLookup line (λ (l : Lookup). is_included l.result) there
-      → Passes line x.root s outputs steps offsets passed
-      → stands ≡ begins (v ∷ []) (drop x.count ladder)
-      → IsNextSummary s outputs steps offsets ladder line x
+      → Passes s line x.root passed
+      → stands ≡ begins (v ∷ []) (drop x.count s.ladder.now)
+      → IsNextSummary s line x
       (record {
         root = x.root;
         reached = x.reached && passed;
@@ -100,9 +100,9 @@ module _ (s : Sought) (outputs steps : Bytes) (offsets ladder : List ℕ) where
         count = omega (arith, h.count, length-append ls (l ∷ []));
         begin =
             ap₂ ◌&&◌ h.begin
-            (stood ∙ ap₂ (λ (u k : ℕ). begins (u ∷ []) (drop k ladder)) version (h.count ∙ sym (length-map ls _)))
-            ∙ sym (ap (λ (vs : List ℕ). begins vs ladder) (map-append (λ (k : Lookup). k.version) ls (l ∷ []))
-            ∙ begins_snoc (versions_of ls) l.version ladder);
+            (stood ∙ ap₂ (λ (u k : ℕ). begins (u ∷ []) (drop k s.ladder.now)) version (h.count ∙ sym (length-map ls _)))
+            ∙ sym (ap (λ (vs : List ℕ). begins vs s.ladder.now) (map-append (λ (k : Lookup). k.version) ls (l ∷ []))
+            ∙ begins_snoc (versions_of ls) l.version s.ladder.now);
         fits =
             ap₂ ◌&&◌ h.fits
             (ap₂ (λ (b : Bool) (u : ℕ). beq b (leb u t)) included_is version ∙ sym (fits_by t l))
@@ -117,14 +117,14 @@ module _ (s : Sought) (outputs steps : Bytes) (offsets ladder : List ℕ) where
 
   -- a summary tells whether the ladder of an entry is complete
   pub summary-complete : (e : Entry) (x : Summary)
-      → IsSummary s outputs steps offsets ladder e.prefix_root e.lookups x
-      → (x.begin && eqb x.count (length ladder) && x.fits) ≡ is_complete ladder s.version e
+      → IsSummary s e.prefix_root e.lookups x
+      → (x.begin && eqb x.count (length s.ladder.now) && x.fits) ≡ is_complete s.ladder.now s.version e
   unfolding is_complete
   summary-complete e x h =
       ap₂ ◌&&◌
-      (ap₂ (λ (b : Bool) (n : ℕ). b && eqb n (length ladder)) h.begin
+      (ap₂ (λ (b : Bool) (n : ℕ). b && eqb n (length s.ladder.now)) h.begin
       (h.count ∙ sym (length-map e.lookups _))
-      ∙ begins_same (versions_of e.lookups) ladder)
+      ∙ begins_same (versions_of e.lookups) s.ladder.now)
       h.fits
 
 -- ---- the lookups at an offset, one after the other
@@ -135,22 +135,19 @@ unfolding no_lookups
 beginning_root root x e = ap (λ (y : Summary). y.root) e
 
 -- those from an offset to another are summed up
-pub record LookupsSummed (s : Bytes) (from : ℕ) (sought : Sought) (outputs steps : Bytes)
-    (offsets ladder : List ℕ) (root : Bytes)
-    (at : ℕ) (x : Summary) : Type 0 where
+pub record LookupsSummed (s : Bytes) (from : ℕ) (sought : Sought) (root : Bytes) (at : ℕ) (x : Summary) : Type 0 where
   pub done : List Lookup
   split : loose_in (drop from s) ≡ done ++ loose_in (drop at s)
   entries : entries_in (drop at s) ≡ entries_in (drop from s)
   pub lines : EntryLines (drop at s)
   pub forward : x.count + from ≤ at
   pub within : at ≤ length s
-  summed : IsSummary sought outputs steps offsets ladder root done x
+  summed : IsSummary sought root done x
 
-module _ (s : Bytes) (from : ℕ) (sought : Sought) (outputs steps : Bytes) (offsets ladder : List ℕ)
-    (root : Bytes) where
+module _ (s : Bytes) (from : ℕ) (sought : Sought) (root : Bytes) where
   -- at first none is
   summed-none : EntryLines (drop from s) → from ≤ length s
-      → LookupsSummed s from sought outputs steps offsets ladder root from (no_lookups root)
+      → LookupsSummed s from sought root from (no_lookups root)
   unfolding no_lookups
   summed-none l w =
       record {
@@ -160,21 +157,21 @@ module _ (s : Bytes) (from : ℕ) (sought : Sought) (outputs steps : Bytes) (off
         lines = l;
         forward = omega arith;
         within = w;
-        summed = summary-start sought outputs steps offsets ladder root;
+        summed = summary-start sought root;
       }
 
   module _ (x : Summary) (e : x ≡ no_lookups root) where
     -- the beginning is the summary of none
     pub summed-start : EntryLines (drop from s) → from ≤ length s
-        → LookupsSummed s from sought outputs steps offsets ladder x.root from x
+        → LookupsSummed s from sought x.root from x
     unfolding no_lookups
     summed-start l w = rw (beginning_root root x e, e) (summed-none l w)
 
-  module _ (at : ℕ) (x : Summary) (h : LookupsSummed s from sought outputs steps offsets ladder root at x) where
+  module _ (at : ℕ) (x : Summary) (h : LookupsSummed s from sought root at x) where
     -- the lookup at the offset is summed up too
     pub summed-next : (stop next : ℕ) (y : Summary) → IsNextLookup s at (Some (stop, next))
-        → IsNextSummary sought outputs steps offsets ladder (take (stop - at) (drop at s)) x y
-        → LookupsSummed s from sought outputs steps offsets ladder root next y
+        → IsNextSummary sought (take (stop - at) (drop at s)) x y
+        → LookupsSummed s from sought root next y
     summed-next stop next y (l, q, loose, entries, lines, f, g, w) n =
         let r = n root h.done l h.summed q in
         let a = h.forward in
@@ -193,7 +190,7 @@ module _ (s : Bytes) (from : ℕ) (sought : Sought) (outputs steps : Bytes) (off
 
     -- where none is left, all are
     pub summed-all : (root' : Bytes) → root ≡ root' → loose_in (drop at s) ≡ []
-        → IsSummary sought outputs steps offsets ladder root' (loose_in (drop from s)) x × AfterLookups s from at
+        → IsSummary sought root' (loose_in (drop from s)) x × AfterLookups s from at
     summed-all root' i n =
         let e : loose_in (drop from s) ≡ h.done =
         h.split ∙ ap (λ (ls : List Lookup). h.done ++ ls) n ∙ append-nil h.done in

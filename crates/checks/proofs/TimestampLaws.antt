@@ -69,17 +69,17 @@ unfolding unfalling
 any_after_zero [] = refl
 any_after_zero (t ∷ l) = rw (le-leb 0 t (omega arith)) refl
 
--- where the entries are as asked, what was told of their times one after the other holds of all
-pub timestamps_all : (size timestamp : ℕ) (es : List Entry) (asked : Bool) (t : Timestamps)
-    → (asked ≡ true → timestamps_over size timestamp no_timestamps es ≡ t) → AreTimestamps size timestamp es asked t.fit t.latest
+-- what was told of times one after the other holds of all
+pub timestamps_all : (size timestamp : ℕ) (es : List Entry) (t : Timestamps)
+    → timestamps_over size timestamp no_timestamps es ≡ t → AreTimestamps size timestamp es t
 unfolding no_timestamps
-timestamps_all size timestamp es asked t h a =
-    (fits, ap (λ (u : Timestamps). u.latest) (sym (h a)) ∙ timestamps_latest size timestamp no_timestamps es)
+timestamps_all size timestamp es t h =
+    (fits, ap (λ (u : Timestamps). u.latest) (sym h) ∙ timestamps_latest size timestamp no_timestamps es)
   where
     fits : (log : KeptLog) → log.size ≡ size → log.timestamp ≡ timestamp
         → t.fit ≡ (unfalling (timestamps_of es) && all (timestamp_fits log) es)
     fits log p q =
-        ap (λ (u : Timestamps). u.fit) (sym (h a))
+        ap (λ (u : Timestamps). u.fit) (sym h)
         ∙ ap (λ (n : ℕ). (timestamps_over n timestamp no_timestamps es).fit) (sym p)
         ∙ ap (λ (n : ℕ). (timestamps_over log.size n no_timestamps es).fit) (sym q)
         ∙ timestamps_fit log no_timestamps es

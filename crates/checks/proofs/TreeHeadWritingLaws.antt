@@ -1,10 +1,12 @@
 -- Laws of the text that a log signs: it is written part by part, into bytes from an offset on
 -- (src/tree_head.rt).
 use mathlib.Core.Path.{◌≡◌, refl, sym, ◌∙◌, ap}
+use mathlib.Core.Bool.{true, false}
 use mathlib.Core.List.{[], ◌++◌, append_assoc, append-nil}
 use Prim.Native.Nat.{ℕ, ◌+◌, ◌-◌, ◌≤◌, ◌<◌}
 use native.Mathlib.Nat.{zero-add}
 use native.Mathlib.Omega.{arith}
+use lib.Dec.{leb}
 use lib.ListN.{length, take, drop, length-append, length-drop, drop_of_length-le}
 use lib.Seq.{drop-drop}
 use borrow.Author.Tests.{le-leb, lt-leb}
@@ -45,9 +47,10 @@ head_put s a n r h {b} {s1} {s2} {s3} e p q t =
 
 module _ (s : Bytes) (at : ℕ) (t : Bytes) where
   -- a text for which there is too little room
-  pub placed-over : length s < at + length t → (16 ≡ (placed s at t).0) × (s ≡ (placed s at t).1)
+  pub placed-over : length s < at + length t
+      → (16 ≡ (placed s at t).0) × (false ≡ leb (at + length t) (length s)) × (s ≡ (placed s at t).1)
   unfolding placed choose
-  placed-over h = (rw (lt-leb (at + length t) (length s) h) refl, rw (lt-leb (at + length t) (length s) h) refl)
+  placed-over h = let e = lt-leb (at + length t) (length s) h in (rw e refl, sym e, rw e refl)
 
   -- a text written to the first of the bytes from an offset on, which were lent and are put back
   written_behind : {y : Bytes} → y ≡ written (take (length s - at) (drop at s)) 0 t → take at s ++ (y ++ drop (length s - at) (drop at s)) ≡ written s at t
@@ -59,6 +62,9 @@ module _ (s : Bytes) (at : ℕ) (t : Bytes) where
 
   -- a text for which there is room
   pub placed-fits : at + length t ≤ length s → {y : Bytes} → y ≡ written (take (length s - at) (drop at s)) 0 t
-      → (length t ≡ (placed s at t).0) × (take at s ++ (y ++ drop (length s - at) (drop at s)) ≡ (placed s at t).1)
+      → (length t ≡ (placed s at t).0) × (true ≡ leb (at + length t) (length s))
+      × (take at s ++ (y ++ drop (length s - at) (drop at s)) ≡ (placed s at t).1)
   unfolding placed choose
-  placed-fits h e = (rw (le-leb (at + length t) (length s) h) refl, rw (le-leb (at + length t) (length s) h) (written_behind e))
+  placed-fits h w =
+      let e = le-leb (at + length t) (length s) h in
+      (rw e refl, sym e, rw e (written_behind w))

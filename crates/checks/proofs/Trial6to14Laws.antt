@@ -5,14 +5,15 @@ use mathlib.Core.List.{List, [], ◌++◌}
 use mathlib.Core.Option.{none, some}
 use Prim.Native.Nat.{ℕ, ◌≤◌}
 use native.Mathlib.Omega.{arith}
+use lib.Count.{ones}
 use lib.ListN.{length, take}
 use lib.Seq.{length-take-le}
-use Rattle.lists.specs.Lists.{Bytes}
+use Rattle.lists.specs.Lists.{Bytes, runs}
 use Rattle.lines.specs.Readings.{part_of}
 use Rattle.tree.specs.LogText.{nodes_in as nodes_there}
 use Rattle.tree.specs.LogHead.{Head, known_in, log_head, head_with}
 use Rattle.tree.specs.declared.log_head.LogHead.{LogHead}
-use Rattle.rules.specs.Limits.{label_limit}
+use Rattle.rules.specs.Limits.{label_limit, hash_length}
 use Rattle.rules.specs.State.{versions}
 use Rattle.rules.specs.Response.{Parts}
 use Rattle.rules.specs.ResponseText.{read_response}
@@ -25,18 +26,19 @@ use Rattle.inputs.specs.declared.response_lines.Kind.TheVariants.{Search, Monito
 use Rattle.inputs.specs.State.{map_of}
 use Rattle.inputs.specs.Response.{parts_in}
 use Rattle.inputs.proofs.PairLaws.{map_versions}
-use Rattle.checks.specs.declared.call.AskedKind.{AskedKind}
+use Rattle.std.specs.Prelude.{Option as CodeOption, Ok, Err, Result}
+use Rattle.inputs.specs.declared.refusal.Refusal.{Refusal}
+use Rattle.inputs.specs.declared.refusal.Refusal.TheVariants.{FullSubtree}
+use Rattle.inputs.specs.Refusal.{refusal_number, number_in}
 use Rattle.checks.specs.declared.readings.Call.{Call as CallBlock}
 use Rattle.checks.specs.declared.trial.Tried.{Tried}
 use Rattle.checks.specs.declared.trial.Checked.{Checked}
-use Rattle.checks.specs.declared.trial.Tried9to11.{Tried9to11}
-use Rattle.checks.specs.declared.lookups.Judged.{Judged}
 use Rattle.checks.specs.Calls.{IsCall, asked_kind, entries_text, number_tried, rules6to8, rules9to11}
 use Rattle.checks.specs.Calls.{rules12and13, rules14, rules9to13, rules6to13, IsNumber6to8, TargetFits}
-use Rattle.checks.specs.Calls.{Shapeable}
-use Rattle.checks.specs.Calls.{IsFirst, Is9to13Tried, Is14Tried, Checkable, Is6to13Tried, IsChecked}
+use Rattle.checks.specs.Calls.{Shapeable, Tells, Passed, Leaves}
+use Rattle.checks.specs.Calls.{IsFirst, Is9to13Tried, Is14Tried, Checkable, Is6to13Tried}
 use Rattle.checks.proofs.TrialLaws.{Numbered, none_applies, number-first, number-next, number_none}
-use Rattle.checks.proofs.TrialLaws.{number_front, number_rest}
+use Rattle.checks.proofs.TrialLaws.{number_front, number_rest, refusal_numbered, refused_front, told_rest}
 use Rattle.checks.proofs.TargetLaws.{target-lengths}
 use Rattle.checks.proofs.RequestLaws.{version_possible}
 use Rattle.checks.proofs.HeadCallLaws.{head_of, head-shown}
@@ -54,71 +56,55 @@ numbered6to13 = omega arith
 
 -- ---- 9 to 13
 
--- `Stand` is what 9 to 11 leave of the commitments, and 12 and 13 ask for
-module _ (text : Bytes) (k : CallBlock) (label : Bytes) (ps vs : List ℕ) (outputs : Bytes)
-    (Stand : Call → Type 0)
-  where
-    -- what is said of each call that the arguments stand for
-    abbrev Each : (Call → Type 0) → Type 0
-    Each P =
-        (c : Call) → IsCall c k text outputs → c.parts.label ≡ label → c.state.monitoring_map ≡ map_of ps vs
-        → P c
+module _ (text : Bytes) (k : CallBlock) (label : Bytes) (ps vs : List ℕ) (outputs : Bytes) where
+  -- what comes of 9 to 13
+  abbrev Told : Result Tried Refusal → Type 0
+  Told r = Is9to13Tried text k label ps vs outputs r
 
+  -- refused with 9 to 11
+  pub tried-refused : (e : Refusal)
+      → ((c : Call) → IsCall c k text outputs → c.state.monitoring_map ≡ map_of ps vs
+      → refusal_number e ≡ number_tried rules9to11 c)
+      → Told (Err e)
+  tried-refused e h c i l m = refused_front Tried rules9to11 rules12and13 c e (Passed c k) (h c i m)
+
+  -- `Stand` is what 9 to 11 leave of the commitments, and 12 and 13 ask for
+  module _ (Stand : Call → Type 0) where
     -- 9 to 11
-    abbrev TriedBy : Tried9to11 → Type 0
+    abbrev TriedBy : Result ℕ Refusal → Type 0
     TriedBy shown =
         (c : Call) → IsCall c k text outputs → c.state.monitoring_map ≡ map_of ps vs
-        → (shown.number ≡ number_tried rules9to11 c)
-        × (shown.number ≡ 0 → (shown.timestamp ≡ last_timestamp c) × Stand c)
-
-    -- the position of a search's first complete entry
-    abbrev IsFirstOf : Judged → Call → Type 0
-    IsFirstOf judged c = IsFirst k.response.kind c k.response.target.version judged.position
+        → Tells shown rules9to11 c (λ t. (t ≡ last_timestamp c) × Stand c)
 
     -- 12 and 13
-    abbrev JudgedBy : Judged → Type 0
+    abbrev JudgedBy : Result ℕ Refusal → Type 0
     JudgedBy judged =
         (c : Call) → IsCall c k text outputs → c.parts.label ≡ label → not_as_asked c ≡ false
         → output_missing c ≡ false → Stand c
-        → (judged.number ≡ number_tried rules12and13 c) × (judged.number ≡ 0 → IsFirstOf judged c)
+        → Tells judged rules12and13 c (IsFirst k.response.kind c k.response.target.version)
 
-    -- both
-    abbrev Told : Tried → Type 0
-    Told t = Is9to13Tried text k label ps vs outputs t
+    module _ (timestamp : ℕ) (h : TriedBy (Ok timestamp)) where
+      -- none of 9 to 11 applies
+      none9to11 : (c : Call) → IsCall c k text outputs → c.state.monitoring_map ≡ map_of ps vs
+          → NoneApplies rules9to11 c
+      none9to11 c i m = none_applies rules9to11 c numbered9to11 (h c i m).0
 
-    module _ (shown : Tried9to11) (hs : TriedBy shown) where
-      -- refused with 9 to 11
-      pub tried-refused : (shown.number ≡ 0 → ⊥) → (t : Tried) → t.number ≡ shown.number → Told t
-      tried-refused z t e c i l m = (
-        e ∙ number_front rules9to11 rules12and13 c shown.number (hs c i m).0 z,
-        λ q. absurd (z (sym e ∙ q)),
-      )
+      -- so 12 and 13 are left, and refuse
+      pub judged-refused : (e : Refusal) → JudgedBy (Err e) → Told (Err e)
+      judged-refused e g c i l m =
+          let none = none9to11 c i m in
+          let (told, _) = g c i l none.0 none.1.0 (h c i m).1.1 in
+          told_rest Tried rules9to11 rules12and13 c (Err e) (Passed c k) none (told, tt)
 
-      module _ (w : shown.number ≡ 0) (judged : Judged) (hj : JudgedBy judged) where
-        -- none of 9 to 11 applies
-        none9to11 : Each (NoneApplies rules9to11)
-        none9to11 c i l m = none_applies rules9to11 c numbered9to11 (sym w ∙ (hs c i m).0)
-
-        -- so 12 and 13 are left
-        judged-told :
-            Each (λ c. (judged.number ≡ number_tried rules9to13 c)
-            × (judged.number ≡ 0 → IsFirstOf judged c))
-        judged-told c i l m =
-            let none = none9to11 c i l m in
-            let (e, f) = hj c i l none.0 none.1.0 ((hs c i m).1 w).1 in
-            (e ∙ number_rest rules9to11 rules12and13 c none, f)
-
-        -- refused with 12 or 13
-        pub judged-refused : (judged.number ≡ 0 → ⊥) → (t : Tried) → t.number ≡ judged.number → Told t
-        judged-refused z t e c i l m = (e ∙ (judged-told c i l m).0, λ q. absurd (z (sym e ∙ q)))
-
-        -- not refused
-        pub judged-passed : judged.number ≡ 0
-            → Told (record { number = 0; position = judged.position; timestamp = shown.timestamp })
-        judged-passed x c i l m = (
-          sym x ∙ (judged-told c i l m).0,
-          λ _. record { is_first = (judged-told c i l m).1 x; timestamp = ((hs c i m).1 w).0 },
-        )
+      -- or do not
+      pub judged-passed : (position : ℕ) → JudgedBy (Ok position)
+          → Told (Ok (record { position = position; timestamp = timestamp }))
+      judged-passed position g c i l m =
+          let none = none9to11 c i m in
+          let (told, is_first) = g c i l none.0 none.1.0 (h c i m).1.1 in
+          let t : Tried = record { position = position; timestamp = timestamp } in
+          told_rest Tried rules9to11 rules12and13 c (Ok t) (Passed c k) none
+          (told, record { is_first = is_first; timestamp = (h c i m).1.0 })
 
 -- ---- 14
 
@@ -134,21 +120,19 @@ module _ (text : Bytes) (k : CallBlock) (t : Tried) (kept s nodes : Bytes)
     fourteen c e = ap (λ (y : Head). not y.met) (sym e)
 
     -- refused
-    pub head-refused : h.met ≡ false → (r : Checked) → r.number ≡ 14 → Is14Tried text k t kept r block
-    head-refused f r e c ps vs outputs i p nine passed v =
-        let is = head-shown p c i (entries_were c nine) s nodes kept is_entries is_nodes v _ is_head in (
-          e ∙ number-first 14 history_differs [] c (fourteen c is ∙ ap not f),
-          λ q. absurd (omega (arith, e, q)),
-        )
+    pub head-refused : h.met ≡ false → Is14Tried text k t kept (Err FullSubtree) block
+    head-refused f c ps vs outputs i p nine passed v =
+        let is = head-shown p c i (entries_were c nine) s nodes kept is_entries is_nodes v _ is_head in
+        (number-first 14 history_differs [] c (fourteen c is ∙ ap not f), tt)
 
     -- not refused
     pub head_passed : h.met ≡ true
         → Is14Tried text k t kept
-        (record { number = 0; position = t.position; timestamp = t.timestamp; root = h.root }) block
+        (Ok (record { position = t.position; timestamp = t.timestamp; root = h.root })) block
     head_passed f c ps vs outputs i p nine passed v =
         let is = head-shown p c i (entries_were c nine) s nodes kept is_entries is_nodes v _ is_head in (
           number_none c ∙ number-next 14 history_differs [] c (fourteen c is ∙ ap not f),
-          λ _. record {
+          record {
             is_first = passed.is_first;
             timestamp = passed.timestamp;
             root = ap (λ (y : Head). y.root) is;
@@ -199,18 +183,18 @@ module _ {text : Bytes} {k : CallBlock} {identifier label : Bytes} {size : ℕ} 
           pairs = x.pairs;
         }
 
-    module _ (kind : AskedKind) (n : ℕ)
-        (h : IsNumber6to8 kind text k identifier (take size label) (take pairs versions') n)
+    module _ (asked : CodeOption KindBlock) (n : ℕ)
+        (h : IsNumber6to8 asked text k identifier (take size label) (take pairs versions') n)
       where
         -- what comes of 6 to 13
-        abbrev Whole : Tried → Type 0
-        Whole t =
-            Is6to13Tried kind text k identifier (take size label) (take pairs positions) (take pairs versions')
-            outputs t
+        abbrev Whole : Result Tried Refusal → Type 0
+        Whole r =
+            Is6to13Tried asked text k identifier (take size label) (take pairs positions) (take pairs versions')
+            outputs r
 
         -- the number is that of a call with these parts and this state
         number-told : (c : Call) → c.parts ≡ parts_in text k.response
-            → c.state.log.size ≡ k.kept_size → c.inputs.kind ≡ asked_kind kind
+            → c.state.log.size ≡ k.kept_size → c.inputs.kind ≡ asked_kind asked
             → c.inputs.identifier ≡ identifier
             → c.state.label ≡ take size label
             → c.state.monitoring_map ≡ map_of (take pairs positions) (take pairs versions')
@@ -218,22 +202,21 @@ module _ {text : Bytes} {k : CallBlock} {identifier label : Bytes} {size : ℕ} 
         number-told c p s q i l m = h c p s q i l (ap versions m ∙ map_versions _ _ x.pairs.alike)
 
         -- refused with 6 to 8
-        pub first-refused : (n ≡ 0 → ⊥) → (t : Tried) → t.number ≡ n → Whole t
-        first-refused z t e c i q d l m = (
-          e ∙ number_front rules6to8 rules9to13 c n (number-told c i.parts i.size q d l m) z,
-          λ y. absurd (z (sym e ∙ y)),
-        )
+        pub first-refused : (e : Refusal) → n ≡ refusal_number e → Whole (Err e)
+        first-refused e w c i q d l m =
+            refused_front Tried rules6to8 rules9to13 c e (Passed c k)
+            (sym w ∙ number-told c i.parts i.size q d l m)
 
         module _ (w : n ≡ 0) where
           -- what is left of 6 to 13 are 9 to 13
-          pub first-passed : (t : Tried)
-              → Is9to13Tried text k (take size label) (take pairs positions) (take pairs versions') outputs t
-              → Whole t
-          first-passed t g c i q d l m =
+          pub first-passed : (r : Result Tried Refusal)
+              → Is9to13Tried text k (take size label) (take pairs positions) (take pairs versions') outputs r
+              → Whole r
+          first-passed r g c i q d l m =
               let told = number-told c i.parts i.size q d l m in
               let none6to8 = none_applies rules6to8 c numbered6to8 (sym w ∙ told) in
-              let (e, f) = g c i ((requested-was c none6to8.0).1 ∙ l) m in
-              (e ∙ number_rest rules6to8 rules9to13 c none6to8, f)
+              told_rest Tried rules6to8 rules9to13 c r (Passed c k) none6to8
+              (g c i ((requested-was c none6to8.0).1 ∙ l) m)
 
           -- a call with these parts and this state
           blank : Call
@@ -242,7 +225,7 @@ module _ {text : Bytes} {k : CallBlock} {identifier label : Bytes} {size : ℕ} 
                 inputs =
                     record {
                       limit = 0;
-                      kind = asked_kind kind;
+                      kind = asked_kind asked;
                       response = text;
                       configuration = [];
                       identifier = identifier;
@@ -281,36 +264,36 @@ module _ {text : Bytes} {k : CallBlock} {identifier label : Bytes} {size : ℕ} 
 
     -- ---- 6 to 14
 
-    module _ (kind : AskedKind) (t : Tried)
-        (g : Is6to13Tried kind text k identifier (take size label) (take pairs positions)
-        (take pairs versions') outputs t)
+    module _ (asked : CodeOption KindBlock) (c : Call) (i : IsCall c k text outputs)
+        (q : c.inputs.kind ≡ asked_kind asked) (d : c.inputs.identifier ≡ identifier)
+        (l : c.state.label ≡ take size label)
+        (m : c.state.monitoring_map ≡ map_of (take pairs positions) (take pairs versions'))
       where
-        -- what comes of them
-        abbrev All : Bytes → Checked → Bytes → Type 0
-        All kept r block =
-            IsChecked kind text k identifier (take size label) (take pairs positions) (take pairs versions')
-            outputs kept r block
+        -- what 6 to 13 say
+        abbrev SixTo13 : Result Tried Refusal → Type 0
+        SixTo13 r =
+            Is6to13Tried asked text k identifier (take size label) (take pairs positions)
+            (take pairs versions') outputs r
 
-        -- they are those of the two parts
-        checks-parts : (c : Call) → number_tried (rules6to13 ++ rules14) c ≡ number_tried checks c
+        -- 6 to 14 are those of the two parts
+        checks-parts : number_tried (rules6to13 ++ rules14) c ≡ number_tried checks c
         unfolding checks
-        checks-parts c = refl
+        checks-parts = refl
 
         -- refused with 6 to 13
-        pub lines-refused : (t.number ≡ 0 → ⊥) → (kept : Bytes) (r : Checked) (block : Bytes)
-            → r.number ≡ t.number → All kept r block
-        lines-refused z kept r block e c i q d l m v = (
-          e ∙ number_front rules6to13 rules14 c t.number (g c i q d l m).0 z ∙ checks-parts c,
-          λ y. absurd (z (sym e ∙ y)),
-        )
+        pub lines-refused : (e : Refusal) → SixTo13 (Err e) → refusal_number e ≡ number_tried checks c
+        lines-refused e g =
+            number_front rules6to13 rules14 c (refusal_number e) (g c i q d l m).0 (refusal_numbered e)
+            ∙ checks-parts
 
         -- what is left of 6 to 14 is 14
-        pub lines-passed : t.number ≡ 0 → (kept : Bytes) (r : Checked) (block : Bytes)
-            → Is14Tried text k t kept r block → All kept r block
-        lines-passed w kept r block h c i q d l m v =
+        pub lines-passed : (t : Tried) → SixTo13 (Ok t) → (kept : Bytes)
+            → c.state.log.values ≡ runs (ones k.kept_size) hash_length kept → (r : Result Checked Refusal)
+            → (block : Bytes) → Is14Tried text k t kept r block → Tells r checks c (λ x. Leaves c k x block)
+        lines-passed t g kept v r block h =
             let (e, f) = g c i q d l m in
-            let none = none_applies rules6to13 c numbered6to13 (sym w ∙ e) in
+            let none = none_applies rules6to13 c numbered6to13 e in
             let (six, (seven, (eight, (nine, _)))) = none in
             let p = possible c i.parts i.size (six, (seven, (eight, tt))) in
-            let (a, b) = h c _ _ outputs i p nine (f w) v in
-            (a ∙ number_rest rules6to13 rules14 c none ∙ checks-parts c, b)
+            let (a, b) = h c _ _ outputs i p nine f v in
+            (a ∙ number_rest rules6to13 rules14 c none ∙ checks-parts, b)

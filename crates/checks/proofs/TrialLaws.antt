@@ -11,7 +11,13 @@ use Rattle.rules.specs.Refusals.{Call, Judgement, refused, passed, Rule, rule, t
 use Rattle.rules.specs.Calls.{number_of}
 use Rattle.rules.proofs.RefusalLaws.{NoneApplies, FirstApplies, Tried, tried_meaning, tried_append}
 use Rattle.rules.proofs.RefusalLaws.{rest_tried, number_refused}
-use Rattle.checks.specs.Calls.{number_tried}
+use Rattle.std.specs.Prelude.{Ok, Err, Result}
+use Rattle.inputs.specs.declared.refusal.Refusal.{Refusal}
+use Rattle.inputs.specs.declared.refusal.Refusal.TheVariants.{Length, Configuration, State, VrfOutputs, Lines}
+use Rattle.inputs.specs.declared.refusal.Refusal.TheVariants.{Request, TreeSize, Target, Shape, MissingOutput, Time}
+use Rattle.inputs.specs.declared.refusal.Refusal.TheVariants.{Lookup, Ladder, FullSubtree, SignedText, Room}
+use Rattle.inputs.specs.Refusal.{refusal_number, number_in}
+use Rattle.checks.specs.Calls.{number_tried, Tells}
 
 -- ---- one rule after the other
 
@@ -66,3 +72,34 @@ number_front xs ys c k e z = sym (ap number_of (first_refuses xs ys c k e z))
 -- and else that of the second
 pub number_rest : (xs ys : List Rule) (c : Call) → NoneApplies xs c → number_tried ys c ≡ number_tried (xs ++ ys) c
 number_rest xs ys c h = ap number_of (sym (rest_tried xs ys c h))
+
+-- ---- what the code answers
+
+-- no refusal has the number 0
+pub refusal_numbered : (e : Refusal) → refusal_number e ≡ 0 → ⊥
+refusal_numbered Length z = omega arith
+refusal_numbered Configuration z = omega arith
+refusal_numbered State z = omega arith
+refusal_numbered VrfOutputs z = omega arith
+refusal_numbered Lines z = omega arith
+refusal_numbered Request z = omega arith
+refusal_numbered TreeSize z = omega arith
+refusal_numbered Target z = omega arith
+refusal_numbered Shape z = omega arith
+refusal_numbered MissingOutput z = omega arith
+refusal_numbered Time z = omega arith
+refusal_numbered Lookup z = omega arith
+refusal_numbered Ladder z = omega arith
+refusal_numbered FullSubtree z = omega arith
+refusal_numbered SignedText z = omega arith
+refusal_numbered Room z = omega arith
+
+-- a refusal in the first part is that of both
+pub refused_front : (A : Type 0) (xs ys : List Rule) (c : Call) (e : Refusal) (P : A → Type 0)
+    → refusal_number e ≡ number_tried xs c → Tells (Err e) (xs ++ ys) c P
+refused_front A xs ys c e P h = (number_front xs ys c (refusal_number e) h (refusal_numbered e), tt)
+
+-- where none of the first part applies, the second is told
+pub told_rest : (A : Type 0) (xs ys : List Rule) (c : Call) (r : Result A Refusal) (P : A → Type 0) → NoneApplies xs c
+    → Tells r ys c P → Tells r (xs ++ ys) c P
+told_rest A xs ys c r P n (e, f) = (e ∙ number_rest xs ys c n, f)

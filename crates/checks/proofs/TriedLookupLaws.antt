@@ -33,7 +33,7 @@ use Rattle.inputs.specs.declared.response_lines.Kind.TheVariants.{Search, Monito
 use Rattle.inputs.specs.declared.vrf_outputs.FoundOutput.{FoundOutput}
 use Rattle.inputs.specs.VrfOutputs.{found_output, record_of, records_below, IsRecordOf}
 use Rattle.inputs.proofs.VrfOutputLaws.{found_output_lem, found_index}
-use Rattle.checks.specs.declared.lookups.Sought.{Sought}
+use Rattle.checks.specs.declared.sought.Sought.{Sought}
 use Rattle.checks.specs.Sections.{CommitmentAt, read_lookup, OfLookup}
 use Rattle.checks.specs.Steps.{versions_of, CommitmentsBy}
 use Rattle.checks.specs.Lookups.{terminal_with, reaches, IsSoughtOf, TriedWith, IsStep, Passes}
@@ -176,12 +176,12 @@ unfolding lookup_passes
 tried_passes c root l e = sym (choose_false ((kind_rules c).untried l) (λ _. true) (λ _. lookup_holds c root l) e)
 
 -- one of which its version, the record found for it, and whether it is included are told
-module _ (line root outputs steps : Bytes) (offsets : List ℕ) (s : Sought) (v : ℕ) (found : FoundOutput)
+module _ (line root : Bytes) (s : Sought) (v : ℕ) (found : FoundOutput)
     (there : Bool)
-    (version_told : OfLookup line (λ (l : Lookup). l.version) v) (output_told : IsRecordOf outputs v found)
+    (version_told : OfLookup line (λ (l : Lookup). l.version) v) (output_told : IsRecordOf s.outputs.now v found)
     (there_told : OfLookup line (λ (l : Lookup). is_included l.result) there) where
   -- the record is that of the version
-  found-told : (c : Call) (l : Lookup) → TriedWith c s outputs steps offsets → read_lookup line ≡ some l
+  found-told : (c : Call) (l : Lookup) → TriedWith c s → read_lookup line ≡ some l
       → IsStep c l
       → (found.output ≡ output_of c.outputs l.version)
       × (found.index ≡ records_below c.outputs l.version)
@@ -190,7 +190,7 @@ module _ (line root outputs steps : Bytes) (offsets : List ℕ) (s : Sought) (v 
       let xs = c.outputs in
       let has = all_at (has_output xs) (step_versions c.parts) u w.there m in
       let is : found ≡ found_output (records_below xs u) (record_of xs u) =
-      subst (λ (x : ℕ). IsRecordOf outputs x found) (version_told l q) output_told xs w.outputs in (
+      subst (λ (x : ℕ). IsRecordOf s.outputs.now x found) (version_told l q) output_told xs w.outputs in (
         ap (λ (x : FoundOutput). x.output) is ∙ found_output_lem xs (records_below xs u) u has,
         ap (λ (x : FoundOutput). x.index) is ∙ found_index xs (records_below xs u) u has,
       )
@@ -198,10 +198,10 @@ module _ (line root outputs steps : Bytes) (offsets : List ℕ) (s : Sought) (v 
   -- one that can be tried, with a commitment that is the version's where it is included, passes
   -- where it reaches the root
   passes-by : (commitment : Bytes) (r : Bool) → OfLookup line (reaches found.output commitment root) r
-      → ((c : Call) (l : Lookup) → TriedWith c s outputs steps offsets → read_lookup line ≡ some l → IsStep c l
+      → ((c : Call) (l : Lookup) → TriedWith c s → read_lookup line ≡ some l → IsStep c l
       → ((kind_rules c).untried l ≡ false)
       × (is_included l.result ≡ true → commitment ≡ commitment_of c l.version))
-      → Passes line root s outputs steps offsets r
+      → Passes s line root r
   passes-by commitment r f h c l w q m =
       let (u, k) = h c l w q m in
       f l q ∙ reaches_holds c root found.output commitment l (found-told c l w q m).0 k
@@ -210,7 +210,7 @@ module _ (line root outputs steps : Bytes) (offsets : List ℕ) (s : Sought) (v 
   -- one that is not included is tried without a commitment
   pub passes-absent : there ≡ false → (commitment : Bytes) (r : Bool)
       → OfLookup line (reaches found.output commitment root) r
-      → Passes line root s outputs steps offsets r
+      → Passes s line root r
   passes-absent n commitment r f =
       passes-by commitment r f
       (λ c l w q m.
@@ -221,12 +221,12 @@ module _ (line root outputs steps : Bytes) (offsets : List ℕ) (s : Sought) (v 
 
   module _ (is_search : s.kind ≡ Search) where
     -- what is sought in a search
-    sought-search : (c : Call) → TriedWith c s outputs steps offsets
+    sought-search : (c : Call) → TriedWith c s
         → IsSoughtOf Search c s.version s.commitment
     sought-search c w = subst (λ (k : Kind). IsSoughtOf k c s.version s.commitment) is_search w.sought
 
     -- one that is included above the version sought passes untried
-    pub passes-untried : there ≡ true → s.version < v → Passes line root s outputs steps offsets true
+    pub passes-untried : there ≡ true → s.version < v → Passes s line root true
     unfolding lookup_passes
     passes-untried y h c l w q m =
         let e : (kind_rules c).untried l ≡ true =
@@ -235,7 +235,7 @@ module _ (line root outputs steps : Bytes) (offsets : List ℕ) (s : Sought) (v 
         sym (choose_true ((kind_rules c).untried l) (λ _. true) (λ _. lookup_holds c root l) e)
 
     -- one of a version not above it can be tried
-    tried-below : v ≤ s.version → (c : Call) (l : Lookup) → TriedWith c s outputs steps offsets
+    tried-below : v ≤ s.version → (c : Call) (l : Lookup) → TriedWith c s
         → read_lookup line ≡ some l
         → (kind_rules c).untried l ≡ false
     tried-below h c l w q =
@@ -246,7 +246,7 @@ module _ (line root outputs steps : Bytes) (offsets : List ℕ) (s : Sought) (v 
     -- the version sought is tried with its own commitment
     pub passes-target : v ≡ s.version → (r : Bool)
         → OfLookup line (reaches found.output s.commitment root) r
-        → Passes line root s outputs steps offsets r
+        → Passes s line root r
     passes-target e r f =
         passes-by s.commitment r f
         (λ c l w q m. (
@@ -257,25 +257,25 @@ module _ (line root outputs steps : Bytes) (offsets : List ℕ) (s : Sought) (v 
 
   -- a version whose commitment is in its step is tried with the value at the offset of its record
   module _ (commitment : Bytes) (r : Bool)
-      (stands : commitment ≡ value_in (take value_digits (drop (get_or offsets found.index 0) steps)))
+      (stands : commitment ≡ value_in (take value_digits (drop (get_or s.offsets.now found.index 0) s.steps.now)))
       (told : OfLookup line (reaches found.output commitment root) r) where
-    passes-step : ((c : Call) (l : Lookup) → TriedWith c s outputs steps offsets → read_lookup line ≡ some l
+    passes-step : ((c : Call) (l : Lookup) → TriedWith c s → read_lookup line ≡ some l
         → ((kind_rules c).untried l ≡ false) × InStep c l.version)
-        → Passes line root s outputs steps offsets r
+        → Passes s line root r
     passes-step h =
         passes-by commitment r told
         (λ c l w q m.
         let (u, (in_step, committed)) = h c l w q in (
           u,
           λ _. stands
-              ∙ ap (λ (i : ℕ). value_in (take value_digits (drop (get_or offsets i 0) steps))) (found-told c l w q m).1
-              ∙ commitment_stands steps c.outputs offsets (kind_rules c).is_committed l.version
+              ∙ ap (λ (i : ℕ). value_in (take value_digits (drop (get_or s.offsets.now i 0) s.steps.now))) (found-told c l w q m).1
+              ∙ commitment_stands s.steps.now c.outputs s.offsets.now (kind_rules c).is_committed l.version
               c.parts.steps committed w.asked w.stand m
               ∙ sym in_step,
         ))
 
     -- in a search those below the version sought
-    pub passes-below : s.kind ≡ Search → v < s.version → Passes line root s outputs steps offsets r
+    pub passes-below : s.kind ≡ Search → v < s.version → Passes s line root r
     passes-below is_search h =
         passes-step
         (λ c l w q. (
@@ -285,7 +285,7 @@ module _ (line root outputs steps : Bytes) (offsets : List ℕ) (s : Sought) (v 
         ))
 
     -- in monitoring all
-    pub passes-monitored : s.kind ≡ Monitor → Passes line root s outputs steps offsets r
+    pub passes-monitored : s.kind ≡ Monitor → Passes s line root r
     passes-monitored is_monitoring =
         passes-step
         (λ c l w q.

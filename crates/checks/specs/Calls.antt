@@ -1,6 +1,7 @@
 -- The calls as the library makes them (paper 01, Sixteen numbers): how their arguments and answers
 -- stand for those of the rules.
-use Rattle.std.specs.Prelude.{◌≡◌, Bool, true, false, not, ◌&&◌, ℕ, ◌-◌, ◌^◌, ◌≤◌, ◌<◌, eqb, leb, length, take}
+use Rattle.std.specs.Prelude.{◌≡◌, Bool, true, false, not, ◌&&◌, ℕ, ◌-◌, ◌^◌, ◌+◌, ◌≤◌, ◌<◌, eqb, leb, length, take}
+use Rattle.std.specs.Prelude.{Some, None, Option as CodeOption, Ok, Err, Result, IfOk}
 use mathlib.Core.List.{List, [], ◌∷◌, ◌++◌, flatten}
 use Rattle.std.proofs.Math.Option.{Option, none, some, Option-elim, get_or}
 use Rattle.std.specs.Int.Count.{ones}
@@ -12,7 +13,7 @@ use Rattle.tree.specs.LogTree.{full_values}
 use Rattle.lines.specs.Hex.{read_hex}
 use Rattle.lines.specs.Readings.{part_of}
 use Rattle.rules.specs.Limits.{configuration_limit, signed_text_limit, vrf_outputs_limit, identifier_length}
-use Rattle.rules.specs.Limits.{label_limit}
+use Rattle.rules.specs.Limits.{response_limit, label_limit}
 use Rattle.rules.specs.Limits.{opening_length, value_limit, tree_size_limit, greatest_version, hash_length}
 use Rattle.rules.specs.Limits.{values_block_length}
 use Rattle.rules.specs.VrfOutputs.{read_outputs}
@@ -21,17 +22,21 @@ use Rattle.rules.specs.Response.{Kind, search, monitor, Target, Finding, searche
 use Rattle.rules.specs.Response.{step_versions, entry_timestamps}
 use Rattle.rules.specs.ResponseText.{read_response}
 use Rattle.rules.specs.Search.{is_complete}
-use Rattle.rules.specs.Refusals.{Call, Judgement, refused, passed, Rule, rule, tried, checks}
-use Rattle.rules.specs.Refusals.{last_checks}
+use Rattle.rules.specs.Refusals.{Call, Judgement, refused, passed, Rule, rule, tried, judge_without_head}
+use Rattle.rules.specs.Refusals.{tree_head_of}
 use Rattle.rules.specs.Refusals.{known, log_walk, log_root, last_timestamp, valid_state, read_call, kind_rules}
 use Rattle.rules.specs.Refusals.{asked}
 use Rattle.rules.specs.Refusals.{commitment_asked, entries_asked, timestamp_fits, foreign, size_wrong}
 use Rattle.rules.specs.Refusals.{target_wrong, not_as_asked}
 use Rattle.rules.specs.Refusals.{output_missing, timestamps_wrong, lookup_fails, results_wrong, history_differs}
 use Rattle.rules.specs.Refusals.{room_missing}
-use Rattle.rules.specs.Calls.{Arguments, inputs_within, number_of, next_state, value_of}
+use Rattle.rules.specs.Calls.{Arguments, inputs_within, library_inputs, number_of, next_state, value_of}
 use Rattle.rules.specs.Calls.{output_after}
 use Rattle.inputs.specs.declared.state.State.{State as StateBlock}
+use Rattle.inputs.specs.declared.refusal.Refusal.{Refusal}
+use Rattle.inputs.specs.declared.refusal.Refusal.TheVariants.{Room}
+use Rattle.inputs.specs.declared.state.Refused.{Refused}
+use Rattle.inputs.specs.Refusal.{refusal_number, number_in}
 use Rattle.inputs.specs.State.{block_of, state_of, map_of}
 use Rattle.inputs.specs.Configuration.{configuration_in}
 use Rattle.inputs.specs.ResponseLines.{decoded}
@@ -41,26 +46,21 @@ use Rattle.inputs.specs.declared.response_lines.Target.{Target as TargetBlock}
 use Rattle.inputs.specs.declared.response.Response.{Response}
 use Rattle.inputs.specs.declared.response.ReadResponse.TheVariants.{Read as ReadAs}
 use Rattle.inputs.specs.Response.{parts_in, Offsets}
-use Rattle.checks.specs.declared.call.AskedKind.{AskedKind}
-use Rattle.checks.specs.declared.call.AskedKind.TheVariants.{Search as AskedSearch}
-use Rattle.checks.specs.declared.call.AskedKind.TheVariants.{Monitor as AskedMonitor, Nothing}
-use Rattle.checks.specs.declared.call.Answer.{Answer}
+use Rattle.checks.specs.declared.call.Accepted.{Accepted}
+use Rattle.checks.specs.declared.call.Found.{Found}
 use Rattle.checks.specs.declared.readings.Call.{Call as CallBlock}
-use Rattle.checks.specs.declared.readings.ReadCall.{ReadCall}
-use Rattle.checks.specs.declared.readings.ReadCall.TheVariants.{Read, Refused}
 use Rattle.checks.specs.declared.trial.Tried.{Tried}
 use Rattle.checks.specs.declared.trial.Checked.{Checked}
 use Rattle.checks.specs.declared.trial.Shape.{Shape}
-use Rattle.checks.specs.declared.trial.Tried9to11.{Tried9to11}
-use Rattle.checks.specs.declared.lookups.Judged.{Judged}
+use Rattle.checks.specs.declared.trial.Passed.{Passed as PassedBlock}
 use Rattle.checks.specs.Steps.{CommitmentsBy}
 use Rattle.checks.specs.MonitoredVersions.{ArePairs}
 
 -- the kind asked for
-unfoldable pub asked_kind : AskedKind → Option Kind
-asked_kind AskedSearch = some search
-asked_kind AskedMonitor = some monitor
-asked_kind Nothing = none
+unfoldable pub asked_kind : CodeOption KindBlock → Option Kind
+asked_kind (Some Search) = some search
+asked_kind (Some Monitor) = some monitor
+asked_kind None = none
 
 -- what a call is given besides the kind, the state, the signed text and the output bytes
 unfoldable pub arguments_of : Bytes → Bytes → Bytes → ℕ → Bytes → Arguments
@@ -83,7 +83,16 @@ unfoldable pub version_of : Judgement → ℕ
 version_of (refused k) = 0
 version_of (passed c) = Option-elim (target_of c.parts.finding) 0 (λ t. t.version)
 
--- the number, the state, whether there is a value, its version and its length
+-- the answer to a call: 0 for acceptance, or the number of the refusal; the state afterwards; whether
+-- a value was found, its version, and how many of the output bytes it fills
+pub record Answer : Type 0 where
+  pub number : ℕ
+  pub state : StateBlock
+  pub found : Bool
+  pub version : ℕ
+  pub length : ℕ
+
+-- as the rules say
 unfoldable pub answer_of : StateBlock → Judgement → Answer
 answer_of b j =
     record {
@@ -93,6 +102,30 @@ answer_of b j =
       version = version_of j;
       length = length (get_or (value_of j) []);
     }
+
+-- a refusal: the state given back, and no version nor value
+abbrev pub refused_answer : ℕ → StateBlock → Answer
+refused_answer n b = record { number = n; state = b; found = false; version = 0; length = 0 }
+
+-- an acceptance, with what was found
+abbrev pub accepted_answer : StateBlock → CodeOption Found → Answer
+accepted_answer b None = record { number = 0; state = b; found = false; version = 0; length = 0 }
+accepted_answer b (Some f) = record { number = 0; state = b; found = true; version = f.version; length = f.length }
+
+-- as the code has it
+unfoldable pub answer_in : Result Accepted Refused → Answer
+answer_in (Ok a) = accepted_answer a.state a.found
+answer_in (Err r) = refused_answer (refusal_number r.refusal) r.state
+
+-- the length of the signed text that was placed, or the number of the refusal
+unfoldable pub length_in : Result ℕ Refusal → ℕ
+length_in (Ok n) = n
+length_in (Err r) = refusal_number r
+
+-- whether a signed text is placed: that of a call that passes, where there is room for it
+unfoldable pub is_placed : Bytes → ℕ → Judgement → Bool
+is_placed buffer offset (refused k) = false
+is_placed buffer offset (passed c) = leb (offset + length (tree_head_of c)) (length buffer)
 
 -- ==== for contracts of private functions alone
 
@@ -150,13 +183,14 @@ pub record Readable (st : Option State) (text : Bytes) (k : CallBlock)
   pub outputs : is_some (read_outputs outputs') ≡ true
   pub few : length outputs' ≤ vrf_outputs_limit
 
--- the number of the first of 1 to 5 that applies, or what was read
-abbrev pub IsReading : ℕ → Option State → Bytes → Bytes → Bytes → ℕ → Bytes → Bytes → ReadCall → Type 0
-IsReading limit st text configuration identifier clock outputs signed (Refused n) =
+-- the first of 1 to 5 that applies, or what was read
+abbrev pub IsReading : ℕ → Option State → Bytes → Bytes → Bytes → ℕ → Bytes → Bytes → Result CallBlock Refusal
+    → Type 0
+IsReading limit st text configuration identifier clock outputs signed (Err e) =
     (kind : Option Kind) (room : ℕ)
     → read_call st (inputs_within limit kind (arguments_of text configuration identifier clock outputs) signed
-    room) ≡ refused n
-IsReading limit st text configuration identifier clock outputs signed (Read k) =
+    room) ≡ refused (refusal_number e)
+IsReading limit st text configuration identifier clock outputs signed (Ok k) =
     Readable st text k identifier outputs × (k.clock ≡ clock)
     × ((kind : Option Kind) (room : ℕ)
     → (c : Call)
@@ -165,7 +199,8 @@ IsReading limit st text configuration identifier clock outputs signed (Read k) =
     × IsGiven c limit kind st k text configuration identifier outputs signed room)
 
 -- whether the state is valid, and what is kept of its log, is known
-abbrev pub IsReadCall : ℕ → Bytes → Bytes → Bool → ℕ → ℕ → Bytes → ℕ → Bytes → Bytes → ReadCall → Type 0
+abbrev pub IsReadCall : ℕ → Bytes → Bytes → Bool → ℕ → ℕ → Bytes → ℕ → Bytes → Bytes → Result CallBlock Refusal
+    → Type 0
 IsReadCall limit text configuration valid size timestamp identifier clock outputs signed r =
     (st : Option State) → valid ≡ is_some (valid_state st)
     → ((s : State) → st ≡ some s → (s.log.size ≡ size) × (s.log.timestamp ≡ timestamp))
@@ -176,6 +211,11 @@ IsReadCall limit text configuration valid size timestamp identifier clock output
 -- the number of the first rule of some that applies, or 0
 abbrev pub number_tried : List Rule → Call → ℕ
 number_tried rs c = number_of (tried rs c)
+
+-- an answer of the code tells the first rule of some that applies; where none does, something is
+-- known of its value
+abbrev pub Tells : {A : Type 0} → Result A Refusal → List Rule → Call → (A → Type 0) → Type 0
+Tells r rs c P = (number_in r ≡ number_tried rs c) × IfOk r P
 
 -- the rules, by the functions that try them
 abbrev pub rules6to8 : List Rule
@@ -207,16 +247,15 @@ kind_in Search = search
 kind_in Monitor = monitor
 
 -- a kind is the one asked for
-unfoldable pub is_kind_asked : KindBlock → AskedKind → Bool
-is_kind_asked Search AskedSearch = true
-is_kind_asked Search AskedMonitor = false
-is_kind_asked Search Nothing = false
-is_kind_asked Monitor AskedSearch = false
-is_kind_asked Monitor AskedMonitor = true
-is_kind_asked Monitor Nothing = false
+unfoldable pub is_kind_asked : KindBlock → CodeOption KindBlock → Bool
+is_kind_asked Search (Some Search) = true
+is_kind_asked Search (Some Monitor) = false
+is_kind_asked Monitor (Some Search) = false
+is_kind_asked Monitor (Some Monitor) = true
+is_kind_asked k None = false
 
 -- 6
-abbrev pub IsRequested : AskedKind → Bytes → Response → Bytes → Bytes → Bool → Type 0
+abbrev pub IsRequested : CodeOption KindBlock → Bytes → Response → Bytes → Bytes → Bool → Type 0
 IsRequested asked text r identifier label b =
     (c : Call) → c.parts ≡ parts_in text r → c.inputs.kind ≡ asked_kind asked
     → c.inputs.identifier ≡ identifier
@@ -233,7 +272,7 @@ FitsTarget kind version map b =
     (c : Call) → FoundKind kind version c.parts.finding → versions c.state.monitoring_map ≡ map
     → b ≡ not (target_wrong c)
 
-abbrev pub IsNumber6to8 : AskedKind → Bytes → CallBlock → Bytes → Bytes → List ℕ → ℕ → Type 0
+abbrev pub IsNumber6to8 : CodeOption KindBlock → Bytes → CallBlock → Bytes → Bytes → List ℕ → ℕ → Type 0
 IsNumber6to8 asked text k identifier label map n =
     (c : Call) → c.parts ≡ parts_in text k.response → c.state.log.size ≡ k.kept_size
     → c.inputs.kind ≡ asked_kind asked → c.inputs.identifier ≡ identifier → c.state.label ≡ label
@@ -271,29 +310,32 @@ is_shaped c =
     && all (commitment_asked (kind_rules c).is_committed) c.parts.steps
     && entries_asked (kind_rules c).versions_fit (asked c) c.parts.entries
 
--- whether they are; then, of 10 and 11, whether the outputs are there, whether the times fit but
--- for the clock, and the time of the last entry; then the offsets of the commitments
-pub record HasShape (c : Call) (steps : Bytes) (s : Shape) (offsets : List ℕ) : Type 0 where
-  pub shaped : s.asked ≡ is_shaped c
-  pub outputs : s.asked ≡ true → s.outputs ≡ not (output_missing c)
-  pub timestamps : s.asked ≡ true
-      → s.timestamps ≡ (unfalling (entry_timestamps c.parts)
-      && all (timestamp_fits c.state.log) c.parts.entries)
-  pub timestamp : s.asked ≡ true → s.timestamp ≡ last_timestamp c
-  pub stand : s.asked ≡ true → s.outputs ≡ true → CommitmentsBy steps c.outputs offsets c.parts.steps
+-- where they are: of 10 and 11, whether the outputs are there, whether the times fit but for the
+-- clock, and the time of the last entry; then the offsets of the commitments
+pub record Shaped (c : Call) (steps : Bytes) (s : Shape) (offsets : List ℕ) : Type 0 where
+  pub shaped : is_shaped c ≡ true
+  pub outputs : s.outputs ≡ not (output_missing c)
+  pub timestamps : s.timestamps.fit
+      ≡ (unfalling (entry_timestamps c.parts) && all (timestamp_fits c.state.log) c.parts.entries)
+  pub timestamp : s.timestamps.latest ≡ last_timestamp c
+  pub stand : s.outputs ≡ true → CommitmentsBy steps c.outputs offsets c.parts.steps
 
-abbrev pub IsShape : Bytes → CallBlock → List ℕ → List ℕ → Bytes → Shape → List ℕ → Type 0
+-- they are, or are not
+abbrev pub HasShape : Call → Bytes → CodeOption Shape → List ℕ → Type 0
+HasShape c steps None offsets = is_shaped c ≡ false
+HasShape c steps (Some s) offsets = Shaped c steps s offsets
+
+abbrev pub IsShape : Bytes → CallBlock → List ℕ → List ℕ → Bytes → CodeOption Shape → List ℕ → Type 0
 IsShape text k ps vs outputs s offsets =
     (c : Call) → IsCall c k text outputs → c.state.monitoring_map ≡ map_of ps vs
     → HasShape c (steps_text text k) s offsets
 
 -- 9 to 11, and where none of them applies the time of the last entry and the offsets of the
 -- commitments
-abbrev pub Is9to11Tried : Bytes → CallBlock → List ℕ → List ℕ → Bytes → Tried9to11 → List ℕ → Type 0
-Is9to11Tried text k ps vs outputs s offsets =
+abbrev pub Is9to11Tried : Bytes → CallBlock → List ℕ → List ℕ → Bytes → Result ℕ Refusal → List ℕ → Type 0
+Is9to11Tried text k ps vs outputs r offsets =
     (c : Call) → IsCall c k text outputs → c.state.monitoring_map ≡ map_of ps vs
-    → (s.number ≡ number_tried rules9to11 c)
-    × (s.number ≡ 0 → (s.timestamp ≡ last_timestamp c)
+    → Tells r rules9to11 c (λ t. (t ≡ last_timestamp c)
     × CommitmentsBy (steps_text text k) c.outputs offsets c.parts.steps)
 
 -- the position of the first complete entry of a search
@@ -304,13 +346,12 @@ IsFirst Monitor c t position = Unit {0}
 
 -- 12 and 13, of a call to which neither 9 nor 10 applies, and where neither of them does the
 -- position of the first complete entry
-abbrev pub IsJudged : Bytes → CallBlock → Bytes → Bytes → List ℕ → Judged → Type 0
+abbrev pub IsJudged : Bytes → CallBlock → Bytes → Bytes → List ℕ → Result ℕ Refusal → Type 0
 IsJudged text k label outputs offsets j =
     (c : Call) → IsCall c k text outputs → c.parts.label ≡ label → not_as_asked c ≡ false
     → output_missing c ≡ false
     → CommitmentsBy (steps_text text k) c.outputs offsets c.parts.steps
-    → (j.number ≡ number_tried rules12and13 c)
-    × (j.number ≡ 0 → IsFirst k.response.kind c k.response.target.version j.position)
+    → Tells j rules12and13 c (IsFirst k.response.kind c k.response.target.version)
 
 -- what comes of a call to which none of 6 to 13 applies
 pub record Passed (c : Call) (k : CallBlock) (t : Tried) : Type 0 where
@@ -318,10 +359,10 @@ pub record Passed (c : Call) (k : CallBlock) (t : Tried) : Type 0 where
   pub timestamp : t.timestamp ≡ last_timestamp c
 
 -- 9 to 13, of a call to which none of 6 to 8 applies
-abbrev pub Is9to13Tried : Bytes → CallBlock → Bytes → List ℕ → List ℕ → Bytes → Tried → Type 0
-Is9to13Tried text k label ps vs outputs t =
+abbrev pub Is9to13Tried : Bytes → CallBlock → Bytes → List ℕ → List ℕ → Bytes → Result Tried Refusal → Type 0
+Is9to13Tried text k label ps vs outputs r =
     (c : Call) → IsCall c k text outputs → c.parts.label ≡ label → c.state.monitoring_map ≡ map_of ps vs
-    → (t.number ≡ number_tried rules9to13 c) × (t.number ≡ 0 → Passed c k t)
+    → Tells r rules9to13 c (Passed c k)
 
 -- the block of the values of the full subtrees afterwards
 abbrev pub values_block : Call → Bytes
@@ -337,14 +378,14 @@ pub record Leaves (c : Call) (k : CallBlock) (r : Checked) (block : Bytes) : Typ
   pub values : block ≡ values_block c
 
 -- 14, of a call to which none of 6 to 13 applies
-abbrev pub Is14Tried : Bytes → CallBlock → Tried → Bytes → Checked → Bytes → Type 0
+abbrev pub Is14Tried : Bytes → CallBlock → Tried → Bytes → Result Checked Refusal → Bytes → Type 0
 Is14Tried text k t kept r block =
     (c : Call) (ps vs : List ℕ) (outputs : Bytes) → IsCall c k text outputs → Shapeable text k ps vs outputs
     → not_as_asked c ≡ false → Passed c k t
     → c.state.log.values ≡ runs (ones k.kept_size) hash_length kept
-    → (r.number ≡ number_tried rules14 c) × (r.number ≡ 0 → Leaves c k r block)
+    → Tells r rules14 c (λ x. Leaves c k x block)
 
--- ---- 6 to 14
+-- ---- 1 to 14
 
 -- the arrays of a valid state with their lengths
 pub record Checkable (text : Bytes) (k : CallBlock) (identifier' label' : Bytes) (length' : ℕ)
@@ -361,22 +402,30 @@ pub record Checkable (text : Bytes) (k : CallBlock) (identifier' label' : Bytes)
   pub versions_within : pairs' ≤ length versions'
   pub pairs : ArePairs (take pairs' positions) (take pairs' versions')
 
-abbrev pub Is6to13Tried : AskedKind → Bytes → CallBlock → Bytes → Bytes → List ℕ → List ℕ → Bytes → Tried
-    → Type 0
-Is6to13Tried kind text k identifier label ps vs outputs t =
-    (c : Call) → IsCall c k text outputs → c.inputs.kind ≡ asked_kind kind
+abbrev pub Is6to13Tried : CodeOption KindBlock → Bytes → CallBlock → Bytes → Bytes → List ℕ → List ℕ → Bytes
+    → Result Tried Refusal → Type 0
+Is6to13Tried asked text k identifier label ps vs outputs r =
+    (c : Call) → IsCall c k text outputs → c.inputs.kind ≡ asked_kind asked
     → c.inputs.identifier ≡ identifier
     → c.state.label ≡ label → c.state.monitoring_map ≡ map_of ps vs
-    → (t.number ≡ number_tried rules6to13 c) × (t.number ≡ 0 → Passed c k t)
+    → Tells r rules6to13 c (Passed c k)
 
-abbrev pub IsChecked : AskedKind → Bytes → CallBlock → Bytes → Bytes → List ℕ → List ℕ → Bytes → Bytes
-    → Checked → Bytes → Type 0
-IsChecked kind text k identifier label ps vs outputs kept r block =
-    (c : Call) → IsCall c k text outputs → c.inputs.kind ≡ asked_kind kind
-    → c.inputs.identifier ≡ identifier
-    → c.state.label ≡ label → c.state.monitoring_map ≡ map_of ps vs
-    → c.state.log.values ≡ runs (ones k.kept_size) hash_length kept
-    → (r.number ≡ number_tried checks c) × (r.number ≡ 0 → Leaves c k r block)
+-- the first of 1 to 14 that applies, or the call and what comes of it, whatever room there is for the
+-- value
+abbrev pub Is1to14Tried : CodeOption KindBlock → Bytes → Bytes → StateBlock → Bytes → ℕ → Bytes → Bytes
+    → Result PassedBlock Refusal → Bytes → Type 0
+Is1to14Tried asked text configuration b identifier clock outputs signed (Err e) block =
+    (room : ℕ)
+    → judge_without_head (state_of b) (library_inputs (asked_kind asked)
+    (arguments_of text configuration identifier clock outputs) signed room) ≡ refused (refusal_number e)
+Is1to14Tried asked text configuration b identifier clock outputs signed (Ok p) block =
+    Readable (state_of b) text p.call identifier outputs
+    × ((room : ℕ)
+    → (c : Call)
+    × (judge_without_head (state_of b) (library_inputs (asked_kind asked)
+    (arguments_of text configuration identifier clock outputs) signed room) ≡ passed c)
+    × IsGiven c response_limit (asked_kind asked) (state_of b) p.call text configuration identifier outputs
+    signed room × Leaves c p.call p.checked block)
 
 -- ---- 15 and 16
 
@@ -386,15 +435,16 @@ abbrev pub value_by : KindBlock → Bytes → Option Bytes
 value_by Search field = read_hex field
 value_by Monitor field = some []
 
--- whether a version is found
-abbrev pub is_search : KindBlock → Bool
-is_search Search = true
-is_search Monitor = false
+-- what is found, from the offset after what was written
+unfoldable pub found_by : KindBlock → ℕ → Option ℕ → Result (CodeOption Found) Refusal
+found_by kind version none = Err Room
+found_by Search version (some n) = Ok (Some (record { version = version; length = n }))
+found_by Monitor version (some n) = Ok None
 
--- and which one; 0 where there is none
-abbrev pub version_by : KindBlock → ℕ → ℕ
-version_by Search version = version
-version_by Monitor version = 0
+-- what is answered, of a state lent: a refusal gives it back
+unfoldable pub answer_from : StateBlock → Result Accepted Refusal → Answer
+answer_from b (Ok a) = accepted_answer a.state a.found
+answer_from b (Err e) = refused_answer (refusal_number e) b
 
 -- what is known of a call to which none of 1 to 15 applies
 pub record Accepting (c : Call) (text : Bytes) (k : CallBlock) (b : StateBlock) (r : Checked) (block : Bytes)
@@ -406,25 +456,10 @@ pub record Accepting (c : Call) (text : Bytes) (k : CallBlock) (b : StateBlock) 
   pub leaves : Leaves c k r block
   pub is_room : c.inputs.room ≡ room
 
-abbrev pub IsAcceptedAnswer : Bytes → CallBlock → StateBlock → Checked → Bytes → ℕ → Answer → Type 0
+abbrev pub IsAcceptedAnswer : Bytes → CallBlock → StateBlock → Checked → Bytes → ℕ → Result Accepted Refusal → Type 0
 IsAcceptedAnswer text k b r block room a =
-    (c : Call) → Accepting c text k b r block room → a ≡ answer_of b (tried rules16 c)
+    (c : Call) → Accepting c text k b r block room → answer_from b a ≡ answer_of b (tried rules16 c)
 
 abbrev pub AreAcceptedBytes : Bytes → CallBlock → StateBlock → Checked → Bytes → Bytes → Bytes → Type 0
 AreAcceptedBytes text k b r block output output' =
     (c : Call) → Accepting c text k b r block (length output) → output' ≡ output_after output (tried rules16 c)
-
--- 6 to 16, of a call that was read
-abbrev pub IsReadAnswer : AskedKind → Bytes → CallBlock → Bytes → StateBlock → Bytes → Bytes → Bytes → ℕ
-    → Answer → Type 0
-IsReadAnswer kind text k configuration b identifier outputs signed room a =
-    (limit : ℕ) (c : Call)
-    → IsGiven c limit (asked_kind kind) (state_of b) k text configuration identifier outputs signed room
-    → a ≡ answer_of b (tried (checks ++ last_checks) c)
-
-abbrev pub AreReadBytes : AskedKind → Bytes → CallBlock → Bytes → StateBlock → Bytes → Bytes → Bytes → Bytes
-    → Bytes → Type 0
-AreReadBytes kind text k configuration b identifier outputs signed output output' =
-    (limit : ℕ) (c : Call)
-    → IsGiven c limit (asked_kind kind) (state_of b) k text configuration identifier outputs signed
-    (length output) → output' ≡ output_after output (tried (checks ++ last_checks) c)

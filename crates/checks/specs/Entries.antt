@@ -24,14 +24,12 @@ are_asked kind ladder n ps vs es =
 abbrev pub timestamps_of : List Entry → List ℕ
 timestamps_of es = map (λ (e : Entry). e.timestamp) es
 
--- where the entries are as asked: whether their times do not fall, and fit the kept size and time;
--- the time of the last
-abbrev pub AreTimestamps : ℕ → ℕ → List Entry → Bool → Bool → ℕ → Type 0
-AreTimestamps size timestamp es asked fit last =
-    asked ≡ true
-    → ((log : KeptLog) → log.size ≡ size → log.timestamp ≡ timestamp
-    → fit ≡ (unfalling (timestamps_of es) && all (timestamp_fits log) es))
-    × (last ≡ last_or 0 (timestamps_of es))
+-- whether the times of entries do not fall, and fit the kept size and time; the time of the last
+abbrev pub AreTimestamps : ℕ → ℕ → List Entry → Timestamps → Type 0
+AreTimestamps size timestamp es t =
+    ((log : KeptLog) → log.size ≡ size → log.timestamp ≡ timestamp
+    → t.fit ≡ (unfalling (timestamps_of es) && all (timestamp_fits log) es))
+    × (t.latest ≡ last_or 0 (timestamps_of es))
 
 -- the time of an entry fits the kept size and time, by its position
 abbrev pub fits_kept : ℕ → ℕ → ℕ → ℕ → Bool

@@ -1,6 +1,7 @@
 -- What is known of the lookups of a response, from what they are tried with: for contracts of
 -- private functions alone.
 use Rattle.std.specs.Prelude.{◌≡◌, Bool, true, false, ◌&&◌, ℕ, ◌+◌, leb, length, take, drop}
+use Rattle.std.specs.Prelude.{Some, None, Option as CodeOption, is_some as is_found, Ok, Err, Result as CodeResult}
 use mathlib.Core.List.{List, [], ◌∷◌, ◌++◌, Memᴰ}
 use Rattle.std.proofs.Math.Option.{some}
 use Rattle.lists.specs.Choice.{choose}
@@ -17,10 +18,11 @@ use Rattle.rules.specs.Monitoring.{all_included}
 use Rattle.rules.specs.Refusals.{Call, kind_rules, commitment_asked, lookup_passes, lookups_hold}
 use Rattle.inputs.specs.declared.response_lines.Kind.{Kind}
 use Rattle.inputs.specs.declared.response_lines.Kind.TheVariants.{Search, Monitor}
-use Rattle.checks.specs.declared.lookups.Sought.{Sought}
+use Rattle.inputs.specs.declared.refusal.Refusal.{Refusal}
+use Rattle.inputs.specs.declared.refusal.Refusal.TheVariants.{Lookup as LookupFails, Ladder as LadderFails}
+use Rattle.checks.specs.declared.sought.Sought.{Sought}
 use Rattle.checks.specs.declared.lookups.Summary.{Summary}
 use Rattle.checks.specs.declared.lookups.Results.{Results}
-use Rattle.checks.specs.declared.lookups.Judged.{Judged}
 use Rattle.checks.specs.Sections.{read_lookup}
 use Rattle.checks.specs.Steps.{CommitmentsBy}
 use Rattle.checks.specs.Entries.{versions_of}
@@ -74,13 +76,13 @@ IsSoughtOf Search c t committed =
     × (committed ≡ commitment_to target.opening c.parts.label target.value)
 IsSoughtOf Monitor c t committed = c.parts.finding ≡ monitored
 
--- this, the outputs, and the steps with the offsets of their commitments, are those of a call
-pub record TriedWith (c : Call) (s : Sought) (outputs' steps' : Bytes) (offsets : List ℕ) : Type 0 where
+-- what lookups are tried with is that of a call
+pub record TriedWith (c : Call) (s : Sought) : Type 0 where
   pub sought : IsSoughtOf s.kind c s.version s.commitment
-  pub outputs : read_outputs outputs' ≡ some c.outputs
+  pub outputs : read_outputs s.outputs.now ≡ some c.outputs
   pub asked : all (commitment_asked (kind_rules c).is_committed) c.parts.steps ≡ true
   pub there : all (has_output c.outputs) (step_versions c.parts) ≡ true
-  pub stand : CommitmentsBy steps' c.outputs offsets c.parts.steps
+  pub stand : CommitmentsBy s.steps.now c.outputs s.offsets.now c.parts.steps
 
 -- the version looked up is one of the steps
 abbrev pub IsStep : Call → Lookup → Type 0
@@ -91,10 +93,9 @@ abbrev pub AreSteps : Call → List Lookup → Type 0
 AreSteps c ls = (l : Lookup) → Memᴰ l ls → IsStep c l
 
 -- whether a lookup line passes (rule 12)
-abbrev pub Passes : Bytes → Bytes → Sought → Bytes → Bytes → List ℕ → Bool → Type 0
-Passes line root s outputs steps offsets r =
-    (c : Call) (l : Lookup) → TriedWith c s outputs steps offsets → read_lookup line ≡ some l → IsStep c l
-    → r ≡ lookup_passes c root l
+abbrev pub Passes : Sought → Bytes → Bytes → Bool → Type 0
+Passes s line root r =
+    (c : Call) (l : Lookup) → TriedWith c s → read_lookup line ≡ some l → IsStep c l → r ≡ lookup_passes c root l
 
 -- ---- the lookups of an entry
 
@@ -112,28 +113,26 @@ no_lookups root =
     }
 
 -- what is known of some
-pub record IsSummary (s : Sought) (outputs steps : Bytes) (offsets ladder : List ℕ) (root' : Bytes)
-    (ls : List Lookup) (x : Summary) : Type 0 where
+pub record IsSummary (s : Sought) (root' : Bytes) (ls : List Lookup) (x : Summary) : Type 0 where
   pub root : x.root ≡ root'
-  pub reached : (c : Call) → TriedWith c s outputs steps offsets → AreSteps c ls
-      → x.reached ≡ all (lookup_passes c root') ls
+  pub reached : (c : Call) → TriedWith c s → AreSteps c ls → x.reached ≡ all (lookup_passes c root') ls
   pub count : x.count ≡ length ls
-  pub begin : x.begin ≡ begins (versions_of ls) ladder
+  pub begin : x.begin ≡ begins (versions_of ls) s.ladder.now
   pub fits : x.fits ≡ all (result_fits s.version) ls
   pub early : x.early ≡ ends_early s.version ls
   pub included : x.included ≡ all (λ (l : Lookup). is_included l.result) ls
 
 -- the same with one more, that a line says
-abbrev pub IsNextSummary : Sought → Bytes → Bytes → List ℕ → List ℕ → Bytes → Summary → Summary → Type 0
-IsNextSummary s outputs steps offsets ladder line x y =
-    (root : Bytes) (ls : List Lookup) (l : Lookup) → IsSummary s outputs steps offsets ladder root ls x
-    → read_lookup line ≡ some l → IsSummary s outputs steps offsets ladder root (ls ++ l ∷ []) y
+abbrev pub IsNextSummary : Sought → Bytes → Summary → Summary → Type 0
+IsNextSummary s line x y =
+    (root : Bytes) (ls : List Lookup) (l : Lookup) → IsSummary s root ls x → read_lookup line ≡ some l
+    → IsSummary s root (ls ++ l ∷ []) y
 
 -- ---- the entries
 
 -- none so far
 unfoldable pub no_entries : Results
-no_entries = record { reached = true; found = false; position = 0; fits = true; included = true }
+no_entries = record { reached = true; first = None; fits = true; included = true }
 
 -- whether they are as a search asks so far, once there is a complete one, and before
 unfoldable pub fit_so_far : List ℕ → ℕ → Bool → List Entry → Bool
@@ -145,29 +144,26 @@ abbrev pub AllSteps : Call → List Entry → Type 0
 AllSteps c es = (e : Entry) → Memᴰ e es → AreSteps c e.lookups
 
 -- what is known of some
-pub record AreResults (s : Sought) (outputs steps : Bytes) (offsets ladder : List ℕ)
-    (es : List Entry) (x : Results) : Type 0 where
-  pub reached : (c : Call) → TriedWith c s outputs steps offsets → AllSteps c es
-      → x.reached ≡ all (lookups_hold c) es
-  pub found : x.found ≡ any (is_complete ladder s.version) es
-  pub fits : x.fits ≡ fit_so_far ladder s.version x.found es
-  pub position : x.found ≡ true
-      → (e : Entry) × (first (is_complete ladder s.version) es ≡ some e) × (x.position ≡ e.position)
+pub record AreResults (s : Sought) (es : List Entry) (x : Results) : Type 0 where
+  pub reached : (c : Call) → TriedWith c s → AllSteps c es → x.reached ≡ all (lookups_hold c) es
+  pub found : is_found x.first ≡ any (is_complete s.ladder.now s.version) es
+  pub fits : x.fits ≡ fit_so_far s.ladder.now s.version (is_found x.first) es
+  pub position : (p : ℕ) → x.first ≡ Some p
+      → (e : Entry) × (first (is_complete s.ladder.now s.version) es ≡ some e) × (p ≡ e.position)
   pub included : x.included ≡ all_included es
 
 -- the same with one more at a position, whose lookups are summed up, of whose ladder so many
 -- versions are wanted
 abbrev pub AreNextResults : ℕ → Summary → ℕ → Results → Results → Type 0
 AreNextResults position entry wanted x y =
-    (s : Sought) (outputs steps : Bytes) (offsets ladder : List ℕ) (es : List Entry) (e : Entry)
-    → AreResults s outputs steps offsets ladder es x → wanted ≡ length ladder → position ≡ e.position
-    → IsSummary s outputs steps offsets ladder e.prefix_root e.lookups entry
-    → AreResults s outputs steps offsets ladder (es ++ e ∷ []) y
+    (s : Sought) (es : List Entry) (e : Entry) → AreResults s es x → wanted ≡ length s.ladder.now
+    → position ≡ e.position → IsSummary s e.prefix_root e.lookups entry → AreResults s (es ++ e ∷ []) y
 
 -- ---- 12 and 13
 
--- from whether the lookups reach their roots, whether they show what they must, and a position
-unfoldable pub judged_by : Bool → Bool → ℕ → Judged
-judged_by false fit position = record { number = 12; position = 0 }
-judged_by true false position = record { number = 13; position = 0 }
-judged_by true true position = record { number = 0; position = position }
+-- from whether the lookups reach their roots, and the position that they show, if they show what
+-- they must
+unfoldable pub judged_by : Bool → CodeOption ℕ → CodeResult ℕ Refusal
+judged_by false shown = Err LookupFails
+judged_by true None = Err LadderFails
+judged_by true (Some position) = Ok position

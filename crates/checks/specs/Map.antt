@@ -1,6 +1,6 @@
 -- The new monitoring map, in the room of a state's struct: for contracts of private functions
 -- alone.
-use Rattle.std.specs.Prelude.{◌≡◌, true, List, ℕ, ◌≤◌, eqb, leb, length, take}
+use Rattle.std.specs.Prelude.{◌≡◌, true, List, ℕ, ◌≤◌, ◌<◌, eqb, length, take, Some, None, Option as CodeOption}
 use Rattle.std.proofs.Math.Option.{Option-elim}
 use Rattle.lists.specs.Lists.{first, rising}
 use Rattle.hash.specs.Bytes.{padded}
@@ -12,7 +12,6 @@ use Rattle.inputs.specs.declared.response_lines.Kind.{Kind}
 use Rattle.inputs.specs.declared.response_lines.Kind.TheVariants.{Search, Monitor}
 use Rattle.inputs.specs.declared.state.MonitoringMap.{MonitoringMap}
 use Rattle.inputs.specs.State.{map_of}
-use Rattle.checks.specs.declared.map.NewMap.{NewMap}
 
 -- a struct that holds so many pairs with rising positions, and zeros after them
 pub record IsMap (m : MonitoringMap) : Type 0 where
@@ -35,20 +34,15 @@ pub record Holds (es : List MapEntry) (m : MonitoringMap) : Type 0 where
   pub versions : m.versions ≡ padded map_limit (versions_of es)
   pub count : m.count ≡ length es
 
--- the new map is pairs that there is room for
-abbrev pub HoldsAll : List MapEntry → NewMap → Type 0
-HoldsAll es r = (r.fits ≡ true) × Holds es r.map
-
--- the pairs with one more, if there is room for it
-abbrev pub HasPair : MonitoringMap → ℕ → ℕ → NewMap → Type 0
-HasPair m p v r =
-    (r.fits ≡ leb (length (put_version p v (pairs_in m))) map_limit)
-    × (r.fits ≡ true → Holds (put_version p v (pairs_in m)) r.map)
+-- the pairs that there is room for, or there is none for all
+abbrev pub HoldsIfRoom : List MapEntry → CodeOption MonitoringMap → Type 0
+HoldsIfRoom es None = map_limit < length es
+HoldsIfRoom es (Some m) = (length es ≤ map_limit) × Holds es m
 
 -- the new map by the kind
-abbrev pub IsNewMap : Kind → ℕ → MonitoringMap → ℕ → ℕ → NewMap → Type 0
-IsNewMap Search n m p v r = HasPair m p v r
-IsNewMap Monitor n m p v r = HoldsAll (map_after_monitoring n (pairs_in m)) r
+abbrev pub IsNewMap : Kind → ℕ → MonitoringMap → ℕ → ℕ → CodeOption MonitoringMap → Type 0
+IsNewMap Search n m p v r = HoldsIfRoom (put_version p v (pairs_in m)) r
+IsNewMap Monitor n m p v r = HoldsIfRoom (map_after_monitoring n (pairs_in m)) r
 
 -- the version at a position, 0 where no pair stands there
 unfoldable pub version_at : ℕ → List MapEntry → ℕ

@@ -1,7 +1,7 @@
 -- What is known of the steps of a response, from where their commitments stand: for contracts of
 -- private functions alone.
-use Rattle.std.specs.Prelude.{◌≡◌, Bool, true, false, ◌&&◌, ℕ, ltb, get_or, set}
-use mathlib.Core.List.{List, map, Memᴰ}
+use Rattle.std.specs.Prelude.{◌≡◌, ◌⊎◌, Bool, true, false, ◌&&◌, ℕ, ltb, get_or, set, drop, Some, None, Option as CodeOption}
+use mathlib.Core.List.{List, [], map, Memᴰ}
 use Rattle.std.proofs.Math.Option.{some}
 use Rattle.lists.specs.Lists.{Bytes, all, same}
 use Rattle.tree.specs.Ladder.{ladder}
@@ -10,7 +10,8 @@ use Rattle.rules.specs.Response.{Step}
 use Rattle.rules.specs.Refusals.{commitment_asked}
 use Rattle.inputs.specs.VrfOutputs.{records_below}
 use Rattle.inputs.specs.Response.{steps_in}
-use Rattle.checks.specs.Sections.{CommitmentAt}
+use Rattle.checks.specs.declared.sections.NextStep.{NextStep}
+use Rattle.checks.specs.Sections.{CommitmentAt, IsNextStep}
 use Rattle.checks.specs.MonitoredVersions.{counted}
 
 abbrev pub versions_of : List Step → List ℕ
@@ -35,27 +36,38 @@ IsNoted outputs v offset offsets r offsets' =
     → (r ≡ has_output xs v) × (r ≡ true → offsets' ≡ set offsets (records_below xs v) offset)
     × (r ≡ false → offsets' ≡ offsets)
 
+-- ---- one step
+
+-- none stands at an offset, or one that is not of a version wanted or has a commitment other than
+-- wanted; or it is of that version, its commitment is noted, and the next step stands at an offset
+abbrev pub IsWantedStep : Bytes → ℕ → ℕ → Bool → Bytes → List ℕ → CodeOption (Bool × ℕ) → List ℕ → Type 0
+IsWantedStep s at v committed outputs offsets None offsets' =
+    (steps_in (drop at s) ≡ [])
+    ⊎ ((n : NextStep) × IsNextStep s at (Some n) × (n.version ≡ v → n.committed ≡ committed → ⊥))
+IsWantedStep s at v committed outputs offsets (Some (there, next)) offsets' =
+    (n : NextStep) × IsNextStep s at (Some n) × (n.version ≡ v) × (n.committed ≡ committed) × (n.next ≡ next)
+    × IsNoted outputs v n.commitment offsets there offsets'
+
 -- ---- whether the steps are as asked
 
 -- the ladder of t, with commitments of the versions below t
-abbrev pub AreSearchSteps : Bytes → ℕ → Bool → Type 0
-AreSearchSteps s t r =
-    r ≡ (same (versions_of (steps_in s)) (ladder t) && all (commitment_asked (λ (v : ℕ). ltb v t)) (steps_in s))
+abbrev pub are_search_steps : Bytes → ℕ → Bool
+are_search_steps s t =
+    same (versions_of (steps_in s)) (ladder t) && all (commitment_asked (λ (v : ℕ). ltb v t)) (steps_in s)
 
 -- the versions looked up for the pairs that count, with commitments
-abbrev pub AreMonitoringSteps : Bytes → List ℕ → List ℕ → Bool → Type 0
-AreMonitoringSteps s marks vs r =
-    r ≡ (same (versions_of (steps_in s)) (counted marks vs)
-    && all (commitment_asked (λ (v : ℕ). true)) (steps_in s))
+abbrev pub are_monitoring_steps : Bytes → List ℕ → List ℕ → Bool
+are_monitoring_steps s marks vs =
+    same (versions_of (steps_in s)) (counted marks vs) && all (commitment_asked (λ (v : ℕ). true)) (steps_in s)
 
--- where they are, whether outputs have all versions
-abbrev pub AreOutputsThere : Bytes → Bytes → Bool → Bool → Type 0
-AreOutputsThere s outputs asked there =
-    asked ≡ true → (xs : List VrfOutput) → read_outputs outputs ≡ some xs
-    → there ≡ all (has_output xs) (versions_of (steps_in s))
+-- it is known whether outputs have all versions of some steps, and where they have, the commitments
+-- stand at the offsets of the table
+abbrev pub ArePlaced : Bytes → Bytes → List ℕ → Bool → List Step → Type 0
+ArePlaced s outputs offsets there steps =
+    (xs : List VrfOutput) → read_outputs outputs ≡ some xs
+    → (there ≡ all (has_output xs) (versions_of steps)) × (there ≡ true → CommitmentsBy s xs offsets steps)
 
--- where outputs have all versions, the commitments stand at the offsets of the table
-abbrev pub AreCommitmentsBy : Bytes → Bytes → Bool → Bool → List ℕ → Type 0
-AreCommitmentsBy s outputs asked there offsets =
-    asked ≡ true → there ≡ true → (xs : List VrfOutput) → read_outputs outputs ≡ some xs
-    → CommitmentsBy s xs offsets (steps_in s)
+-- the steps are not as asked; or they are, and whether outputs have all versions
+abbrev pub AreSteps : Bytes → Bytes → Bool → CodeOption Bool → List ℕ → Type 0
+AreSteps s outputs asked None offsets = asked ≡ false
+AreSteps s outputs asked (Some there) offsets = (asked ≡ true) × ArePlaced s outputs offsets there (steps_in s)

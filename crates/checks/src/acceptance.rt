@@ -3,14 +3,14 @@
 ghost use Rattle.std.specs.Prelude.{◌≡◌, true, length};
 ghost use Rattle.lists.specs.Choice.{is_some};
 ghost use Rattle.lines.specs.Writing.{offset_after_any, put_any};
-ghost use Rattle.lines.specs.Readings.{put_of};
 ghost use Rattle.rules.specs.Refusals.{valid_state};
 ghost use Rattle.inputs.specs.State.{state_of};
-ghost use Rattle.checks.specs.Calls.{value_by, is_search, version_by, IsAcceptedAnswer, AreAcceptedBytes};
+ghost use Rattle.inputs.proofs.StateBlockLaws.{Sized};
+ghost use Rattle.checks.specs.Calls.{value_by, found_by, IsAcceptedAnswer, AreAcceptedBytes};
 ghost use Rattle.checks.specs.Map.{IsMap, IsNewMap};
 
-use crate::call::{Answer, refused};
-use crate::map::{NewMap, moved_pairs, with_pair};
+use crate::call::{Accepted, Found};
+use crate::map::{moved_pairs, with_pair};
 use crate::readings::Call;
 use crate::trial::Checked;
 use inputs::refusal::Refusal;
@@ -24,88 +24,80 @@ use tree::log_head::LogHead;
 pub(crate) fn accepted(
     text: &[u8],
     call: Call,
-    state: State,
+    state: &State,
     checked: Checked,
     values: [u8; LogHead::BLOCK],
     output: &mut [u8],
-) -> Answer
-    requires valid { is_some (valid_state (state_of state)) ≡ true }
-    ensures answer { IsAcceptedAnswer text.now call state checked values
+) -> Result<Accepted, Refusal>
+    requires sized { Sized state.now }
+    requires valid { is_some (valid_state (state_of state.now)) ≡ true }
+    ensures answer { IsAcceptedAnswer text.now call state.now checked values
         (length output.old) result }
-    ensures bytes { AreAcceptedBytes text.now call state checked values
+    ensures bytes { AreAcceptedBytes text.now call state.now checked values
         output.old output.new }
 {
     let response = call.response;
-    let kind = response.kind;
-    let old = state.map;
     let version = response.target.version;
-    let map = new_map(kind, response.tree_size, old, checked.position, version);
-    if !map.fits {
-        return refused(Refusal::ROOM, state);
-    }
-    let Put::Next(length) = put_value(kind, response.target.value.of(text), output) else {
-        return refused(Refusal::ROOM, state);
+    let Some(map) = new_map(
+        response.kind,
+        response.tree_size,
+        state.map,
+        checked.position,
+        version,
+    ) else {
+        return Err(Refusal::Room);
     };
-    let label = state.label;
-    let pairs = map.map;
-    Answer {
-        number: 0,
+    let found = put_found(response.kind, version, response.target.value.of(text), output)?;
+    Ok(Accepted {
         state: State {
-            label,
+            label: state.label,
             log: KeptLog {
                 size: response.tree_size,
                 timestamp: checked.timestamp,
                 values,
             },
-            map: pairs,
+            map,
         },
-        found: is_search(kind),
-        version: found_version(kind, version),
-        length,
-    }
+        found,
+    })
 }
 
 // The new map: in a search with the version at the position of the first complete entry; in
-// monitoring each pair at the end of its right path.
-fn new_map(kind: Kind, tree_size: u64, map: MonitoringMap, position: u64, version: u32) -> NewMap
+// monitoring each pair at the end of its right path. None where it has no room.
+fn new_map(
+    kind: Kind,
+    tree_size: u64,
+    map: MonitoringMap,
+    position: u64,
+    version: u32,
+) -> Option<MonitoringMap>
     requires { IsMap map }
     ensures { IsNewMap kind tree_size map position version result }
 {
     match kind {
         Kind::Search => with_pair(map, position, version),
-        Kind::Monitor => moved_pairs(tree_size, map),
+        Kind::Monitor => Some(moved_pairs(tree_size, map)),
     }
 }
 
-// Writes the value that a search found, given by its field, to the first output bytes.
-fn put_value(kind: Kind, field: &[u8], output: &mut [u8]) -> Put
-    ensures offset { put_of result
-        ≡ offset_after_any output.old 0 (value_by kind field.now) }
+// What a response of a kind finds: of a search its version and the value, given by its field, which
+// is written to the first output bytes.
+fn put_found(
+    kind: Kind,
+    version: u32,
+    field: &[u8],
+    output: &mut [u8],
+) -> Result<Option<Found>, Refusal>
+    ensures found { result
+        ≡ found_by kind version (offset_after_any output.old 0 (value_by kind field.now)) }
     ensures bytes { output.new
         ≡ put_any output.old 0 (value_by kind field.now) }
 {
     match kind {
-        Kind::Search => put_decoded(output, 0, field),
-        Kind::Monitor => Put::Next(0),
-    }
-}
-
-// Whether a response of a kind finds a version.
-fn is_search(kind: Kind) -> bool
-    ensures { result ≡ is_search kind }
-{
-    match kind {
-        Kind::Search => true,
-        Kind::Monitor => false,
-    }
-}
-
-// The version that a response of a kind finds, 0 where it finds none.
-fn found_version(kind: Kind, version: u32) -> u32
-    ensures { result ≡ version_by kind version }
-{
-    match kind {
-        Kind::Search => version,
-        Kind::Monitor => 0,
+        Kind::Search => match put_decoded(output, 0, field) {
+            Put::Next(length) => Ok(Some(Found { version, length })),
+            Put::Unchanged => Err(Refusal::Room),
+        },
+        Kind::Monitor => Ok(None),
     }
 }

@@ -1,6 +1,6 @@
 // The entries of a response (paper 01, Ladder, search, monitoring): whether they are as asked, and
 // their times.
-ghost use Rattle.std.specs.Prelude.{◌≡◌, [], ◌∷◌, ◌≤◌, length, drop, false};
+ghost use Rattle.std.specs.Prelude.{◌≡◌, [], ◌∷◌, ◌≤◌, length, drop, is_some, IfSome};
 ghost use Rattle.lists.specs.Lists.{begins, same};
 ghost use Rattle.rules.specs.Limits.{tree_size_limit};
 ghost use Rattle.inputs.specs.Response.{entries_in, loose_in};
@@ -18,15 +18,6 @@ use lines::layout::Layout;
 use tree::log_text::{position_at, timestamp_at};
 use tree::search_tree::next_asked;
 
-// Whether the entries are as asked; then whether their times fit each other and what is kept, and
-// the time of the last one.
-#[derive(Clone, Copy)]
-pub(crate) struct EntriesAsked {
-    pub asked: bool,
-    pub timestamps: bool,
-    pub timestamp: u64,
-}
-
 // The lookups at an offset: whether their versions are from the front of those wanted, and how many
 // they are; the offset after them.
 #[derive(Clone, Copy)]
@@ -36,14 +27,7 @@ struct LookupsShown {
     next: usize,
 }
 
-// Whether the lookups of an entry are as asked, and the offset after them.
-#[derive(Clone, Copy)]
-struct EntryAsked {
-    asked: bool,
-    next: usize,
-}
-
-// The entries of a log of so many: the frontier and the right paths of the positions of pairs, of
+// The times of the entries, if these are as asked of a log of so many: the frontier and the right paths of the positions of pairs, of
 // which a search has none. A search looks up a beginning of its ladder in each; monitoring the
 // versions of the pair that counts there, whose mark becomes 0.
 pub(crate) fn entries_asked(
@@ -56,18 +40,18 @@ pub(crate) fn entries_asked(
     positions: &[u64],
     versions: &[u32],
     marks: &mut [u32],
-) -> EntriesAsked
+) -> Option<Timestamps>
     requires lines { EntryLines entries.now }
     requires loose { loose_in entries.now ≡ [] }
     requires short { length entries.now ≤ offset_bound }
     requires many { tree_size ≤ tree_size_limit }
     requires pairs { ArePairsAsked positions.now versions.now marks.old }
-    ensures asked { result.asked ≡ are_asked kind ladder.now tree_size positions.now
+    ensures asked { is_some result ≡ are_asked kind ladder.now tree_size positions.now
         versions.now (entries_in entries.now) }
-    ensures timestamps { AreTimestamps kept_size kept_timestamp (entries_in entries.now)
-        result.asked result.timestamps result.timestamp }
+    ensures timestamps { IfSome result
+        (AreTimestamps kept_size kept_timestamp (entries_in entries.now)) }
     ensures marks { AreMarkedBy kind tree_size positions.now versions.now
-        result.asked marks.new }
+        (is_some result) marks.new }
 {
     let mut at: usize = 0;
     let mut from: u64 = 0;
@@ -75,42 +59,24 @@ pub(crate) fn entries_asked(
     loop {
         let position = next_asked(tree_size, positions, from);
         if tree_size <= position {
-            return EntriesAsked {
-                asked: at == entries.len(),
-                timestamps: timestamps.fit,
-                timestamp: timestamps.latest,
-            };
+            return (at == entries.len()).then_some(timestamps);
         }
-        let Some(first) = next_entry(entries, at) else {
-            return not_asked();
-        };
+        let first = next_entry(entries, at)?;
         if position_at(entries, at + Layout::ENTRY) != position {
-            return not_asked();
+            return None;
         }
-        let entry = entry_asked(
+        let next = entry_asked(
             kind, entries, first, tree_size, ladder, positions, versions, position, marks,
-        );
-        if !entry.asked {
-            return not_asked();
-        }
+        )?;
         let timestamp = timestamp_at(entries, at + Layout::ENTRY);
         timestamps = timestamps.next(position, timestamp, kept_size, kept_timestamp);
-        at = entry.next;
+        at = next;
         from = position + 1;
     }
 }
 
-fn not_asked() -> EntriesAsked
-    ensures { result.asked ≡ false }
-{
-    EntriesAsked {
-        asked: false,
-        timestamps: false,
-        timestamp: 0,
-    }
-}
-
-// The lookups of the entry at a position, which stand at an offset.
+// The offset after the lookups of the entry at a position, which stand at an offset, if they are as
+// asked.
 fn entry_asked(
     kind: Kind,
     entries: &[u8],
@@ -121,25 +87,22 @@ fn entry_asked(
     versions: &[u32],
     position: u64,
     marks: &mut [u32],
-) -> EntryAsked
+) -> Option<usize>
     requires lines { EntryLines (drop from entries.now) }
     requires within { from ≤ length entries.now }
     requires pairs { ArePairs positions.now versions.now }
     requires marks { length marks.old ≡ length versions.now }
-    ensures asked { result.asked ≡ fit_by kind
+    ensures asked { is_some result ≡ fit_by kind
         (wanted_by kind ladder.now tree_size positions.now versions.now
         position) (versions_of (loose_in (drop from entries.now))) }
-    ensures next { AfterLookups entries.now from result.next }
+    ensures next { IfSome result (AfterLookups entries.now from) }
     ensures marks { IsMarkedBy kind tree_size positions.now versions.now
         position marks.old marks.new }
 {
     match kind {
         Kind::Search => {
             let lookups = lookups_shown(entries, from, ladder);
-            EntryAsked {
-                asked: lookups.begin & (0 < lookups.count),
-                next: lookups.next,
-            }
+            (lookups.begin & (0 < lookups.count)).then_some(lookups.next)
         }
         Kind::Monitor => monitored_entry(
             entries, from, tree_size, positions, versions, position, marks,
@@ -156,14 +119,14 @@ fn monitored_entry(
     versions: &[u32],
     position: u64,
     marks: &mut [u32],
-) -> EntryAsked
+) -> Option<usize>
     requires lines { EntryLines (drop from entries.now) }
     requires within { from ≤ length entries.now }
     requires pairs { ArePairs positions.now versions.now }
     requires marks { length marks.old ≡ length versions.now }
-    ensures asked { result.asked ≡ same (versions_of (loose_in (drop from entries.now)))
+    ensures asked { is_some result ≡ same (versions_of (loose_in (drop from entries.now)))
         (shown_at tree_size positions.now versions.now position) }
-    ensures next { AfterLookups entries.now from result.next }
+    ensures next { IfSome result (AfterLookups entries.now from) }
     ensures marks { IsMarkedFor tree_size positions.now versions.now
         position marks.old marks.new }
 {
@@ -174,17 +137,11 @@ fn monitored_entry(
             let wanted = shown.versions;
             let length = shown.length;
             let lookups = lookups_shown(entries, from, &wanted[..length]);
-            EntryAsked {
-                asked: lookups.begin & (lookups.count == length),
-                next: lookups.next,
-            }
+            (lookups.begin & (lookups.count == length)).then_some(lookups.next)
         }
         None => {
             let lookups = lookups_shown(entries, from, &versions[..0]);
-            EntryAsked {
-                asked: lookups.count == 0,
-                next: lookups.next,
-            }
+            (lookups.count == 0).then_some(lookups.next)
         }
     }
 }

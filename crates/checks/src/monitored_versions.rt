@@ -9,7 +9,8 @@ ghost use Rattle.checks.specs.MonitoredVersions.{not_above, IsLargest};
 use tree::ladder::Ladder;
 use tree::search_tree::is_right_ancestor;
 
-// Stands for no version: it is above all that are looked up.
+// Stands for no version: it is above all that are looked up. It is no Option, so that the next
+// versions of pairs stay plain numbers, of which the smallest is taken as it stands.
 pub(crate) const NONE: u32 = u32::MAX;
 
 // The pair, by its number, with the largest version of those whose right path holds an entry of a
@@ -23,23 +24,19 @@ pub(crate) fn largest_pair(
     requires { length positions.now ≡ length versions.now }
     ensures { IsLargest tree_size positions.now versions.now entry result }
 {
-    let mut pair: usize = 0;
-    let mut above: u64 = 0;
-    let mut i = positions.len();
-    while 0 < i {
-        i -= 1;
-        if is_right_ancestor(tree_size, positions[i], entry) {
-            let version = versions[i] as u64;
-            if above <= version {
-                above = version + 1;
-                pair = i;
+    let mut largest: Option<usize> = None;
+    for i in (0..positions.len()).rev() {
+        if !is_right_ancestor(tree_size, positions[i], entry) {
+            continue;
+        }
+        if let Some(pair) = largest {
+            if versions[i] <= versions[pair] {
+                continue;
             }
         }
+        largest = Some(i);
     }
-    if above == 0 {
-        return None;
-    }
-    Some(pair)
+    largest
 }
 
 // The versions of a version's ladder that are not above it, in their order.
@@ -49,17 +46,14 @@ pub(crate) fn versions_not_above(version: u32) -> Ladder
         × (result.length ≡ length (not_above version)) }
 {
     let whole = Ladder::of(version);
-    let all = whole.versions;
-    let count = whole.length;
+    let all = &whole.versions[..whole.length];
     let mut versions = [0u32; Ladder::CAPACITY];
     let mut length: usize = 0;
-    let mut i: usize = 0;
-    while i < count {
-        if all[i] <= version {
-            versions[length] = all[i];
+    for shown in all {
+        if *shown <= version {
+            versions[length] = *shown;
             length += 1;
         }
-        i += 1;
     }
     Ladder { versions, length }
 }
@@ -70,14 +64,11 @@ pub(crate) fn next_not_above(version: u32, from: u32) -> u32
     ensures { result ≡ next_from version_bound (not_above version) from }
 {
     let shown = versions_not_above(version);
-    let versions = shown.versions;
-    let count = shown.length;
-    let mut i: usize = 0;
-    while i < count {
-        if from <= versions[i] {
-            return versions[i];
+    let versions = &shown.versions[..shown.length];
+    for next in versions {
+        if from <= *next {
+            return *next;
         }
-        i += 1;
     }
     NONE
 }

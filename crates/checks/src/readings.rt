@@ -19,15 +19,8 @@ pub(crate) struct Call {
     pub(crate) kept_timestamp: u64,
 }
 
-// A call, or the number of the first refusal from 1 to 5 that applies.
-#[derive(Clone, Copy)]
-pub(crate) enum ReadCall {
-    Read(Call),
-    Refused(u64),
-}
-
 // Reads what a call is given, with a limit for the response, of whose state it is known whether it
-// is valid.
+// is valid; or answers the first refusal from 1 to 5 that applies.
 pub(crate) fn read_call(
     limit: usize,
     response: &[u8],
@@ -39,28 +32,28 @@ pub(crate) fn read_call(
     clock: u64,
     outputs: &[u8],
     signed: &[u8],
-) -> ReadCall
+) -> Result<Call, Refusal>
     requires { limit ≤ offset_bound }
     ensures { IsReadCall limit response.now configuration.now valid
         kept_size kept_timestamp
         identifier.now clock outputs.now signed.now result }
 {
     if !lengths_fit(limit, response, configuration, signed, outputs, identifier) {
-        return ReadCall::Refused(Refusal::LENGTH);
+        return Err(Refusal::Length);
     }
     let ReadConfiguration::Read(settings) = read_configuration(configuration) else {
-        return ReadCall::Refused(Refusal::CONFIGURATION);
+        return Err(Refusal::Configuration);
     };
     if !valid {
-        return ReadCall::Refused(Refusal::STATE);
+        return Err(Refusal::State);
     }
     if !outputs_rise(outputs) {
-        return ReadCall::Refused(Refusal::VRF_OUTPUTS);
+        return Err(Refusal::VrfOutputs);
     }
     let ReadResponse::Read(r) = read_response(response) else {
-        return ReadCall::Refused(Refusal::LINES);
+        return Err(Refusal::Lines);
     };
-    ReadCall::Read(Call {
+    Ok(Call {
         configuration: settings,
         response: r,
         clock,

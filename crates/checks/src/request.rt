@@ -5,10 +5,10 @@ ghost use Rattle.std.proofs.Math.Option.{Option-elim};
 ghost use Rattle.lists.specs.Lists.{Bytes, any, same};
 ghost use Rattle.lines.specs.Hex.{read_hex};
 ghost use Rattle.rules.specs.Limits.{label_limit, tree_size_limit, greatest_version};
+ghost use Rattle.inputs.specs.Refusal.{number_in};
 ghost use Rattle.inputs.specs.Response.{Fields};
 ghost use Rattle.checks.specs.Calls.{are_lengths_fit, is_kind_asked, IsRequested, FitsTarget, IsNumber6to8};
 
-use crate::call::AskedKind;
 use crate::limits::InputLimit;
 use crate::readings::Call;
 use inputs::refusal::Refusal;
@@ -48,46 +48,44 @@ pub(crate) fn lengths_fit(
     identifier.len() == KtLine::IDENTIFIER
 }
 
-// The number of the first refusal from 6 to 8 that applies, or 0: given the kind asked for, the
-// identifier sent, and the label and the versions of the state.
+// Tries 6 to 8: given the kind asked for, the identifier sent, and the label and the versions of the
+// state.
 pub(crate) fn try_6_to_8(
-    asked: AskedKind,
+    asked: Option<Kind>,
     text: &[u8],
     call: Call,
     identifier: &[u8],
     label: &[u8],
     versions: &[u32],
-) -> u64
+) -> Result<(), Refusal>
     requires fields { Fields text.now call.response }
     requires identifier { length identifier.now ≤ label_limit }
     requires label { length label.now ≤ label_limit }
     ensures { IsNumber6to8 asked text.now call identifier.now
-        label.now versions.now result }
+        label.now versions.now (number_in result) }
 {
     let r = call.response;
     if !is_requested(asked, text, r, identifier, label) {
-        return Refusal::REQUEST;
+        return Err(Refusal::Request);
     }
     if !size_fits(r.tree_size, call.kept_size) {
-        return Refusal::TREE_SIZE;
+        return Err(Refusal::TreeSize);
     }
-    let kind = r.kind;
-    if !target_fits(kind, r.target.version, versions) {
-        return Refusal::TARGET;
+    if !target_fits(r.kind, r.target.version, versions) {
+        return Err(Refusal::Target);
     }
-    0
+    Ok(())
 }
 
 // Whether a response is of the kind asked for, with the identifier sent and the label.
-fn is_requested(asked: AskedKind, text: &[u8], r: Response, identifier: &[u8], label: &[u8]) -> bool
+fn is_requested(asked: Option<Kind>, text: &[u8], r: Response, identifier: &[u8], label: &[u8]) -> bool
     requires fields { Fields text.now r }
     requires identifier { length identifier.now ≤ label_limit }
     requires label { length label.now ≤ label_limit }
     ensures { IsRequested asked text.now r identifier.now label.now
         result }
 {
-    let kind = r.kind;
-    if !is_kind_asked(kind, asked) {
+    if !is_kind_asked(r.kind, asked) {
         return false;
     }
     if !decodes(r.identifier.of(text), identifier) {
@@ -97,21 +95,10 @@ fn is_requested(asked: AskedKind, text: &[u8], r: Response, identifier: &[u8], l
 }
 
 // Whether a kind is the one asked for.
-fn is_kind_asked(kind: Kind, asked: AskedKind) -> bool
+fn is_kind_asked(kind: Kind, asked: Option<Kind>) -> bool
     ensures { result ≡ is_kind_asked kind asked }
 {
-    match kind {
-        Kind::Search => match asked {
-            AskedKind::Search => true,
-            AskedKind::Monitor => false,
-            AskedKind::Nothing => false,
-        },
-        Kind::Monitor => match asked {
-            AskedKind::Search => false,
-            AskedKind::Monitor => true,
-            AskedKind::Nothing => false,
-        },
-    }
+    asked == Some(kind)
 }
 
 // Whether the size of the log is neither 0 nor too large, nor below the kept one.
@@ -146,12 +133,10 @@ fn version_fits(version: u32, versions: &[u32]) -> bool
     if State::GREATEST_VERSION < version {
         return false;
     }
-    let mut i: usize = 0;
-    while i < versions.len() {
-        if version < versions[i] {
+    for other in versions {
+        if version < *other {
             return false;
         }
-        i += 1;
     }
     true
 }

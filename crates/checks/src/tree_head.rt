@@ -1,16 +1,14 @@
 // TreeHeadTBS (001, 10.2): the text that the log signs, compared and written.
-ghost use Rattle.std.specs.Prelude.{◌≡◌, ◌≤◌, length};
+ghost use Rattle.std.specs.Prelude.{◌≡◌, ◌+◌, ◌≤◌, leb, length, is_ok};
 ghost use Rattle.lists.specs.Lists.{same, written};
 ghost use Rattle.rules.specs.Configuration.{tree_head};
 ghost use Rattle.rules.specs.Calls.{placed};
+ghost use Rattle.checks.specs.Calls.{length_in};
 
 use hash::bytes::bytes8;
 use inputs::refusal::Refusal;
 use lines::part::equal;
 use lines::writing::put_bytes;
-
-// The refusal of too little room.
-const NO_ROOM: u64 = Refusal::ROOM;
 
 // The bytes of a size, and those of a size and a root, which stand after the configuration.
 const SIZE: usize = 8;
@@ -52,25 +50,25 @@ pub(crate) fn place_tree_head(
     configuration: &[u8],
     tree_size: u64,
     root: [u8; 32],
-) -> u64
-    ensures answer { result
+) -> Result<u64, Refusal>
+    ensures answer { length_in result
         ≡ (placed buffer.old offset (tree_head configuration.now tree_size root)).0 }
+    ensures ok { is_ok result
+        ≡ leb (offset + length (tree_head configuration.now tree_size root)) (length buffer.old) }
     ensures bytes { buffer.new
         ≡ (placed buffer.old offset (tree_head configuration.now tree_size root)).1 }
 {
     if (buffer.len() as u64) < offset {
-        return NO_ROOM;
+        return Err(Refusal::Room);
     }
     let start = offset as usize;
     let room = buffer.len() - start;
-    if room < SIZE_AND_ROOT {
-        return NO_ROOM;
-    }
-    if room - SIZE_AND_ROOT < configuration.len() {
-        return NO_ROOM;
+    let length = configuration.len() + SIZE_AND_ROOT;
+    if room < length {
+        return Err(Refusal::Room);
     }
     put_tree_head(&mut buffer[start..], configuration, tree_size, root);
-    (configuration.len() + SIZE_AND_ROOT) as u64
+    Ok(length as u64)
 }
 
 // Writes it to the first bytes of those lent, in which there is room for it.

@@ -1,28 +1,28 @@
-// Refusals 6 to 14 in the order of trial (paper 01, Sixteen numbers), on a response that was read.
+// Refusals 1 to 14 in the order of trial (paper 01, Sixteen numbers).
 // The walk (14) is called by itself, so that nothing of 6 to 13 lies on the stack below it.
 ghost use Rattle.std.specs.Prelude.{◌≡◌, ◌≤◌, length, take};
 ghost use Rattle.rules.specs.Limits.{label_limit};
-ghost use Rattle.checks.specs.Calls.{Checkable, Is6to13Tried, Shapeable, Is9to13Tried, Is14Tried};
+ghost use Rattle.inputs.proofs.StateBlockLaws.{Sized};
+ghost use Rattle.checks.specs.Calls.{Is1to14Tried, Checkable, Is6to13Tried, Shapeable, Is9to13Tried, Is14Tried};
 ghost use Rattle.checks.specs.Calls.{Is9to11Tried, IsShape};
-ghost use Rattle.checks.specs.Steps.{records_capacity};
 
-use crate::call::AskedKind;
+use crate::limits::InputLimit;
 use crate::lookups::try_12_and_13;
 use crate::monitoring::monitoring_asked;
-use crate::readings::Call;
+use crate::readings::{Call, read_call};
 use crate::request::try_6_to_8;
 use crate::search::search_asked;
 use crate::steps::Commitments;
-use crate::timestamps::near_clock;
+use crate::timestamps::{Timestamps, near_clock};
 use inputs::refusal::Refusal;
 use inputs::response_lines::Kind;
+use inputs::state::State;
 use tree::log_head::{LogHead, log_head, nodes_asked};
 
-// The number of the first refusal from 6 to 13 that applies, or 0; the position of a search's first
+// What comes of a response to which none of 6 to 13 applies: the position of a search's first
 // complete entry, the timestamp of the last entry.
 #[derive(Clone, Copy)]
 pub(crate) struct Tried {
-    pub(crate) number: u64,
     pub(crate) position: u64,
     pub(crate) timestamp: u64,
 }
@@ -30,60 +30,99 @@ pub(crate) struct Tried {
 // The same of 6 to 14, and the root of the log.
 #[derive(Clone, Copy)]
 pub(crate) struct Checked {
-    pub(crate) number: u64,
     pub(crate) position: u64,
     pub(crate) timestamp: u64,
     pub(crate) root: [u8; 32],
 }
 
-// Whether steps and entries are as asked; then whether there is an output of each step's version,
-// whether the times of the entries fit each other and what is kept, and the time of the last one.
+// A call to which none of 1 to 14 applies, and what comes of it.
 #[derive(Clone, Copy)]
-pub(crate) struct Shape {
-    pub(crate) asked: bool,
-    pub(crate) outputs: bool,
-    pub(crate) timestamps: bool,
-    pub(crate) timestamp: u64,
+pub(crate) struct Passed {
+    pub(crate) call: Call,
+    pub(crate) checked: Checked,
 }
 
-// The number of the first refusal from 9 to 11 that applies, or 0; the time of the last entry.
+// Of a response whose steps and entries are as asked: whether there is an output of each step's
+// version, and the times of the entries.
 #[derive(Clone, Copy)]
-struct Tried9to11 {
-    number: u64,
-    timestamp: u64,
+pub(crate) struct Shape {
+    pub(crate) outputs: bool,
+    pub(crate) timestamps: Timestamps,
+}
+
+// Tries 1 to 14 on what a call is given, for the kind of call asked for. The values of the full
+// subtrees go into the block lent.
+pub(crate) fn try_1_to_14(
+    asked: Option<Kind>,
+    response: &[u8],
+    configuration: &[u8],
+    state: &State,
+    identifier: &[u8],
+    clock: u64,
+    outputs: &[u8],
+    signed: &[u8],
+    values: &mut [u8; LogHead::BLOCK],
+) -> Result<Passed, Refusal>
+    requires { Sized state.now }
+    ensures { Is1to14Tried asked response.now configuration.now state.now
+        identifier.now clock outputs.now signed.now result values.new }
+{
+    let call = read_call(
+        InputLimit::RESPONSE,
+        response,
+        configuration,
+        state.is_valid(),
+        state.log.size,
+        state.log.timestamp,
+        identifier,
+        clock,
+        outputs,
+        signed,
+    )?;
+    let tried = try_6_to_13(
+        asked,
+        response,
+        call,
+        identifier,
+        &state.label.bytes,
+        state.label.length,
+        &state.map.positions,
+        &state.map.versions,
+        state.map.count,
+        outputs,
+    )?;
+    let checked = try_14(response, call, tried, &state.log.values, values)?;
+    Ok(Passed { call, checked })
 }
 
 // Tries 6 to 13. The label and the pairs of the state are the first bytes and numbers of the arrays
 // lent.
-pub(crate) fn try_6_to_13<'a>(
-    asked: AskedKind,
+fn try_6_to_13(
+    asked: Option<Kind>,
     text: &[u8],
     call: Call,
     identifier: &[u8],
-    label: &'a [u8],
+    label: &[u8],
     length: usize,
-    positions: &'a [u64],
-    versions: &'a [u32],
+    positions: &[u64],
+    versions: &[u32],
     pairs: usize,
     outputs: &[u8],
-) -> Tried
+) -> Result<Tried, Refusal>
     requires { Checkable text.now call identifier.now label.now length positions.now
         versions.now pairs outputs.now }
     ensures { Is6to13Tried asked text.now call identifier.now
         (take length label.now) (take pairs positions.now)
         (take pairs versions.now) outputs.now result }
 {
-    let number = try_6_to_8(
+    try_6_to_8(
         asked,
         text,
         call,
         identifier,
         &label[..length],
         &versions[..pairs],
-    );
-    if number != 0 {
-        return refused_lines(number);
-    }
+    )?;
     try_9_to_13(
         text,
         call,
@@ -96,13 +135,13 @@ pub(crate) fn try_6_to_13<'a>(
 
 // Tries 14 on a call to which none of 6 to 13 applies. The values of the full subtrees go into the
 // block lent.
-pub(crate) fn try_14(
+fn try_14(
     text: &[u8],
     call: Call,
     tried: Tried,
     kept: &[u8; LogHead::BLOCK],
     values: &mut [u8; LogHead::BLOCK],
-) -> Checked
+) -> Result<Checked, Refusal>
     ensures { Is14Tried text.now call tried kept.now result
         values.new }
 {
@@ -114,21 +153,15 @@ pub(crate) fn try_14(
         kept,
         values,
     );
-    let root = head.root;
     if !head.met {
-        return Checked {
-            number: Refusal::FULL_SUBTREE,
-            position: 0,
-            timestamp: 0,
-            root,
-        };
+        return Err(Refusal::FullSubtree);
     }
-    Checked {
-        number: 0,
+    let root = head.root;
+    Ok(Checked {
         position: tried.position,
         timestamp: tried.timestamp,
         root,
-    }
+    })
 }
 
 // Tries 9 to 13 on a call to which none of 6 to 8 applies.
@@ -139,37 +172,16 @@ fn try_9_to_13(
     positions: &[u64],
     versions: &[u32],
     outputs: &[u8],
-) -> Tried
+) -> Result<Tried, Refusal>
     requires possible { Shapeable text.now call positions.now versions.now outputs.now }
     requires label { length label.now ≤ label_limit }
     ensures { Is9to13Tried text.now call label.now
         positions.now versions.now outputs.now result }
 {
     let mut commitments = [0u32; Commitments::RECORDS];
-    let shown = try_9_to_11(text, call, positions, versions, outputs, &mut commitments);
-    if shown.number != 0 {
-        return refused_lines(shown.number);
-    }
-    let judged = try_12_and_13(text, call, label, outputs, &commitments);
-    if judged.number != 0 {
-        return refused_lines(judged.number);
-    }
-    Tried {
-        number: 0,
-        position: judged.position,
-        timestamp: shown.timestamp,
-    }
-}
-
-// A refusal.
-fn refused_lines(number: u64) -> Tried
-    ensures { result.number ≡ number }
-{
-    Tried {
-        number,
-        position: 0,
-        timestamp: 0,
-    }
+    let timestamp = try_9_to_11(text, call, positions, versions, outputs, &mut commitments)?;
+    let position = try_12_and_13(text, call, label, outputs, &commitments)?;
+    Ok(Tried { position, timestamp })
 }
 
 // Tries 9 to 11. The offsets of the commitments go into the table lent, by the records of their
@@ -180,54 +192,48 @@ fn try_9_to_11(
     positions: &[u64],
     versions: &[u32],
     outputs: &[u8],
-    commitments: &mut [u32],
-) -> Tried9to11
+    commitments: &mut [u32; Commitments::RECORDS],
+) -> Result<u64, Refusal>
     requires possible { Shapeable text.now call positions.now versions.now outputs.now }
-    requires room { length commitments.old ≡ records_capacity }
     ensures { Is9to11Tried text.now call positions.now versions.now
         outputs.now result commitments.new }
 {
-    let shape = asked_by_kind(text, call, positions, versions, outputs, commitments);
-    if !shape.asked {
-        return refused_shape(Refusal::SHAPE);
-    }
+    let Some(shape) = asked_by_kind(text, call, positions, versions, outputs, commitments) else {
+        return Err(Refusal::Shape);
+    };
     let nodes = nodes_asked(
         call.response.entries.part.of(text),
         call.response.tree_size,
         call.kept_size,
     );
     if nodes != call.response.nodes.count as u64 {
-        return refused_shape(Refusal::SHAPE);
+        return Err(Refusal::Shape);
     }
     if !shape.outputs {
-        return refused_shape(Refusal::MISSING_OUTPUT);
+        return Err(Refusal::MissingOutput);
     }
-    if !shape.timestamps {
-        return refused_shape(Refusal::TIME);
+    if !shape.timestamps.fit {
+        return Err(Refusal::Time);
     }
     let ahead = call.configuration.ahead;
     let behind = call.configuration.behind;
-    if !near_clock(shape.timestamp, call.clock, ahead, behind) {
-        return refused_shape(Refusal::TIME);
+    if !near_clock(shape.timestamps.latest, call.clock, ahead, behind) {
+        return Err(Refusal::Time);
     }
-    Tried9to11 {
-        number: 0,
-        timestamp: shape.timestamp,
-    }
+    Ok(shape.timestamps.latest)
 }
 
-// Whether the response shows what its kind asks. The offsets of the commitments go into the table
-// lent.
+// What else is told of a response that shows what its kind asks. The offsets of the commitments go
+// into the table lent.
 fn asked_by_kind(
     text: &[u8],
     call: Call,
     positions: &[u64],
     versions: &[u32],
     outputs: &[u8],
-    commitments: &mut [u32],
-) -> Shape
+    commitments: &mut [u32; Commitments::RECORDS],
+) -> Option<Shape>
     requires possible { Shapeable text.now call positions.now versions.now outputs.now }
-    requires room { length commitments.old ≡ records_capacity }
     ensures { IsShape text.now call positions.now versions.now
         outputs.now result commitments.new }
 {
@@ -236,14 +242,5 @@ fn asked_by_kind(
     match kind {
         Kind::Search => search_asked(text, call, positions, versions, outputs, commitments),
         Kind::Monitor => monitoring_asked(text, call, positions, versions, outputs, commitments),
-    }
-}
-
-fn refused_shape(number: u64) -> Tried9to11
-    ensures { result.number ≡ number }
-{
-    Tried9to11 {
-        number,
-        timestamp: 0,
     }
 }

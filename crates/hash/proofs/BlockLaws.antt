@@ -1,6 +1,6 @@
 -- Laws of one block (specs/Block.antt): the words of a block, the schedule by sixteen words, and
 -- the rounds by sixteen.
-use Rattle.std.proofs.Common.{◌≡◌, ℕ, zero, suc, ◌+◌, ◌-◌, ◌*◌, ◌%◌, ◌<◌, ◌≤◌, List, [], ◌∷◌, ◌++◌, length, get_or, take, drop, set, sym, refl, ap, ◌∙◌, append_assoc, append-nil, add-zero, add-suc, add-one, arith, length-append, length-drop, take-append-drop, drop_of_length-le, get_or-drop, take_all, drop-cons, get_or-take, take-suc-set, get_or-append-add}
+use Rattle.std.proofs.Common.{◌≡◌, ℕ, zero, suc, ◌+◌, ◌-◌, ◌*◌, ◌%◌, ◌<◌, ◌≤◌, List, [], ◌∷◌, ◌++◌, length, get_or, take, drop, set, sym, refl, ap, ◌∙◌, append_assoc, append-nil, add-zero, add-suc, add-one, arith, length-append, length-drop, take-append-drop, drop_of_length-le, get_or-drop, take_all, drop-cons, take-suc, get_or-take, get_or-append-add, ◌^◌}
 use native.Mathlib.Decide.{dec_lt}
 use lib.ListN.{get_or-append}
 use lib.Seq.{set_at, drop-append-le, take-append-le}
@@ -10,40 +10,19 @@ use Rattle.hash.specs.Block.{words, mixed, next, extended, schedule, round, roun
 
 -- ---- the words of a block
 
-pub words_zero : (b : List ℕ) → words 0 b ≡ []
+-- the first words of a list that has each word of a block in its place
+pub words_of : (n : ℕ) (w b : List ℕ) → n ≤ length w → ((t : ℕ) → t < n → get_or w t 0 ≡ word b (4 * t)) → take n w ≡ words n b
 unfolding words
-words_zero b = refl
+words_of zero w b h at = refl
+words_of (suc n) w b h at = rw (take-suc w n 0 (omega arith), words_of n w b (omega arith) (λ t k. at t (omega arith)), at n (omega arith))
 
-words_more : (n : ℕ) (b : List ℕ) → words (n + 1) b ≡ words n b ++ word b (4 * n) ∷ []
-unfolding words
-words_more n b = rw add-one
+-- ---- sums modulo 2 ^ 32, made two at a time
 
--- a word of a part is that of the whole
-word_part : (s : List ℕ) (at t : ℕ) → t < 16 → word (take 64 (drop at s)) (4 * t) ≡ word s (at + 4 * t)
-word_part s at t h =
-    let a1 : at + (4 * t + 1) ≡ at + 4 * t + 1 = omega arith in
-    let a2 : at + (4 * t + 2) ≡ at + 4 * t + 2 = omega arith in
-    let a3 : at + (4 * t + 3) ≡ at + 4 * t + 3 = omega arith in
-    rw (
-      get_or-take 64 (drop at s) (4 * t) 0 (omega arith),
-      get_or-take 64 (drop at s) (4 * t + 1) 0 (omega arith),
-      get_or-take 64 (drop at s) (4 * t + 2) 0 (omega arith),
-      get_or-take 64 (drop at s) (4 * t + 3) 0 (omega arith),
-      get_or-drop at s (4 * t) 0,
-      get_or-drop at s (4 * t + 1) 0,
-      get_or-drop at s (4 * t + 2) 0,
-      get_or-drop at s (4 * t + 3) 0,
-      a1,
-      a2,
-      a3,
-    )
+pub sum_4 : (a b c d : ℕ) → (((a + b) % 2 ^ 32 + c) % 2 ^ 32 + d) % 2 ^ 32 ≡ (a + b + c + d) % 2 ^ 32
+sum_4 a b c d = omega arith
 
--- a turn of the loop that reads the words: its store is one word more
-pub words_step : (w s : List ℕ) (at t v : ℕ) → t < 16 → t < length w → take t w ≡ words t (take 64 (drop at s))
-    → v ≡ word s (at + 4 * t) → take (t + 1) (set w t v) ≡ words (t + 1) (take 64 (drop at s))
-words_step w s at t v h k e ev =
-    let v' : v ≡ word (take 64 (drop at s)) (4 * t) = ev ∙ sym (word_part s at t h) in
-    rw (words_more t (take 64 (drop at s)), ← e, ← v', add-one t, take-suc-set w t v k)
+pub sum_5 : (a b c d e : ℕ) → ((((a + b) % 2 ^ 32 + c) % 2 ^ 32 + d) % 2 ^ 32 + e) % 2 ^ 32 ≡ (a + b + c + d + e) % 2 ^ 32
+sum_5 a b c d e = omega arith
 
 -- ---- the schedule, sixteen words at a time
 
@@ -100,10 +79,8 @@ unfolding window
 window_full w h = rw (drop_of_length-le w {i = 16} (omega arith)) (append-nil (drop 16 (extended 16 w)))
 
 -- after sixteen words all are new
-pub next_sixteen : (w u : List ℕ) → length w ≡ 16 → u ≡ window 16 w → (length u ≡ 16) × (u ≡ drop 16 (extended 16 w))
-next_sixteen w u h hu =
-    let e : u ≡ drop 16 (extended 16 w) = hu ∙ window_full w h in
-    (ap length e ∙ new_length 16 w h, e)
+pub next_sixteen : (w u : List ℕ) → length w ≡ 16 → u ≡ window 16 w → u ≡ drop 16 (extended 16 w)
+next_sixteen w u h hu = hu ∙ window_full w h
 
 -- a word of the schedule stands in the window at its number modulo 16: among the old words where it
 -- is one of the first sixteen, else among the new

@@ -1,9 +1,15 @@
 -- Laws of numbers as bytes and of lists filled up with zeros (specs/Bytes.antt). A buffer that
 -- starts all zero and is filled from its front is a `padded` list at each step.
-use Rattle.std.proofs.Common.{◌≡◌, ℕ, zero, suc, ◌+◌, ◌-◌, ◌/◌, ◌%◌, ◌<◌, ◌≤◌, List, [], ◌∷◌, ◌++◌, map, length, get_or, take, drop, set, replicate, sym, refl, ap, ◌∙◌, append_assoc, append-nil, le_of_eq, arith, length-append, length-drop, length-take, length-take-le, take_all, take_at, drop_at}
-use lib.ListN.{length-replicate, length-map, replicate-append-replicate}
+use Rattle.std.proofs.Common.{◌≡◌, ℕ, zero, suc, ◌+◌, ◌-◌, ◌/◌, ◌%◌, ◌<◌, ◌≤◌, List, [], ◌∷◌, ◌++◌, length, get_or, take, drop, set, replicate, sym, refl, ap, ◌∙◌, append_assoc, append-nil, le_of_eq, arith, length-append, length-drop, length-take, length-take-le, take_all, take_at, drop_at, Bor, add-one, take-suc, ◌^◌}
+use lib.ListN.{length-replicate, replicate-append-replicate}
 use lib.Seq.{paste, drop-append-add, set_at, take-length}
-use Rattle.hash.specs.Bytes.{AreBytes, big_endian, padded}
+use Rattle.std.proofs.lemmas.Slice.{put_mid-paste}
+use Rattle.std.proofs.lemmas.List.Concat.{flat_map-append}
+use Rattle.std.proofs.lemmas.List.Folds.{length-flat_map-take}
+use borrow.Rule.Slice.PartMut.{put_mid}
+use Rattle.std.proofs.Math.Nat.{div-div-eq-div-mul, pow-succ'}
+use Rattle.std.specs.Int.{byte_at as byte_from_end, bytes_high_first}
+use Rattle.hash.specs.Bytes.{AreBytes, big_endian, joined, padded}
 
 -- ---- bytes
 
@@ -44,6 +50,20 @@ pub length_big_endian : (n x : ℕ) → length (big_endian n x) ≡ n
 unfolding big_endian
 length_big_endian zero x = refl
 length_big_endian (suc n) x = let e = length_big_endian n (x / 256) in simp length-append (omega arith)
+
+-- std's bytes of a number are these
+byte_higher : (k x : ℕ) → byte_from_end (suc k) x ≡ byte_from_end k (x / 256)
+byte_higher zero x = refl
+byte_higher (suc k) x = rw (pow-succ' 256 (suc k), ← div-div-eq-div-mul x 256 (256 ^ suc k))
+
+be_bytes_last : (k x : ℕ) → bytes_high_first (suc k) x ≡ bytes_high_first k (x / 256) ++ x % 256 ∷ []
+be_bytes_last zero x = refl
+be_bytes_last (suc k) x = rw (byte_higher k x, be_bytes_last k x)
+
+pub be_bytes : (n x : ℕ) → bytes_high_first n x ≡ big_endian n x
+unfolding big_endian
+be_bytes zero x = refl
+be_bytes (suc n) x = be_bytes_last n x ∙ rw (be_bytes n (x / 256))
 
 -- ---- buffers
 
@@ -95,13 +115,35 @@ padded_paste n at s t d e hd hs h he =
     rw (← hs, drop-append-add s (replicate (length t) 0 ++ r) (length t)) (drop_at (replicate (length t) 0) r (length t) (length-replicate (length t) 0)) in
     rw (he, d', take_at s (replicate (length t) 0 ++ r) at hs, f, take-length t)
 
--- bytes copied to the front of zeros
-pub padded_first : (n : ℕ) (s b : List ℕ) → length s ≤ n → b ≡ paste (replicate n 0) 0 s (length s) → b ≡ padded n s
-padded_first n s b h hb = padded_paste n 0 [] s (replicate n 0) b (padded_nil n) refl (omega arith) hb
+-- the same as the library's copy leaves it: `end` is where the copy ends
+pub padded_copy : (n at end : ℕ) (s t d : List ℕ) → d ≡ padded n s → length s ≡ at → end ≡ at + length t → end ≤ n
+    → put_mid at (end - at) d t ≡ padded n (s ++ t)
+padded_copy n at end s t d hd hs he h =
+    put_mid-paste at (end - at) d t t (length t) refl (omega arith) refl
+    ∙ padded_paste n at s t d (paste d at t (length t)) hd hs (omega arith) refl
 
--- a struct's array field has the length that its type says
-pub field_length : (b : List ℕ) (n : ℕ) → length (map (λ x. x) b) ≡ n → length b ≡ n
-field_length b n e = sym (length-map b (λ (x : ℕ). x)) ∙ e
+-- ---- parts copied one after the other
+
+joined_more : (ps : List (Bor (List ℕ))) (i : ℕ) (d : Bor (List ℕ)) → i < length ps → joined (take (i + 1) ps) ≡ joined (take i ps) ++ (get_or ps i d).now
+joined_more ps i d h =
+    rw (add-one i, take-suc ps i d h, flat_map-append (λ (p : Bor (List ℕ)). p.now) (take i ps) (get_or ps i d ∷ []), append-nil ((get_or ps i d).now))
+
+-- a part finds room after the parts before it
+pub part_room : (ps : List (Bor (List ℕ))) (n i : ℕ) (d : Bor (List ℕ)) → i < length ps → length (joined ps) ≤ n
+    → length (joined (take i ps)) + length (get_or ps i d).now ≤ n
+part_room ps n i d h k = omega (arith, length-flat_map-take (λ (p : Bor (List ℕ)). p.now) ps i d h)
+
+-- and stands after them
+pub padded_part : (ps : List (Bor (List ℕ))) (n i at end : ℕ) (d : Bor (List ℕ)) (b c : List ℕ) → i < length ps → length (joined ps) ≤ n
+    → at ≡ length (joined (take i ps)) → b ≡ padded n (joined (take i ps)) → c ≡ (get_or ps i d).now → end ≡ at + length c
+    → (end ≡ length (joined (take (i + 1) ps))) × (put_mid at (end - at) b c ≡ padded n (joined (take (i + 1) ps)))
+padded_part ps n i at end d b c h k ha hb hc he =
+    let room = part_room ps n i d h k in
+    let more : joined (take (i + 1) ps) ≡ joined (take i ps) ++ c = joined_more ps i d h ∙ rw (← hc) in
+    let lc : length c ≡ length (get_or ps i d).now = ap length hc in (
+      he ∙ rw (more, length-append (joined (take i ps)) c, ha),
+      padded_copy n at end (joined (take i ps)) c b hb (sym ha) he (omega arith) ∙ rw (← more),
+    )
 
 -- ---- parts of a slice, as the code lends them
 

@@ -1,17 +1,15 @@
 -- Laws of a message that comes in parts (specs/Hasher.antt): what a Hasher is does not depend on
 -- how the message was cut, and its digest is the message's.
-use Rattle.std.proofs.Common.{◌≡◌, ℕ, ◌+◌, ◌-◌, ◌*◌, ◌/◌, ◌%◌, ◌^◌, ◌<◌, ◌≤◌, List, [], ◌++◌, length, take, drop, replicate, sym, refl, ap, ◌∙◌, append_assoc, le_of_eq, zero-add, arith, length-append, length-drop, take-append-drop, length-take-le, take_all, drop-drop, take_at, drop_at}
-use lib.Seq.{paste, drop-append-le}
+use Rattle.std.proofs.Common.{◌≡◌, ℕ, ◌+◌, ◌-◌, ◌*◌, ◌/◌, ◌%◌, ◌^◌, ◌<◌, ◌≤◌, List, [], ◌++◌, length, take, drop, sym, refl, ap, ◌∙◌, append_assoc, append-nil, zero-add, arith, length-append, length-drop, take-append-drop, length-take-le, drop-drop, take_at, drop_at}
+use lib.Seq.{drop-append-le}
 use Rattle.hash.specs.declared.block.HashValue.{HashValue}
 use Rattle.hash.specs.declared.hasher.Hasher.{Hasher}
 use Rattle.hash.specs.Bytes.{padded}
 use Rattle.hash.specs.Block.{compressed}
 use Rattle.hash.specs.Sha256.{initial, blocks, finished, sha256}
 use Rattle.hash.specs.Hasher.{pending, started, taken, updated, closed}
-use Rattle.hash.proofs.BytesLaws.{padded_nil, padded_first, padded_paste, padded_full, take_padded}
-use Rattle.hash.proofs.BytesLaws.{length_padded}
-use Rattle.hash.proofs.MessageLaws.{blocks_zero, blocks_more, blocks_add, blocks_front, finished_split}
-use Rattle.hash.proofs.MessageLaws.{finished_count}
+use Rattle.hash.proofs.BytesLaws.{padded_nil, padded_full, take_padded}
+use Rattle.hash.proofs.MessageLaws.{blocks_zero, blocks_more, blocks_add, blocks_front, finished_split, finished_count}
 
 -- whole blocks may be taken first
 taken_split : (n : ℕ) (v : HashValue) (s : List ℕ) (l : ℕ) → 64 * n ≤ length s → taken v s l ≡ taken (blocks n v s) (drop (64 * n) s) l
@@ -83,60 +81,41 @@ closed_updated m =
 
 -- a part that does not fill the block
 pub updated_short : (h : Hasher) (part c : List ℕ) (count : ℕ) → length h.block ≡ 64 → length part < 64 - h.count % 64
-    → c ≡ padded 64 (take (h.count % 64) h.block ++ part) → count ≡ (h.count + length part) % 2 ^ 64
+    → c ≡ padded 64 (take (h.count % 64) h.block ++ (part ++ [])) → count ≡ (h.count + length part) % 2 ^ 64
     → ◌≡◌ {A = Hasher} (record { value = h.value; block = c; count = count }) (updated h part)
 unfolding updated taken pending
 updated_short h part c count hl hp hc hn =
     let old : List ℕ = take (h.count % 64) h.block in
     let lo : length old ≡ h.count % 64 = length-take-le (h.count % 64) h.block (omega arith) in
     let z : length (old ++ part) / 64 ≡ 0 = omega (arith, length-append old part) in
-    rw (z, blocks_zero h.value (old ++ part), ← hc, ← hn)
+    let s : c ≡ padded 64 (old ++ part) = rw (append-nil part) at hc in
+    rw (z, blocks_zero h.value (old ++ part), ← s, ← hn)
 
 blocks_one : (v : HashValue) (s : List ℕ) → blocks 1 v s ≡ compressed v (take 64 s)
 blocks_one v s = blocks_more 0 v s ∙ rw (blocks_zero v s)
 
 -- a part that fills the block, and what is left of it
-pub updated_long : (h : Hasher) (part c : List ℕ) (count : ℕ) → length h.block ≡ 64 → 64 - h.count % 64 ≤ length part
-    → c ≡ padded 64 (take (h.count % 64) h.block ++ take (64 - h.count % 64) part) → count ≡ (h.count + length part) % 2 ^ 64
-    → taken (compressed h.value (take 64 (drop 0 c))) (drop (64 - h.count % 64) part) count ≡ updated h part
+pub updated_long : (h : Hasher) (part first rest c : List ℕ) (v : HashValue) (count : ℕ) → length h.block ≡ 64 → 64 - h.count % 64 ≤ length part
+    → first ≡ take (64 - h.count % 64) part → rest ≡ drop (64 - h.count % 64) part → c ≡ padded 64 (take (h.count % 64) h.block ++ (first ++ []))
+    → v ≡ compressed h.value c → count ≡ (h.count + length part) % 2 ^ 64 → taken v rest count ≡ updated h part
 unfolding updated pending
-updated_long h part c count hl hp hc hn =
+updated_long h part first rest c v count hl hp hf hr hc hv hn =
     let old : List ℕ = take (h.count % 64) h.block in
-    let room : ℕ = 64 - h.count % 64 in
-    let first : List ℕ = take room part in
     let lo : length old ≡ h.count % 64 = length-take-le (h.count % 64) h.block (omega arith) in
-    let lf : length first ≡ room = length-take-le room part hp in
+    let lf : length first ≡ 64 - h.count % 64 = ap length hf ∙ length-take-le (64 - h.count % 64) part hp in
     let l64 : length (old ++ first) ≡ 64 = length-append old first ∙ omega arith in
-    let s : c ≡ old ++ first = hc ∙ padded_full 64 (old ++ first) l64 in
-    let p : old ++ part ≡ (old ++ first) ++ drop room part = rw (append_assoc old first (drop room part), take-append-drop room part) in
-    let one : blocks 1 h.value (old ++ part) ≡ compressed h.value (take 64 (drop 0 c)) =
-    rw (p, blocks_one h.value ((old ++ first) ++ drop room part), take_at (old ++ first) (drop room part) 64 l64, s, take_all 64 (old ++ first) (le_of_eq l64)) in
-    let left : drop 64 (old ++ part) ≡ drop room part = rw (p, drop_at (old ++ first) (drop room part) 64 l64) in
+    let s : c ≡ old ++ first = rw (append-nil first) at hc ∙ padded_full 64 (old ++ first) l64 in
+    let p : old ++ part ≡ (old ++ first) ++ rest = rw (append_assoc old first rest, hf, hr, take-append-drop (64 - h.count % 64) part) in
+    let one : blocks 1 h.value (old ++ part) ≡ v = rw (p, blocks_one h.value ((old ++ first) ++ rest), take_at (old ++ first) rest 64 l64, hv, s) in
+    let left : drop 64 (old ++ part) ≡ rest = rw p (drop_at (old ++ first) rest 64 l64) in
     let e = taken_split 1 h.value (old ++ part) (h.count + length part) (omega (arith, length-append old part)) in
-    taken_count (compressed h.value (take 64 (drop 0 c))) (drop room part) count (h.count + length part) (omega arith)
-    ∙ sym (e ∙ rw (one, left))
+    taken_count v rest count (h.count + length part) (omega arith) ∙ sym (e ∙ rw (one, left))
 
--- ---- the private functions
-
-pub filled_law : (old part b c : List ℕ) (fill : ℕ) → length old ≡ 64 → fill + length part ≤ 64
-    → b ≡ paste (replicate 64 0) 0 (take fill old) (length (take fill old)) → c ≡ paste b fill part (length part)
-    → (length c ≡ 64) × (c ≡ padded 64 (take fill old ++ part))
-filled_law old part b c fill ho hp hb hc =
-    let lo : length (take fill old) ≡ fill = length-take-le fill old (omega arith) in
-    let s1 : b ≡ padded 64 (take fill old) = padded_first 64 (take fill old) b (omega arith) hb in
-    let s2 : c ≡ padded 64 (take fill old ++ part) = padded_paste 64 fill (take fill old) part b c s1 lo (omega arith) hc in
-    (ap length s2 ∙ length_padded 64 (take fill old ++ part) (omega (arith, length-append (take fill old) part)), s2)
-
+-- what is left after the whole blocks is kept, with zeros after it
 pub taken_law : (v x : HashValue) (s rest c : List ℕ) (count : ℕ) → x ≡ blocks (length s / 64) v s → rest ≡ drop (64 * (length s / 64)) s
-    → c ≡ paste (replicate 64 0) 0 rest (length rest) → count < 2 ^ 64
-    → ◌≡◌ {A = Hasher} (record { value = x; block = c; count = count }) (taken v s count)
+    → c ≡ padded 64 (rest ++ []) → count < 2 ^ 64 → ◌≡◌ {A = Hasher} (record { value = x; block = c; count = count }) (taken v s count)
 unfolding taken
 taken_law v x s rest c count hx hr hc hn =
-    let l : length rest ≤ 64 = omega (arith, ap length hr, length-drop (64 * (length s / 64)) s) in
-    let e : c ≡ padded 64 rest = padded_first 64 rest c l hc in
+    let e : c ≡ padded 64 rest = rw (append-nil rest) at hc in
     let m : count % 2 ^ 64 ≡ count = omega arith in
     rw (← hx, ← hr, ← e, m)
-
-pub closed_law : (h : Hasher) (d : List ℕ) → d ≡ finished h.value h.count (take (h.count % 64) h.block) → d ≡ closed h
-unfolding closed pending
-closed_law h d e = e

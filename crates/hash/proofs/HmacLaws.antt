@@ -1,44 +1,26 @@
 -- Laws of HMAC (specs/Hmac.antt).
-use Rattle.std.proofs.Common.{◌≡◌, ℕ, ◌+◌, ◌-◌, ◌<◌, ◌≤◌, Bool, true, false, cond, leb, List, [], ◌∷◌, ◌++◌, map, length, get_or, take, set, replicate, refl, ap, ◌∙◌, add-one, arith, take-suc, take-suc-set, le-leb}
+use Rattle.std.proofs.Common.{◌≡◌, ℕ, ◌-◌, ◌<◌, ◌≤◌, Bool, true, false, cond, leb, List, [], ◌∷◌, ◌++◌, length, replicate, append-nil, arith, le-leb}
 use borrow.Author.Tests.{lt-leb}
-use lib.Bits.{bit_xor, xor_lt}
-use lib.Seq.{paste}
+use lib.Bits.{xor_lt}
 use Rattle.hash.specs.declared.hasher.Hasher.{Hasher}
 use Rattle.hash.specs.Bytes.{AreBytes, padded}
 use Rattle.hash.specs.Sha256.{sha256}
 use Rattle.hash.specs.Hasher.{started, updated, closed}
 use Rattle.hash.specs.Hmac.{key_block, xored, inner_key, outer_key, inner_string, outer_string, hmac, begun}
 use Rattle.hash.specs.Hmac.{ended}
-use Rattle.hash.proofs.BytesLaws.{bytes_append, bytes_zeros, padded_first}
+use Rattle.hash.proofs.BytesLaws.{bytes_append, bytes_zeros}
 use Rattle.hash.proofs.MessageLaws.{length_digest, bytes_digest}
 use Rattle.hash.proofs.HasherLaws.{updated_append, closed_updated}
 
-map_append : (f : ℕ → ℕ) (a b : List ℕ) → map f (a ++ b) ≡ map f a ++ map f b
-map_append f [] b = refl
-map_append f (x ∷ a) b = ap (λ (l : List ℕ). f x ∷ l) (map_append f a b)
-
-pub xored_nil : (x : ℕ) → xored x [] ≡ []
-unfolding xored
-xored_nil x = refl
-
--- a turn of the loop that flips the bits: its store is one byte more
-pub xored_step : (x : ℕ) (k r : List ℕ) (i : ℕ) → i < length k → i < length r → take i r ≡ xored x (take i k)
-    → take (i + 1) (set r i (bit_xor (get_or k i 0) x)) ≡ xored x (take (i + 1) k)
-unfolding xored
-xored_step x k r i hk hr e =
-    rw (add-one, take-suc-set r i (bit_xor (get_or k i 0) x) hr, take-suc k i 0 hk, map_append, e)
-
 -- ---- the key's block
 
-pub key_short : (k b : List ℕ) → length k ≤ 64 → b ≡ paste (replicate 64 0) 0 k (length k) → b ≡ key_block k
+pub key_short : (k b : List ℕ) → length k ≤ 64 → b ≡ padded 64 (k ++ []) → b ≡ key_block k
 unfolding key_block
-key_short k b h e = rw (le-leb (length k) 64 h) (padded_first 64 k b h e)
+key_short k b h e = rw (le-leb (length k) 64 h) (rw (append-nil k) at e)
 
-pub key_long : (k d b : List ℕ) → 64 < length k → d ≡ sha256 k → b ≡ paste (replicate 64 0) 0 d (length d) → b ≡ key_block k
+pub key_long : (k d b : List ℕ) → 64 < length k → d ≡ sha256 k → b ≡ padded 64 (d ++ []) → b ≡ key_block k
 unfolding key_block
-key_long k d b h hd e =
-    let l : length d ≡ 32 = ap length hd ∙ length_digest k in
-    rw (lt-leb (length k) 64 h, ← hd) (padded_first 64 d b (omega arith) e)
+key_long k d b h hd e = rw (lt-leb (length k) 64 h, ← hd) (rw (append-nil d) at e)
 
 -- ---- a text that comes in parts
 

@@ -1,14 +1,15 @@
 -- Laws of a message (specs/Sha256.antt): its blocks, its end, and its digest's length and bytes.
-use Rattle.std.proofs.Common.{◌≡◌, ℕ, zero, suc, ◌+◌, ◌-◌, ◌*◌, ◌/◌, ◌%◌, ◌^◌, ◌≤◌, List, [], ◌∷◌, ◌++◌, length, take, drop, set, replicate, sym, refl, ap, ◌∙◌, append_assoc, add-zero, add-suc, add-one, arith, length-append, length-drop, drop-drop}
+use Rattle.std.proofs.Common.{◌≡◌, ℕ, zero, suc, ◌+◌, ◌-◌, ◌*◌, ◌/◌, ◌%◌, ◌^◌, ◌≤◌, List, [], ◌∷◌, ◌++◌, length, take, drop, replicate, sym, refl, ap, ◌∙◌, append_assoc, add-zero, add-suc, add-one, arith, length-append, length-drop, drop-drop}
 use lib.ListN.{length-replicate}
-use lib.Seq.{paste, take-append-le, drop-append-le}
+use Rattle.std.specs.Prelude.{fold}
+use Rattle.std.specs.Simd.{first_chunks}
+use borrow.Rule.Slice.PartMut.{put_mid}
+use lib.Seq.{take-append-le, drop-append-le}
 use Rattle.hash.specs.declared.block.HashValue.{HashValue}
 use Rattle.hash.specs.Bytes.{AreBytes, big_endian, padded}
 use Rattle.hash.specs.Block.{compressed}
 use Rattle.hash.specs.Sha256.{padding, blocks, initial, digest_of, finished, sha256}
-use Rattle.hash.proofs.BytesLaws.{bytes_append, bytes_big_endian, length_big_endian, length_padded}
-use Rattle.hash.proofs.BytesLaws.{padded_set, padded_zeros, padded_first, padded_paste, take_padded}
-use Rattle.hash.proofs.BytesLaws.{tail_part}
+use Rattle.hash.proofs.BytesLaws.{bytes_append, bytes_big_endian, length_big_endian, length_padded, padded_copy, padded_zeros}
 
 -- ---- the blocks
 
@@ -27,6 +28,28 @@ blocks_add n zero v s = rw add-zero
 blocks_add n (suc k) v s =
     let e : 64 * n + 64 * k ≡ 64 * (n + k) = omega arith in
     rw (add-suc, blocks_add n k v s, drop-drop (64 * k) (64 * n) s, e)
+
+-- the value after the blocks that a list is cut into
+fold_blocks : (n : ℕ) (v : HashValue) (s : List ℕ) → fold compressed v (first_chunks 64 n s) ≡ blocks n v s
+unfolding blocks
+fold_blocks zero v s = refl
+fold_blocks (suc n) v s =
+    let e : 1 + n ≡ suc n = omega arith in
+    fold_blocks n (compressed v (take 64 s)) (drop 64 s) ∙ sym (blocks_add 1 n v s) ∙ rw e
+
+-- the same, as the code cuts a message into its whole blocks and the bytes after them
+pub whole_law : (s : List ℕ) (v i x : HashValue) (bs : List (List ℕ)) → bs ≡ first_chunks 64 (length s / 64) s → v ≡ i → x ≡ fold compressed v bs
+    → x ≡ blocks (length s / 64) i s
+whole_law s v i x bs hb hv hx = hx ∙ rw (hb, hv) (fold_blocks (length s / 64) i s)
+
+pub rest_law : (s rest : List ℕ) → rest ≡ drop (length s / 64 * 64) s → rest ≡ drop (64 * (length s / 64)) s
+rest_law s rest h = let e : length s / 64 * 64 ≡ 64 * (length s / 64) = omega arith in h ∙ rw e
+
+-- the first blocks of those that a list is cut into
+take_chunks : (k n : ℕ) (s : List ℕ) → k ≤ n → take k (first_chunks 64 n s) ≡ first_chunks 64 k s
+take_chunks zero n s h = refl
+take_chunks (suc k) zero s h = absurd (omega arith)
+take_chunks (suc k) (suc n) s h = rw (take_chunks k n (drop 64 s) (omega arith))
 
 -- what follows the first n blocks changes nothing
 pub blocks_front : (n : ℕ) (v : HashValue) (s t : List ℕ) → 64 * n ≤ length s → blocks n v (s ++ t) ≡ blocks n v s
@@ -49,11 +72,6 @@ finished_split n v l s h =
       drop-append-le (64 * n) s (padding l) h,
     )
 
--- the last blocks, given as they are
-pub finished_of : (v : HashValue) (l : ℕ) (s b : List ℕ) → b ≡ s ++ padding l → digest_of (blocks (length b / 64) v b) ≡ finished v l s
-unfolding finished
-finished_of v l s b e = rw e
-
 -- ---- the end of a message
 
 pub length_padding : (l : ℕ) → length (padding l) ≡ 9 + (119 - l % 64) % 64
@@ -66,40 +84,40 @@ whole_blocks m = omega (arith, length-append m (padding (length m)), length_padd
 
 -- The bytes `rest`, a byte 128 and, from a place on, the count of bits, put one after the other
 -- into 128 zeros, are `rest` and its padding, where the place is right after the padding's zeros.
-pub ending_law : (rest b e bits : List ℕ) (l at : ℕ) → length rest + 1 + (119 - l % 64) % 64 ≡ at → at + 8 ≤ 128
-    → b ≡ paste (replicate 128 0) 0 rest (length rest) → length bits ≡ 8 → bits ≡ big_endian 8 (l * 2 ^ 3 % 2 ^ 64)
-    → e ≡ paste (set b (length rest) 128) at bits (length bits) → (length e ≡ 128) × (e ≡ padded 128 (rest ++ padding l))
+pub ending_law : (rest b bits : List ℕ) (l at end : ℕ) → length rest + 1 + (119 - l % 64) % 64 ≡ at → end ≡ at + 8 → end ≤ 128
+    → b ≡ padded 128 (rest ++ 128 ∷ []) → bits ≡ big_endian 8 (l * 2 ^ 3 % 2 ^ 64) → put_mid at (end - at) b bits ≡ padded 128 (rest ++ padding l)
 unfolding padding
-ending_law rest b e bits l at ha h hb h8 hbits he =
+ending_law rest b bits l at end ha he h hb hbits =
     let z : ℕ = (119 - l % 64) % 64 in
-    let s1 : b ≡ padded 128 rest = padded_first 128 rest b (omega arith) hb in
-    let s2 : set b (length rest) 128 ≡ padded 128 (rest ++ 128 ∷ []) = padded_set 128 (length rest) 128 rest b s1 refl (omega arith) in
+    let h8 : length bits ≡ 8 = ap length hbits ∙ length_big_endian 8 (l * 2 ^ 3 % 2 ^ 64) in
     let lr : length (rest ++ 128 ∷ []) ≡ length rest + 1 = length-append rest (128 ∷ []) in
-    let s3 : set b (length rest) 128 ≡ padded 128 (rest ++ 128 ∷ [] ++ replicate z 0) = s2 ∙ padded_zeros 128 z (rest ++ 128 ∷ []) (omega arith) in
+    let zeros : b ≡ padded 128 (rest ++ 128 ∷ [] ++ replicate z 0) = hb ∙ padded_zeros 128 z (rest ++ 128 ∷ []) (omega arith) in
     let lz : length (rest ++ 128 ∷ [] ++ replicate z 0) ≡ at = simp (length-append, length-replicate) (omega arith) in
-    let s4 : e ≡ padded 128 (rest ++ 128 ∷ [] ++ replicate z 0 ++ bits) =
-    padded_paste 128 at (rest ++ 128 ∷ [] ++ replicate z 0) bits (set b (length rest) 128) e s3 lz (omega arith) he in
-    let ls : length (rest ++ 128 ∷ [] ++ replicate z 0 ++ bits) ≤ 128 = omega (arith, length-append (rest ++ 128 ∷ [] ++ replicate z 0) bits) in (
-      ap length s4 ∙ length_padded 128 (rest ++ 128 ∷ [] ++ replicate z 0 ++ bits) ls,
-      s4 ∙ ap (padded 128) (rw (← hbits, append_assoc rest (128 ∷ []) (replicate z 0), append_assoc rest (128 ∷ replicate z 0) bits)),
-    )
+    padded_copy 128 at end (rest ++ 128 ∷ [] ++ replicate z 0) bits b zeros lz (omega arith) h
+    ∙ ap (padded 128) (rw (← hbits, append_assoc rest (128 ∷ []) (replicate z 0), append_assoc rest (128 ∷ replicate z 0) bits))
 
--- the last blocks are the first bytes of the buffer that `ending` fills
-pub ending_blocks : (v : HashValue) (l k : ℕ) (rest e b : List ℕ) → length rest + (9 + (119 - l % 64) % 64) ≡ k → e ≡ padded 128 (rest ++ padding l)
-    → b ≡ take k e → digest_of (blocks (length b / 64) v b) ≡ finished v l rest
-ending_blocks v l k rest e b hk he hb =
-    let n : length (rest ++ padding l) ≡ k = omega (arith, length-append rest (padding l), length_padding l) in
-    finished_of v l rest b (hb ∙ ap (take k) he ∙ take_padded 128 k (rest ++ padding l) n)
+blocks_padded : (k n : ℕ) (v : HashValue) (s : List ℕ) → 64 * k ≤ length s → blocks k v (padded n s) ≡ blocks k v s
+unfolding padded
+blocks_padded k n v s h = blocks_front k v s (replicate (n - length s) 0) h
+
+-- the last blocks are the first k of those that the buffer is cut into that `ending` fills
+pub ending_blocks : (v x : HashValue) (l k : ℕ) (rest e d : List ℕ) (cs bs : List (List ℕ)) → length rest + (9 + (119 - l % 64) % 64) ≡ 64 * k → k ≤ 2
+    → e ≡ padded 128 (rest ++ padding l) → cs ≡ first_chunks 64 (length e / 64) e → bs ≡ take k cs → x ≡ fold compressed v bs → d ≡ digest_of x → d ≡ finished v l rest
+unfolding finished
+ending_blocks v x l k rest e d cs bs hk h2 he hc hb hx hd =
+    let s : List ℕ = rest ++ padding l in
+    let n : length s ≡ 64 * k = omega (arith, length-append rest (padding l), length_padding l) in
+    let q : length s / 64 ≡ k = omega arith in
+    let le : length e / 64 ≡ 2 = omega (arith, ap length he, length_padded 128 s (omega arith)) in
+    let b : bs ≡ first_chunks 64 k e = hb ∙ ap (take k) (hc ∙ rw le) ∙ take_chunks k 2 e h2 in
+    let f : blocks k v (padded 128 s) ≡ blocks k v s = blocks_padded k 128 v s (omega arith) in
+    hd ∙ ap digest_of (hx ∙ rw (b, fold_blocks k v e, he, f, q))
 
 -- a message's whole blocks, and then the bytes after them
 pub digest_law : (m rest : List ℕ) (v : HashValue) (d : List ℕ) → v ≡ blocks (length m / 64) initial m
     → rest ≡ drop (64 * (length m / 64)) m → d ≡ finished v (length m) rest → d ≡ sha256 m
 unfolding sha256
 digest_law m rest v d hv hr hd = rw (hd, hv, hr) (sym (finished_split (length m / 64) initial (length m) m (omega arith)))
-
--- the bytes of a list after its whole blocks, as the code cuts them
-pub rest_law : (s : List ℕ) → take (length s - (length s - length s % 64)) (drop (length s - length s % 64) s) ≡ drop (64 * (length s / 64)) s
-rest_law s = let e : length s - length s % 64 ≡ 64 * (length s / 64) = omega arith in tail_part (length s - length s % 64) s ∙ rw e
 
 -- the count of a message's bytes matters modulo 2 ^ 64 only
 pub padding_count : (l : ℕ) → padding (l % 2 ^ 64) ≡ padding l

@@ -1,16 +1,14 @@
 // SHA-256 of a message that comes in parts, none of which is kept beyond a block.
-ghost use Rattle.std.specs.Prelude.{◌≡◌, ◌+◌, ◌%◌, ◌≤◌, ◌++◌, length, take};
-ghost use Rattle.hash.specs.Bytes.{padded};
-ghost use Rattle.hash.specs.Sha256.{finished};
+ghost use Rattle.std.specs.Prelude.{◌≡◌};
 ghost use Rattle.hash.specs.Hasher as Hasher·;
 
 use crate::block::{HashValue, compress};
-use crate::bytes::copy_at;
+use crate::bytes::buffer_of;
 use crate::sha256::{blocks, finish, initial};
-use std::num::wrapping_add_u64;
 
 // The hash value after the whole blocks of what has come, the bytes after them with zeros after,
 // and how many bytes have come, modulo 2^64.
+// The bytes pending stand in an array with a count beside it: memory is fixed, and no part is kept.
 #[derive(Clone, Copy)]
 pub struct Hasher {
     pub value: HashValue,
@@ -20,14 +18,13 @@ pub struct Hasher {
 
 impl Hasher {
     // Nothing has come.
+    #[tactic(auto, unfolding(crate::specs::Hasher::started))]
     pub fn new() -> Self
         ensures { result ≡ Hasher·.started }
     {
-        let value = initial();
-        let block = [0u8; 64];
         Hasher {
-            value,
-            block,
+            value: initial(),
+            block: [0; 64],
             count: 0,
         }
     }
@@ -36,67 +33,46 @@ impl Hasher {
     pub fn update(self, part: &[u8]) -> Self
         ensures { result ≡ Hasher·.updated self part.now }
     {
-        let count = wrapping_add_u64(self.count, part.len() as u64);
+        let count = self.count.wrapping_add(part.len() as u64);
         let fill = (self.count % 64) as usize;
         let room = 64 - fill;
         let value = self.value;
-        let old = self.block;
+        let pending = &self.block[..fill];
         if part.len() < room {
-            let block = filled(old, fill, part);
+            let block = buffer_of(&[pending, part]);
             Hasher {
                 value,
                 block,
                 count,
             }
         } else {
-            let block = filled(old, fill, &part[..room]);
-            taken(compress(value, &block, 0), &part[room..], count)
+            let (first, rest) = part.split_at(room);
+            let block = buffer_of(&[pending, first]);
+            after_blocks(compress(value, &block), rest, count)
         }
     }
 
     // The digest of all that has come.
+    #[tactic(auto, unfolding(crate::specs::Hasher::closed, crate::specs::Hasher::pending))]
     pub fn finish(self) -> [u8; 32]
         ensures { result ≡ Hasher·.closed self }
     {
-        let value = self.value;
-        let block = self.block;
-        closed(value, block, self.count)
+        let fill = (self.count % 64) as usize;
+        finish(self.value, self.count, &self.block[..fill])
     }
-}
-
-// The first bytes of a block, then a part, then zeros.
-fn filled(old: [u8; 64], fill: usize, part: &[u8]) -> [u8; 64]
-    requires { fill + length part.now ≤ 64 }
-    ensures { (length result ≡ 64) × (result ≡ padded 64 (take fill old ++ part.now)) }
-{
-    let mut block = [0u8; 64];
-    copy_at(&mut block, 0, &old[..fill]);
-    copy_at(&mut block, fill, part);
-    block
 }
 
 // What is left where a message of `count` bytes ends in s, from the hash value of the blocks before
 // s.
-fn taken(v: HashValue, s: &[u8], count: u64) -> Hasher
+fn after_blocks(v: HashValue, s: &[u8], count: u64) -> Hasher
     ensures { result ≡ Hasher·.taken v s.now count }
 {
-    let n = s.len();
-    let whole = n - n % 64;
-    let value = blocks(v, s);
-    let mut block = [0u8; 64];
-    copy_at(&mut block, 0, &s[whole..]);
+    let (whole, rest) = s.as_chunks::<64>();
+    let value = blocks(v, whole);
+    let block = buffer_of(&[rest]);
     Hasher {
         value,
         block,
         count,
     }
-}
-
-// The digest of a message of `count` bytes, from the hash value of its whole blocks and the bytes
-// after them.
-fn closed(v: HashValue, block: [u8; 64], count: u64) -> [u8; 32]
-    ensures { result ≡ finished v count (take (count % 64) block) }
-{
-    let fill = (count % 64) as usize;
-    finish(v, count, &block[..fill])
 }

@@ -2,11 +2,12 @@
 ghost use Rattle.std.specs.Prelude.{◌≡◌};
 ghost use Rattle.hash.specs.Hmac as Hmac;
 
-use crate::bytes::copy_at;
+use crate::bytes::buffer_of;
 use crate::hasher::Hasher;
 use crate::sha256::digest;
 
 // The code of a text under a key of any length.
+#[tactic(auto, using(crate::proofs::HmacLaws::hmac_parts))]
 pub fn mac(key: &[u8], text: &[u8]) -> [u8; 32]
     ensures { result ≡ Hmac.hmac key.now text.now }
 {
@@ -14,10 +15,11 @@ pub fn mac(key: &[u8], text: &[u8]) -> [u8; 32]
 }
 
 // A hasher that then takes the text, part by part.
+#[tactic(auto, unfolding(crate::specs::Hmac::begun, crate::specs::Hmac::inner_key))]
 pub fn start(key: &[u8]) -> Hasher
     ensures { result ≡ Hmac.begun key.now }
 {
-    let inner = xored(key_block(key), 0x36);
+    let inner = xor_each(key_block(key), 0x36);
     Hasher::new().update(&inner)
 }
 
@@ -26,30 +28,26 @@ pub fn finish(key: &[u8], text: Hasher) -> [u8; 32]
     ensures { result ≡ Hmac.ended key.now text }
 {
     let inner = text.finish();
-    let outer = xored(key_block(key), 0x5c);
+    let outer = xor_each(key_block(key), 0x5c);
     Hasher::new().update(&outer).update(&inner).finish()
 }
 
 fn key_block(key: &[u8]) -> [u8; 64]
     ensures { result ≡ Hmac.key_block key.now }
 {
-    let mut b = [0u8; 64];
     if key.len() <= 64 {
-        copy_at(&mut b, 0, key);
-        b
+        buffer_of(&[key])
     } else {
-        let d = digest(key);
-        copy_at(&mut b, 0, &d);
-        b
+        buffer_of(&[&digest(key)])
     }
 }
 
-fn xored(k: [u8; 64], x: u8) -> [u8; 64]
-    ensures { result ≡ Hmac.xored x k }
+// A block, each byte XOR a byte.
+fn xor_each(mut block: [u8; 64], x: u8) -> [u8; 64]
+    ensures { result ≡ Hmac.xored x block }
 {
-    let mut r = [0u8; 64];
-    for i in 0..64 {
-        r[i] = k[i] ^ x;
+    for b in block.iter_mut() {
+        *b ^= x;
     }
-    r
+    block
 }

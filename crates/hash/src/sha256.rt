@@ -1,12 +1,14 @@
 // SHA-256 of a whole message (FIPS 180-4, 5 and 6.2).
-ghost use Rattle.std.specs.Prelude.{◌≡◌, ◌/◌, ◌%◌, ◌<◌, ◌++◌, length};
+ghost use Rattle.std.specs.Prelude.{◌≡◌, ◌%◌, ◌<◌, ◌++◌, fold, length};
+ghost use Rattle.hash.specs.Block.{compressed};
 ghost use Rattle.hash.specs.Bytes.{padded};
 ghost use Rattle.hash.specs.Sha256 as Sha256;
 
 use crate::block::{HashValue, compress};
-use crate::bytes::{bytes8, copy_at};
+use crate::bytes::buffer_of;
 
 // 5.3.3
+#[tactic(auto, unfolding(crate::specs::Sha256::initial))]
 pub(crate) fn initial() -> HashValue
     ensures { result ≡ Sha256.initial }
 {
@@ -22,14 +24,13 @@ pub(crate) fn initial() -> HashValue
     }
 }
 
-// The hash value after the whole blocks of s.
-pub(crate) fn blocks(v: HashValue, s: &[u8]) -> HashValue
-    ensures { result ≡ Sha256.blocks (length s.now / 64) v s.now }
+// The hash value after some blocks.
+pub(crate) fn blocks(v: HashValue, blocks: &[[u8; 64]]) -> HashValue
+    ensures { result ≡ fold compressed v blocks.now }
 {
-    let n = s.len() / 64;
     let mut x = v;
-    for i in 0..n {
-        x = compress(x, s, 64 * i);
+    for block in blocks {
+        x = compress(x, block);
     }
     x
 }
@@ -38,18 +39,16 @@ pub(crate) fn blocks(v: HashValue, s: &[u8]) -> HashValue
 // (5.1.1) and zeros after that.
 fn ending(rest: &[u8], total: u64) -> [u8; 128]
     requires { (length rest.now < 64) × (total % 64 ≡ length rest.now) }
-    ensures { (length result ≡ 128) × (result ≡ padded 128 (rest.now ++ Sha256.padding total)) }
+    ensures { result ≡ padded 128 (rest.now ++ Sha256.padding total) }
 {
     let n = rest.len();
-    let bits = bytes8(total << 3);
-    let mut b = [0u8; 128];
-    copy_at(&mut b, 0, rest);
-    b[n] = 128;
+    let bits = (total << 3).to_be_bytes();
+    let mut b: [u8; 128] = buffer_of(&[rest, &[128]]);
     if n < 56 {
-        copy_at(&mut b, 56, &bits);
+        b[56..64].copy_from_slice(&bits);
         b
     } else {
-        copy_at(&mut b, 120, &bits);
+        b[120..].copy_from_slice(&bits);
         b
     }
 }
@@ -61,10 +60,11 @@ pub(crate) fn finish(v: HashValue, total: u64, rest: &[u8]) -> [u8; 32]
     ensures { result ≡ Sha256.finished v total rest.now }
 {
     let b = ending(rest, total);
+    let (last, _) = b.as_chunks::<64>();
     if rest.len() < 56 {
-        digest_of(blocks(v, &b[0..64]))
+        digest_of(blocks(v, &last[..1]))
     } else {
-        digest_of(blocks(v, &b))
+        digest_of(blocks(v, last))
     }
 }
 
@@ -72,46 +72,21 @@ pub(crate) fn finish(v: HashValue, total: u64, rest: &[u8]) -> [u8; 32]
 pub fn digest(message: &[u8]) -> [u8; 32]
     ensures { result ≡ Sha256.sha256 message.now }
 {
-    let n = message.len();
-    let whole = n - n % 64;
-    finish(blocks(initial(), message), n as u64, &message[whole..])
+    let (whole, rest) = message.as_chunks::<64>();
+    finish(blocks(initial(), whole), message.len() as u64, rest)
 }
 
 fn digest_of(v: HashValue) -> [u8; 32]
     ensures { result ≡ Sha256.digest_of v }
 {
-    [
-        (v.a / 256 / 256 / 256 % 256) as u8,
-        (v.a / 256 / 256 % 256) as u8,
-        (v.a / 256 % 256) as u8,
-        (v.a % 256) as u8,
-        (v.b / 256 / 256 / 256 % 256) as u8,
-        (v.b / 256 / 256 % 256) as u8,
-        (v.b / 256 % 256) as u8,
-        (v.b % 256) as u8,
-        (v.c / 256 / 256 / 256 % 256) as u8,
-        (v.c / 256 / 256 % 256) as u8,
-        (v.c / 256 % 256) as u8,
-        (v.c % 256) as u8,
-        (v.d / 256 / 256 / 256 % 256) as u8,
-        (v.d / 256 / 256 % 256) as u8,
-        (v.d / 256 % 256) as u8,
-        (v.d % 256) as u8,
-        (v.e / 256 / 256 / 256 % 256) as u8,
-        (v.e / 256 / 256 % 256) as u8,
-        (v.e / 256 % 256) as u8,
-        (v.e % 256) as u8,
-        (v.f / 256 / 256 / 256 % 256) as u8,
-        (v.f / 256 / 256 % 256) as u8,
-        (v.f / 256 % 256) as u8,
-        (v.f % 256) as u8,
-        (v.g / 256 / 256 / 256 % 256) as u8,
-        (v.g / 256 / 256 % 256) as u8,
-        (v.g / 256 % 256) as u8,
-        (v.g % 256) as u8,
-        (v.h / 256 / 256 / 256 % 256) as u8,
-        (v.h / 256 / 256 % 256) as u8,
-        (v.h / 256 % 256) as u8,
-        (v.h % 256) as u8,
-    ]
+    buffer_of(&[
+        &v.a.to_be_bytes(),
+        &v.b.to_be_bytes(),
+        &v.c.to_be_bytes(),
+        &v.d.to_be_bytes(),
+        &v.e.to_be_bytes(),
+        &v.f.to_be_bytes(),
+        &v.g.to_be_bytes(),
+        &v.h.to_be_bytes(),
+    ])
 }

@@ -17,11 +17,11 @@ use Rattle.lines.specs.declared.part.Part.{Part}
 use Rattle.lines.specs.Readings.{part_of}
 use Rattle.lines.proofs.OffsetLaws.{at_cons, at_end}
 use Rattle.rules.specs.Encoding.{bytes_after, uint, read_uint, read_opaque}
-use Rattle.rules.specs.Configuration.{Configuration, p256_suite, contact_monitoring, read_present, read_optional}
+use Rattle.rules.specs.Configuration.{Configuration, p256_suite, contact_monitoring, read_present}
 use Rattle.rules.specs.Configuration.{read_configuration}
 use Rattle.rules.proofs.EncodingLaws.{after_byte, after_none, byte_fits, bytes_front, bytes_short, uint_front}
 use Rattle.rules.proofs.EncodingLaws.{uint_short}
-use Rattle.inputs.specs.Configuration.{uint8, uint16, uint64, read_front, read_times}
+use Rattle.inputs.specs.Configuration.{uint64, read_front, read_times}
 
 -- ---- numbers
 
@@ -55,11 +55,6 @@ module _ (s : Bytes) (at width : ℕ) where
 -- ---- byte strings
 
 module _ (k : ℕ) (s : Bytes) (at : ℕ) where
-  -- no byte string without its length
-  pub no_length : read_uint k (drop at s) ≡ none → read_opaque k (drop at s) ≡ none
-  unfolding read_opaque bind
-  no_length e = rw e refl
-
   module _ (n start : ℕ) (e : read_uint k (drop at s) ≡ some (n, drop start s)) where
     -- none where too few bytes follow the length
     pub no-opaque : length s - start < n → read_opaque k (drop at s) ≡ none
@@ -75,99 +70,12 @@ module _ (k : ℕ) (s : Bytes) (at : ℕ) where
 
 -- ---- optional numbers
 
-module _ (s : Bytes) where
-  -- no optional number without the byte before it
-  pub no-mark : read_uint uint8 s ≡ none → read_optional s ≡ none
-  unfolding read_optional bind
-  no-mark e = rw e refl
-
-  module _ (present : ℕ) (s1 : Bytes) (e1 : read_uint uint8 s ≡ some (present, s1)) where
-    -- the byte 0 says that there is none
-    pub optional-absent : present ≡ 0 → read_optional s ≡ some (none, s1)
-    unfolding read_optional read_present bind
-    optional-absent h = rw (e1, h) refl
-
-    -- another byte than 0 and 1 is before no optional number
-    pub no-optional : (present ≡ 0 → ⊥) → (present ≡ 1 → ⊥) → read_optional s ≡ none
-    unfolding read_optional read_present bind
-    no-optional h k = rw e1 (go present h k)
-      where
-        go : (n : ℕ) → (n ≡ 0 → ⊥) → (n ≡ 1 → ⊥) → read_present n s1 ≡ none
-        go zero h k = absurd (h refl)
-        go (suc zero) h k = absurd (k refl)
-        go (suc (suc n)) h k = refl
-
-    -- after the byte 1 there must be a number
-    pub no-present : present ≡ 1 → read_uint uint64 s1 ≡ none → read_optional s ≡ none
-    unfolding read_optional read_present bind
-    no-present h e = rw (e1, h, e) refl
-
-    -- which is then read
-    pub optional-present : present ≡ 1 → (n : ℕ) (s2 : Bytes) → read_uint uint64 s1 ≡ some (n, s2) → read_optional s ≡ some (some n, s2)
-    unfolding read_optional read_present bind
-    optional-present h n s2 e = rw (e1, h, e) refl
-
--- ---- suite, mode and keys
-
-module _ (s : Bytes) where
-  -- without a suite nothing is read
-  pub no-suite : read_uint uint16 s ≡ none → read_front s ≡ none
-  unfolding read_front bind
-  no-suite e = rw e refl
-
-  module _ (suite : ℕ) (s1 : Bytes) (e1 : read_uint uint16 s ≡ some (suite, s1)) where
-    -- nor without a mode
-    pub no_mode : read_uint uint8 s1 ≡ none → read_front s ≡ none
-    unfolding read_front bind
-    no_mode e = rw (e1, e) refl
-
-    module _ (mode : ℕ) (s2 : Bytes) (e2 : read_uint uint8 s1 ≡ some (mode, s2)) where
-      -- nor without a signature key
-      pub no-signature-key : read_opaque uint16 s2 ≡ none → read_front s ≡ none
-      unfolding read_front bind
-      no-signature-key e = rw (e1, e2, e) refl
-
-      module _ (signature_key s3 : Bytes) (e3 : read_opaque uint16 s2 ≡ some (signature_key, s3)) where
-        -- nor without a VRF key
-        pub no-vrf-key : read_opaque uint16 s3 ≡ none → read_front s ≡ none
-        unfolding read_front bind
-        no-vrf-key e = rw (e1, e2, e3, e) refl
-
-        -- all of them are read together
-        pub front-there : (vrf_key s4 : Bytes) → read_opaque uint16 s3 ≡ some (vrf_key, s4) → read_front s ≡ some (suite, mode, signature_key, vrf_key, s4)
-        unfolding read_front bind
-        front-there vrf_key s4 e = rw (e1, e2, e3, e) refl
-
--- ---- times
-
-module _ (s : Bytes) where
-  -- without the time ahead nothing is read
-  pub no-ahead : read_uint uint64 s ≡ none → read_times s ≡ none
-  unfolding read_times bind
-  no-ahead e = rw e refl
-
-  module _ (ahead : ℕ) (s1 : Bytes) (e1 : read_uint uint64 s ≡ some (ahead, s1)) where
-    -- nor without the time behind
-    pub no-behind : read_uint uint64 s1 ≡ none → read_times s ≡ none
-    unfolding read_times bind
-    no-behind e = rw (e1, e) refl
-
-    module _ (behind : ℕ) (s2 : Bytes) (e2 : read_uint uint64 s1 ≡ some (behind, s2)) where
-      -- nor without the monitoring window
-      pub no-window : read_uint uint64 s2 ≡ none → read_times s ≡ none
-      unfolding read_times bind
-      no-window e = rw (e1, e2, e) refl
-
-      module _ (window : ℕ) (s3 : Bytes) (e3 : read_uint uint64 s2 ≡ some (window, s3)) where
-        -- nor without the maximum lifetime
-        pub no-lifetime : read_optional s3 ≡ none → read_times s ≡ none
-        unfolding read_times bind
-        no-lifetime e = rw (e1, e2, e3, e) refl
-
-        -- all of them are read together
-        pub times-there : (lifetime : Option ℕ) (s4 : Bytes) → read_optional s3 ≡ some (lifetime, s4) → read_times s ≡ some (ahead, behind, window, lifetime, s4)
-        unfolding read_times bind
-        times-there lifetime s4 e = rw (e1, e2, e3, e) refl
+-- another byte than 0 and 1 is before no optional number
+pub no-present : (present : ℕ) (s : Bytes) → (present ≡ 0 → ⊥) → (present ≡ 1 → ⊥) → read_present present s ≡ none
+unfolding read_present
+no-present zero s h k = absurd (h refl)
+no-present (suc zero) s h k = absurd (k refl)
+no-present (suc (suc n)) s h k = refl
 
 -- ---- the configuration
 

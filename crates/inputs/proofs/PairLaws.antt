@@ -7,8 +7,7 @@ use Prim.Native.Nat.{ℕ, zero, suc, ◌+◌, ◌≤◌, ◌<◌}
 use native.Mathlib.Numerals.{add-one}
 use native.Mathlib.Omega.{arith}
 use lib.Dec.{leb}
-use lib.ListN.{length, get_or, take, drop, length-take, length-map, drop_of_length-le}
-use lib.Seq.{get_or-take, drop-cons}
+use lib.ListN.{length, get_or, drop, length-map}
 use borrow.Author.Tests.{le-leb, lt-leb, lt-ltb, le-ltb, leb-true}
 use Rattle.lists.specs.Lists.{all}
 use Rattle.lists.proofs.ListLaws.{all_at, at_member}
@@ -18,29 +17,6 @@ use Rattle.tree.proofs.RisingBelowLaws.{between, between_all}
 use Rattle.rules.specs.Limits.{greatest_version}
 use Rattle.rules.specs.State.{MapEntry, positions, versions}
 use Rattle.inputs.specs.State.{map_of, pairs_fit}
-use Rattle.inputs.proofs.RoomLaws.{all-next, all-stops, all-ends}
-
--- ---- positions, tested one after the other
-
-module _ (n : ℕ) (ps : List ℕ) (least i d : ℕ) (h : between least n (drop i ps) ≡ between 0 n ps) where
-  -- one that is below the bound decides
-  pub between-low : i < length ps → get_or ps i d < least → false ≡ rising_below n ps
-  between-low l u = sym (sym (between_all n ps) ∙ sym h ∙ ap (between least n) (drop-cons ps i d l) ∙ rw (lt-leb least (get_or ps i d) u) refl)
-
-  -- so does one that is not below n
-  pub between-high : i < length ps → least ≤ get_or ps i d → n ≤ get_or ps i d → false ≡ rising_below n ps
-  between-high l u v =
-      sym (sym (between_all n ps) ∙ sym h ∙ ap (between least n) (drop-cons ps i d l) ∙ rw (le-leb least (get_or ps i d) u, le-ltb (get_or ps i d) n v) refl)
-
-  -- past another what is left decides
-  pub between_next : i < length ps → least ≤ get_or ps i d → get_or ps i d < n → between (get_or ps i d + 1) n (drop (i + 1) ps) ≡ between 0 n ps
-  between_next l u v =
-      rw (add-one i, add-one (get_or ps i d))
-      (sym (ap (between least n) (drop-cons ps i d l) ∙ rw (le-leb least (get_or ps i d) u, lt-ltb (get_or ps i d) n v) refl) ∙ h)
-
-  -- at the end nothing is left
-  pub between-end : length ps ≤ i → true ≡ rising_below n ps
-  between-end l = sym (sym (between_all n ps) ∙ sym h ∙ ap (between least n) (drop_of_length-le ps l))
 
 -- ---- pairs, tested one after the other
 
@@ -48,59 +24,48 @@ module _ (n : ℕ) (ps : List ℕ) (least i d : ℕ) (h : between least n (drop 
 abbrev is_not_too_great : ℕ → Bool
 is_not_too_great v = leb v greatest_version
 
--- what is left of the first pairs from i on, with a bound that the positions are to reach, decides
--- whether they fit
-pub record PairsLeft (size pairs : ℕ) (ps vs : List ℕ) (least i : ℕ) : Type 0 where
-  pub rise : between least size (drop i (take pairs ps)) ≡ between 0 size (take pairs ps)
-  pub versions_fit : all is_not_too_great (drop i (take pairs vs)) ≡ all is_not_too_great (take pairs vs)
+-- the pairs that are left, with a bound that their positions are to reach, decide whether all fit
+pub record PairsLeft (size : ℕ) (ps vs : List ℕ) (least : ℕ) (qs ws : List ℕ) : Type 0 where
+  pub rise : between least size qs ≡ between 0 size ps
+  pub versions_fit : all is_not_too_great ws ≡ all is_not_too_great vs
+  pub as_many : length qs ≡ length ws
 
 -- at first all are left
-pub pairs_start : (size pairs : ℕ) (ps vs : List ℕ) → PairsLeft size pairs ps vs 0 0
-pairs_start size pairs ps vs = record { rise = refl; versions_fit = refl }
+pub pairs_start : (size : ℕ) (ps vs : List ℕ) → length ps ≡ length vs → PairsLeft size ps vs 0 ps vs
+pairs_start size ps vs n = record { rise = refl; versions_fit = refl; as_many = n }
 
-module _ (size pairs : ℕ) (ps vs : List ℕ) (least i : ℕ) (left : PairsLeft size pairs ps vs least i) where
+module _ (size : ℕ) (ps vs : List ℕ) (least : ℕ) where
   -- when none is left they fit
-  pub pairs_end : pairs ≤ i → true ≡ pairs_fit size (take pairs ps) (take pairs vs)
-  unfolding pairs_fit
-  pairs_end h =
-      let p = between-end size (take pairs ps) least i 0 left.rise (omega (arith, length-take pairs ps)) in
-      let v = sym left.versions_fit ∙ all-ends is_not_too_great (take pairs vs) i (omega (arith, length-take pairs vs)) in
-      rw (← p, v) refl
+  pub pairs_end : (qs ws : List ℕ) → PairsLeft size ps vs least qs ws → length qs ≡ 0 → true ≡ pairs_fit size ps vs
+  unfolding pairs_fit all
+  pairs_end [] [] left e = rw (← between_all size ps, ← left.rise, ← left.versions_fit) refl
+  pairs_end [] (w ∷ ws) left e = absurd (let n = left.as_many in omega arith)
+  pairs_end (q ∷ qs) ws left e = absurd (omega arith)
 
-  module _ (h : i < pairs) (p : pairs ≤ length ps) (v : pairs ≤ length vs) where
+  module _ (q : ℕ) (qs : List ℕ) (w : ℕ) (ws : List ℕ) (left : PairsLeft size ps vs least (q ∷ qs) (w ∷ ws)) where
     -- a position below the bound decides
-    pub pairs-low : get_or ps i 0 < least → false ≡ pairs_fit size (take pairs ps) (take pairs vs)
+    pub pairs-low : q < least → false ≡ pairs_fit size ps vs
     unfolding pairs_fit
-    pairs-low l =
-        let e = get_or-take pairs ps i 0 h in
-        rw (← between-low size (take pairs ps) least i 0 left.rise (omega (arith, length-take pairs ps)) (omega arith)) refl
+    pairs-low l = rw (← between_all size ps, ← left.rise, lt-leb least q l) refl
 
     -- so does one that is not below the size
-    pub pairs-high : least ≤ get_or ps i 0 → size ≤ get_or ps i 0 → false ≡ pairs_fit size (take pairs ps) (take pairs vs)
+    pub pairs-high : size ≤ q → false ≡ pairs_fit size ps vs
     unfolding pairs_fit
-    pairs-high l u =
-        let e = get_or-take pairs ps i 0 h in
-        rw (← between-high size (take pairs ps) least i 0 left.rise (omega (arith, length-take pairs ps)) (omega arith) (omega arith)) refl
+    pairs-high h = rw (← between_all size ps, ← left.rise, le-ltb q size h, and-false (leb least q)) refl
 
     -- so does a version that is too great
-    pub pairs-great : greatest_version < get_or vs i 0 → false ≡ pairs_fit size (take pairs ps) (take pairs vs)
-    unfolding pairs_fit
-    pairs-great u =
-        let e = get_or-take pairs vs i 0 h in
-        let t = lt-leb (get_or (take pairs vs) i 0) greatest_version (omega arith) in
-        let f = sym left.versions_fit ∙ all-stops is_not_too_great (take pairs vs) i (omega (arith, length-take pairs vs)) t in
-        rw f (sym (and-false (rising_below size (take pairs ps))))
+    pub pairs-great : greatest_version < w → false ≡ pairs_fit size ps vs
+    unfolding pairs_fit all
+    pairs-great g = rw (← left.versions_fit, lt-leb w greatest_version g) (sym (and-false (rising_below size ps)))
 
     -- past another pair those after it decide, with the number after its position as the bound
-    pub pairs_next : least ≤ get_or ps i 0 → get_or ps i 0 < size → get_or vs i 0 ≤ greatest_version → PairsLeft size pairs ps vs (get_or ps i 0 + 1) (i + 1)
-    pairs_next l u g =
-        let a = get_or-take pairs ps i 0 h in
-        let b = get_or-take pairs vs i 0 h in
-        let t = le-leb (get_or (take pairs vs) i 0) greatest_version (omega arith) in
-        record {
-          rise = rw a at (between_next size (take pairs ps) least i 0 left.rise (omega (arith, length-take pairs ps)) (omega arith) (omega arith));
-          versions_fit = all-next is_not_too_great (take pairs vs) i (omega (arith, length-take pairs vs)) t ∙ left.versions_fit;
-        }
+    pub pairs_next : least ≤ q → q < size → w ≤ greatest_version → PairsLeft size ps vs (q + 1) qs ws
+    unfolding all
+    pairs_next l h g =
+        let n = left.as_many in
+        let r : between (q + 1) size qs ≡ between least size (q ∷ qs) = rw (add-one q, le-leb least q l, lt-ltb q size h) refl in
+        let v : all is_not_too_great ws ≡ all is_not_too_great (w ∷ ws) = rw (le-leb w greatest_version g) refl in
+        record { rise = r ∙ left.rise; versions_fit = v ∙ left.versions_fit; as_many = omega arith }
 
 -- where no version is too great, the one at an offset is not
 pub version_within : (vs : List ℕ) (i : ℕ) → all is_not_too_great vs ≡ true → i < length vs → get_or vs i 0 ≤ greatest_version
@@ -133,14 +98,11 @@ unfolding map_of
 map_made [] = refl
 map_made (e ∷ es) = ap (λ (l : List MapEntry). e ∷ l) (map_made es)
 
--- a pair has the position and the version of its index
-pub map_at : (ps vs : List ℕ) (i : ℕ) (d : MapEntry) → i < length ps → i < length vs
-    → get_or (map_of ps vs) i d ≡ record { position = get_or ps i 0; version = get_or vs i 0 }
+-- without positions there are none
+pub map_none : (ps vs : List ℕ) → length ps ≡ 0 → map_of ps vs ≡ []
 unfolding map_of
-map_at [] vs i d h l = absurd (omega arith)
-map_at (p ∷ ps) [] i d h l = absurd (omega arith)
-map_at (p ∷ ps) (v ∷ vs) zero d h l = refl
-map_at (p ∷ ps) (v ∷ vs) (suc i) d h l = map_at ps vs i d (omega arith) (omega arith)
+map_none [] vs e = refl
+map_none (p ∷ ps) vs e = absurd (omega arith)
 
 -- the pairs from an index on are the one there and those after it
 pub pairs_from_lem : (ps vs : List ℕ) (i : ℕ) → i < length ps → i < length vs

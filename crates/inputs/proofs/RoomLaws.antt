@@ -1,56 +1,34 @@
 -- Laws of an array that a list fills from its front, with zeros in the unused room
 -- (specs/State.antt).
-use mathlib.Core.Path.{◌≡◌, refl, ap, ap₂}
-use mathlib.Core.Bool.{Bool, true, false}
+use mathlib.Core.Path.{◌≡◌, refl, ◌∙◌, ap, ap₂}
+use mathlib.Core.Bool.{Bool, true, ◌&&◌}
 use mathlib.Core.List.{List, [], ◌∷◌, ◌++◌, flatten, Memᴰ}
-use Prim.Native.Nat.{ℕ, zero, suc, ◌+◌, ◌*◌, ◌-◌, ◌≤◌, ◌<◌}
-use native.Mathlib.Numerals.{add-one}
+use Prim.Native.Nat.{ℕ, zero, suc, ◌+◌, ◌*◌, ◌-◌, ◌≤◌}
 use native.Mathlib.Omega.{arith}
 use lib.Dec.{eqb}
-use lib.ListN.{length, get_or, take, drop, replicate, length-drop, take-append-drop, drop_of_length-le}
-use lib.Seq.{drop-cons, drop_at, length-take-le, take-add}
-use borrow.Author.Tests.{eq-eqb, ne_eqb, eqb-true}
+use lib.ListN.{length, take, drop, replicate, length-drop, take-append-drop}
+use lib.Seq.{drop_at, length-take-le, take-add}
+use Rattle.std.proofs.lemmas.List.{drop-replicate}
+use borrow.Author.Tests.{eq-eqb, eqb-true}
+use Rattle.std.specs.List.{list_all}
 use Rattle.lists.specs.Lists.{Bytes, all, runs}
 use Rattle.lists.proofs.ListLaws.{all_cons, at_all}
 use Rattle.hash.specs.Bytes.{padded}
 use Rattle.tree.proofs.RunLaws.{runs-joined, runs-sized}
 use Rattle.inputs.specs.State.{zeros_from}
 
--- ---- a test of all elements from an offset on
-
-module _ (f : ℕ → Bool) (s : List ℕ) (i : ℕ) where
-  -- past an element of which it holds, those after it decide
-  pub all-next : i < length s → f (get_or s i 0) ≡ true → all f (drop (i + 1) s) ≡ all f (drop i s)
-  unfolding all
-  all-next h e = rw (add-one i, drop-cons s i 0 h, e) refl
-
-  -- one of which it does not hold decides
-  pub all-stops : i < length s → f (get_or s i 0) ≡ false → all f (drop i s) ≡ false
-  unfolding all
-  all-stops h e = rw (drop-cons s i 0 h, e) refl
-
-  -- past the end it holds
-  pub all-ends : length s ≤ i → all f (drop i s) ≡ true
-  unfolding all
-  all-ends h = rw (drop_of_length-le s h) refl
-
 -- ---- zeros from an offset on
 
-module _ (i : ℕ) (s : List ℕ) where
-  -- past a zero, those after it decide
-  pub zeros-next : i < length s → get_or s i 0 ≡ 0 → zeros_from (i + 1) s ≡ zeros_from i s
-  unfolding zeros_from
-  zeros-next h e = all-next (λ (x : ℕ). eqb x 0) s i h (eq-eqb _ _ e)
+-- std's test of all elements is that of the rules
+all_listed : (f : ℕ → Bool) (s : List ℕ) → list_all f s ≡ all f s
+unfolding all
+all_listed f [] = refl
+all_listed f (x ∷ s) = ap (λ (b : Bool). f x && b) (all_listed f s)
 
-  -- another number decides
-  pub zeros-stop : i < length s → (get_or s i 0 ≡ 0 → ⊥) → zeros_from i s ≡ false
-  unfolding zeros_from
-  zeros-stop h e = all-stops (λ (x : ℕ). eqb x 0) s i h (ne_eqb _ _ e)
-
-  -- past the end there is no other
-  pub zeros-end : length s ≤ i → zeros_from i s ≡ true
-  unfolding zeros_from
-  zeros-end h = all-ends (λ (x : ℕ). eqb x 0) s i h
+-- so what std tests from an offset on is whether there are zeros
+pub zeros_tested : (k : ℕ) (s : List ℕ) (r : Bool) → r ≡ list_all (λ (x : ℕ). eqb x 0) (drop k s) → r ≡ zeros_from k s
+unfolding zeros_from
+zeros_tested k s r e = e ∙ all_listed (λ (x : ℕ). eqb x 0) (drop k s)
 
 -- zeros are zero
 zeros_zero : (n : ℕ) → all (λ (x : ℕ). eqb x 0) (replicate n 0) ≡ true
@@ -75,6 +53,11 @@ room_padded n k s h l e =
     let t : length (take k s) ≡ k = length-take-le k s (omega arith) in
     let d : length (drop k s) ≡ n - length (take k s) = omega (arith, length-drop k s) in
     rw (← d, ← zeros_only (drop k s) e) (take-append-drop k s)
+
+-- bytes put at the front of zeros are filled up by the others
+pub padded_front : (n : ℕ) (s : List ℕ) → s ++ drop (length s) (replicate n 0) ≡ padded n s
+unfolding padded
+padded_front n s = ap (λ (t : List ℕ). s ++ t) (drop-replicate (length s) n 0)
 
 -- ---- runs of a list
 

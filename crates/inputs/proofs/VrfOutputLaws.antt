@@ -2,14 +2,14 @@
 -- and the search for a version by halving.
 use mathlib.Core.Path.{◌≡◌, refl, sym, ◌∙◌, ap, ap₂, subst}
 use mathlib.Core.Logic.{◌⊎◌, inl, inr, ⊎_elim}
-use mathlib.Core.Bool.{Bool, true, false, ◌&&◌, false≢true}
+use mathlib.Core.Bool.{Bool, true, false, ◌&&◌}
 use mathlib.Core.List.Memᴰ
 use mathlib.Core.List.{List, [], ◌∷◌, map, Memᴰ}
 use mathlib.Core.Option.{Option, Option-elim, none, some}
 use Prim.Native.Nat.{ℕ, zero, suc, ◌+◌, ◌*◌, ◌/◌, ◌%◌, ◌≤◌, ◌<◌}
 use native.Mathlib.Omega.{arith}
 use lib.Dec.{eqb, ltb}
-use lib.ListN.{length, take, drop, get_or, length-map, length-drop, get_or-map}
+use lib.ListN.{length, take, drop, get_or, length-map, length-take, length-drop, get_or-map}
 use lib.Seq.{drop-drop, take-take}
 use borrow.Author.Tests.{eq-eqb, ne_eqb, eqb-true, lt-ltb, le-ltb, ltb-true}
 use Rattle.lists.specs.Choice.{is_some}
@@ -27,6 +27,8 @@ use Rattle.tree.proofs.DigitLaws.{by_order}
 use Rattle.tree.proofs.RunLaws.{length_runs, mapped-run, drop-take}
 use Rattle.inputs.specs.VrfOutputs.{record_at, found_output, record_of, records_below, IsRecordOf}
 use Rattle.inputs.specs.VrfOutputs.{IsOfSomeRecord}
+use Rattle.std.specs.Prelude.{Some, None, is_some as is_given, Option as CodeOption}
+use Rattle.std.specs.Int.{w32, from_be_bytes}
 use Rattle.inputs.specs.declared.vrf_outputs.FoundOutput.{FoundOutput}
 
 -- ---- the records
@@ -49,19 +51,24 @@ record_at_lem : (s : Bytes) (i : ℕ) (d : VrfOutput) → i < length s / record_
 unfolding read_records record_at
 record_at_lem s i d h = mapped-run read_record (length s / record_length) record_length s i d h
 
--- four bytes from an offset on
-four_bytes : (s : Bytes) (a : ℕ) → a + 4 ≤ length s → take 4 (drop a s) ≡ get_or s a 0 ∷ get_or s (a + 1) 0 ∷ get_or s (a + 2) 0 ∷ get_or s (a + 3) 0 ∷ []
-four_bytes s a h =
-    let e : a + 1 + 1 ≡ a + 2 = omega arith in
-    let f : a + 2 + 1 ≡ a + 3 = omega arith in
-    rw (at_cons s a (omega arith), at_cons s (a + 1) (omega arith), e, at_cons s (a + 2) (omega arith), f, at_cons s (a + 3) (omega arith))
+-- what four bytes encode
+four_encode : (t : Bytes) → length t ≡ 4 → from_be_bytes w32 t ≡ uint t
+unfolding uint bytes_after
+four_encode (a ∷ b ∷ c ∷ d ∷ []) e = omega arith
+four_encode [] e = absurd (omega arith)
+four_encode (a ∷ []) e = absurd (omega arith)
+four_encode (a ∷ b ∷ []) e = absurd (omega arith)
+four_encode (a ∷ b ∷ c ∷ []) e = absurd (omega arith)
+four_encode (a ∷ b ∷ c ∷ d ∷ x ∷ t) e = absurd (omega arith)
 
 -- the version of a record is encoded by its first four bytes
 pub version_bytes_lem : (s : Bytes) (i : ℕ) → i < length s / record_length
-    → (record_at s i).version
-    ≡ ((get_or s (record_length * i) 0 * 256 + get_or s (record_length * i + 1) 0) * 256 + get_or s (record_length * i + 2) 0) * 256 + get_or s (record_length * i + 3) 0
-unfolding record_at read_record uint bytes_after
-version_bytes_lem s i h = rw (take-take 4 record_length (drop (record_length * i) s) (omega arith), four_bytes s (record_length * i) (omega arith)) (omega arith)
+    → (record_at s i).version ≡ from_be_bytes w32 (take 4 (drop (record_length * i) s))
+unfolding record_at read_record
+version_bytes_lem s i h =
+    let t = take 4 (drop (record_length * i) s) in
+    let l : length t ≡ 4 = omega (arith, length-take 4 (drop (record_length * i) s), length-drop (record_length * i) s) in
+    rw (take-take 4 record_length (drop (record_length * i) s) (omega arith)) (sym (four_encode t l))
 
 -- its output is the bytes after them
 pub output_bytes : (s : Bytes) (i : ℕ) → (record_at s i).output ≡ take vrf_output_length (drop (record_length * i + 4) s)
@@ -249,7 +256,7 @@ pub between_below : (s : Bytes) (v low high m : ℕ) → v < (record_at s m).ver
 between_below s v low high m l b r i k e = ((b r i k e).0, version_before s i m r k (omega arith))
 
 -- a record of the version is what was to be found
-pub found_record : (s : Bytes) (v m : ℕ) (r : FoundOutput) → m < length s / record_length → (record_at s m).version ≡ v → r ≡ found_output m (some (record_at s m))
+pub found_record : (s : Bytes) (v m : ℕ) (r : CodeOption FoundOutput) → m < length s / record_length → (record_at s m).version ≡ v → r ≡ found_output m (some (record_at s m))
     → IsRecordOf s v r × IsOfSomeRecord s v r
 unfolding versions
 found_record s v m r h e q = (λ xs p. q ∙ sym (found xs (outputs_read s xs p)), inr (m, h, e, q))
@@ -264,7 +271,7 @@ found_record s v m r h e q = (λ xs p. q ∙ sym (found xs (outputs_read s xs p)
         (record_found (read_records s) (record_at s m) v u (record_listed s m h) e))
 
 -- where no number is left, there is no record of the version
-pub found_nothing : (s : Bytes) (v low high : ℕ) (r : FoundOutput) → Between s v low high → high ≤ low → r ≡ found_output 0 none
+pub found_nothing : (s : Bytes) (v low high : ℕ) (r : CodeOption FoundOutput) → Between s v low high → high ≤ low → r ≡ found_output 0 none
     → IsRecordOf s v r × IsOfSomeRecord s v r
 unfolding found_output
 found_nothing s v low high r b l q = (λ xs p. q ∙ sym (ap (found_output (records_below xs v)) (nothing xs (outputs_read s xs p))), inl q)
@@ -278,38 +285,39 @@ found_nothing s v low high r b l q = (λ xs p. q ∙ sym (ap (found_output (reco
 -- ---- what is found
 
 -- a record is found where the version has an output
-pub found_has : (xs : List VrfOutput) (i v : ℕ) → (found_output i (record_of xs v)).found ≡ has_output xs v
+pub found_has : (xs : List VrfOutput) (i v : ℕ) → is_given (found_output i (record_of xs v)) ≡ has_output xs v
 unfolding has_output record_of found_output is_some
 found_has xs i v = found-given (record_of xs v) ∙ given_first (λ (x : VrfOutput). eqb x.version v) xs
   where
-    found-given : (o : Option VrfOutput) → (found_output i o).found ≡ is_some o
+    found-given : (o : Option VrfOutput) → is_given (found_output i o) ≡ is_some o
     found-given none = refl
     found-given (some x) = refl
 
--- and it holds that output
-pub found_output_lem : (xs : List VrfOutput) (i v : ℕ) → has_output xs v ≡ true → (found_output i (record_of xs v)).output ≡ output_of xs v
+-- it holds that output, and the number of the record is the one told
+found_holds : (xs : List VrfOutput) (i v : ℕ) (x : FoundOutput) → Some x ≡ found_output i (record_of xs v)
+    → (has_output xs v ≡ true) × (x.output ≡ output_of xs v) × (x.index ≡ i)
 unfolding output_of record_of has_output found_output is_some Option-elim
-found_output_lem xs i v h = held (record_of xs v) (given_first (λ (x : VrfOutput). eqb x.version v) xs ∙ h)
+found_holds xs i v x = held (record_of xs v) (given_first (λ (x : VrfOutput). eqb x.version v) xs)
   where
-    held : (o : Option VrfOutput) → is_some o ≡ true → (found_output i o).output ≡ Option-elim o [] (λ x. x.output)
-    held none e = absurd (false≢true e)
-    held (some x) e = refl
-
--- the number of a record that is found is the one told
-pub found_index : (xs : List VrfOutput) (i v : ℕ) → has_output xs v ≡ true → (found_output i (record_of xs v)).index ≡ i
-unfolding found_output
-found_index xs i v h = held (record_of xs v) (found_has xs i v ∙ h)
-  where
-    held : (o : Option VrfOutput) → (found_output i o).found ≡ true → (found_output i o).index ≡ i
-    held none e = absurd (false≢true e)
-    held (some x) e = refl
+    held : (o : Option VrfOutput) → is_some o ≡ has_output xs v → Some x ≡ found_output i o
+        → (has_output xs v ≡ true) × (x.output ≡ Option-elim o [] (λ y. y.output)) × (x.index ≡ i)
+    held none h e = absurd (cc)
+    held (some y) h e = (sym h, cc, cc)
 
 -- of outputs that read, whether one is found tells whether the version has one
-pub found_is : (s : Bytes) (v : ℕ) (r : FoundOutput) → IsRecordOf s v r → (xs : List VrfOutput) → read_outputs s ≡ some xs → has_output xs v ≡ r.found
-found_is s v r f xs e = sym (found_has xs (records_below xs v) v) ∙ ap (λ (x : FoundOutput). x.found) (sym (f xs e))
+pub found_is : (s : Bytes) (v : ℕ) (r : CodeOption FoundOutput) → IsRecordOf s v r → (xs : List VrfOutput) → read_outputs s ≡ some xs → has_output xs v ≡ is_given r
+found_is s v r f xs e = sym (found_has xs (records_below xs v) v) ∙ ap is_given (sym (f xs e))
 
--- of any bytes, the number told is below each number but 0 that the number of records is not above
-pub found_below : (s : Bytes) (v k : ℕ) (r : FoundOutput) → 0 < k → length s / record_length ≤ k → IsOfSomeRecord s v r → r.index < k
+-- where none is found, it has none
+pub found_none : (s : Bytes) (v : ℕ) → IsRecordOf s v None → (xs : List VrfOutput) → read_outputs s ≡ some xs → has_output xs v ≡ false
+found_none s v f xs e = found_is s v None f xs e
+
+-- one that is found is its output, with as many records before it as have smaller versions
+pub found_some : (s : Bytes) (v : ℕ) (x : FoundOutput) → IsRecordOf s v (Some x) → (xs : List VrfOutput) → read_outputs s ≡ some xs
+    → (has_output xs v ≡ true) × (x.output ≡ output_of xs v) × (x.index ≡ records_below xs v)
+found_some s v x f xs e = found_holds xs (records_below xs v) v x (f xs e)
+
+-- of any bytes, its number is below the number of records
+pub found_below : (s : Bytes) (v : ℕ) (x : FoundOutput) → IsOfSomeRecord s v (Some x) → x.index < length s / record_length
 unfolding found_output
-found_below s v k r p l h =
-    ⊎_elim (λ e. omega (arith, ap (λ (x : FoundOutput). x.index) e)) (λ (i, b, _, e). omega (arith, ap (λ (x : FoundOutput). x.index) e)) h
+found_below s v x h = ⊎_elim (λ e. absurd (cc)) (λ (i, b, _, e). let k : x.index ≡ i = cc in omega arith) h

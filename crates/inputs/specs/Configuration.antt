@@ -1,31 +1,15 @@
 -- How the configuration that was read stands for that of the rules.
 use Rattle.std.proofs.Math.Option.{Option, none, some, bind as ◌>>=◌}
-use Rattle.std.specs.Prelude.{ℕ, drop}
+use Rattle.std.specs.Prelude.{ℕ, drop, Some, None, Option as CodeOption}
+use Rattle.lists.specs.Choice.{option_of}
 use Rattle.lists.specs.Lists.{Bytes}
+use Rattle.lines.specs.declared.part.Part.{Part}
 use Rattle.lines.specs.Readings.{part_of}
 use Rattle.rules.specs.Encoding.{read_uint, read_opaque}
 use Rattle.rules.specs.Configuration.{Configuration, read_optional}
-use Rattle.inputs.specs.declared.configuration.Lifetime.{Lifetime}
-use Rattle.inputs.specs.declared.configuration.Lifetime.TheVariants.{Limited, Unlimited}
 use Rattle.inputs.specs.declared.configuration.Configuration.{Configuration as ConfigurationParts}
-use Rattle.inputs.specs.declared.configuration.ReadConfiguration.{ReadConfiguration}
-use Rattle.inputs.specs.declared.configuration.ReadConfiguration.TheVariants.{Read, Unread}
-use Rattle.inputs.specs.declared.configuration.Uint.{Uint}
-use Rattle.inputs.specs.declared.configuration.Uint.TheVariants.{Value as NumberAt, Unread as NoNumber}
-use Rattle.inputs.specs.declared.configuration.Opaque.{Opaque}
-use Rattle.inputs.specs.declared.configuration.Opaque.TheVariants.{Key as KeyAt, Unread as NoKey}
-use Rattle.inputs.specs.declared.configuration.Optional.{Optional}
-use Rattle.inputs.specs.declared.configuration.Optional.TheVariants.{Value as LifetimeAt}
-use Rattle.inputs.specs.declared.configuration.Optional.TheVariants.{Unread as NoLifetime}
 use Rattle.inputs.specs.declared.configuration.Front.{Front}
-use Rattle.inputs.specs.declared.configuration.Front.TheVariants.{Fields as FrontAt, Unread as NoFront}
 use Rattle.inputs.specs.declared.configuration.Times.{Times}
-use Rattle.inputs.specs.declared.configuration.Times.TheVariants.{Fields as TimesAt, Unread as NoTimes}
-
--- an optional number
-abbrev pub lifetime_of : Lifetime → Option ℕ
-lifetime_of (Limited n) = some n
-lifetime_of Unlimited = none
 
 -- its numbers, and its keys as parts of the encoded configuration
 unfoldable pub configuration_in : Bytes → ConfigurationParts → Configuration
@@ -38,13 +22,13 @@ configuration_in s c =
       max_ahead = c.ahead;
       max_behind = c.behind;
       monitoring_window = c.window;
-      maximum_lifetime = lifetime_of c.lifetime;
+      maximum_lifetime = option_of c.lifetime;
     }
 
 -- what was read; bytes that do not read are refused with 2
-abbrev pub configuration_of : Bytes → ReadConfiguration → Option Configuration
-configuration_of s (Read c) = some (configuration_in s c)
-configuration_of s Unread = none
+abbrev pub configuration_of : Bytes → CodeOption ConfigurationParts → Option Configuration
+configuration_of s (Some c) = some (configuration_in s c)
+configuration_of s None = none
 
 -- ==== for contracts of private functions alone
 
@@ -61,24 +45,24 @@ abbrev pub uint64 : ℕ
 uint64 = 8
 
 -- a number, if there is one
-abbrev pub uint_in : Bytes → Uint → Option (ℕ × Bytes)
-uint_in s (NumberAt n next) = some (n, drop next s)
-uint_in s NoNumber = none
+abbrev pub uint_in : Bytes → CodeOption (ℕ × ℕ) → Option (ℕ × Bytes)
+uint_in s (Some (n, next)) = some (n, drop next s)
+uint_in s None = none
 
 -- the offset after a number
-abbrev pub after_uint : Uint → ℕ
-after_uint (NumberAt n next) = next
-after_uint NoNumber = 0
+abbrev pub after_uint : CodeOption (ℕ × ℕ) → ℕ
+after_uint (Some (n, next)) = next
+after_uint None = 0
 
 -- a byte string, if there is one
-abbrev pub opaque_in : Bytes → Opaque → Option (Bytes × Bytes)
-opaque_in s (KeyAt k next) = some (part_of s k, drop next s)
-opaque_in s NoKey = none
+abbrev pub opaque_in : Bytes → CodeOption (Part × ℕ) → Option (Bytes × Bytes)
+opaque_in s (Some (k, next)) = some (part_of s k, drop next s)
+opaque_in s None = none
 
 -- an optional number, if there is one
-abbrev pub optional_in : Bytes → Optional → Option (Option ℕ × Bytes)
-optional_in s (LifetimeAt l next) = some (lifetime_of l, drop next s)
-optional_in s NoLifetime = none
+abbrev pub optional_in : Bytes → CodeOption (CodeOption ℕ × ℕ) → Option (Option ℕ × Bytes)
+optional_in s (Some (l, next)) = some (option_of l, drop next s)
+optional_in s None = none
 
 -- ---- the fields in two groups, with what follows them
 
@@ -92,10 +76,9 @@ read_front s = do
   some (suite, mode, signature_key, vrf_key, s4)
 
 -- what was read of them, if it could be
-abbrev pub front_in : Bytes → Front → Option (ℕ × ℕ × Bytes × Bytes × Bytes)
-front_in s (FrontAt suite mode signature vrf next) =
-    some (suite, mode, part_of s signature, part_of s vrf, drop next s)
-front_in s NoFront = none
+abbrev pub front_in : Bytes → CodeOption Front → Option (ℕ × ℕ × Bytes × Bytes × Bytes)
+front_in s (Some f) = some (f.suite, f.mode, part_of s f.signature, part_of s f.vrf, drop f.next s)
+front_in s None = none
 
 -- the time ahead and behind, the monitoring window, the maximum lifetime
 unfoldable pub read_times : Bytes → Option (ℕ × ℕ × ℕ × Option ℕ × Bytes)
@@ -107,7 +90,6 @@ read_times s = do
   some (max_ahead, max_behind, monitoring_window, maximum_lifetime, s4)
 
 -- what was read of them, if it could be
-abbrev pub times_in : Bytes → Times → Option (ℕ × ℕ × ℕ × Option ℕ × Bytes)
-times_in s (TimesAt ahead behind window lifetime next) =
-    some (ahead, behind, window, lifetime_of lifetime, drop next s)
-times_in s NoTimes = none
+abbrev pub times_in : Bytes → CodeOption Times → Option (ℕ × ℕ × ℕ × Option ℕ × Bytes)
+times_in s (Some t) = some (t.ahead, t.behind, t.window, option_of t.lifetime, drop t.next s)
+times_in s None = none

@@ -7,16 +7,9 @@ ghost use Rattle.inputs.specs.Configuration.{read_front, front_in, read_times, t
 
 use lines::part::Part;
 
-// The maximum lifetime, in milliseconds, where there is one.
-#[derive(Clone, Copy)]
-pub enum Lifetime {
-    Limited(u64),
-    Unlimited,
-}
-
 // The fields in the order of the encoding: suite and mode; the public keys, each the part of the
 // encoded configuration that it fills; how far the log's time may be ahead of the clock and behind
-// it; the monitoring window; the maximum lifetime.
+// it; the monitoring window; the maximum lifetime, in milliseconds, where there is one.
 #[derive(Clone, Copy)]
 pub struct Configuration {
     pub suite: u16,
@@ -26,13 +19,7 @@ pub struct Configuration {
     pub ahead: u64,
     pub behind: u64,
     pub window: u64,
-    pub lifetime: Lifetime,
-}
-
-#[derive(Clone, Copy)]
-pub enum ReadConfiguration {
-    Read(Configuration),
-    Unread,
+    pub lifetime: Option<u64>,
 }
 
 // The bytes of a number of each width (RFC 8446, 3.3).
@@ -52,238 +39,129 @@ const ABSENT: u64 = 0;
 
 const PRESENT: u64 = 1;
 
-// A number and the offset after it.
-#[derive(Clone, Copy)]
-enum Uint {
-    Value { value: u64, next: usize },
-    Unread,
-}
-
-// A byte string and the offset after it.
-#[derive(Clone, Copy)]
-enum Opaque {
-    Key { key: Part, next: usize },
-    Unread,
-}
-
-// An optional number and the offset after it.
-#[derive(Clone, Copy)]
-enum Optional {
-    Value { lifetime: Lifetime, next: usize },
-    Unread,
-}
-
 // Suite, mode and keys, and the offset after them.
 #[derive(Clone, Copy)]
-enum Front {
-    Fields {
-        suite: u64,
-        mode: u64,
-        signature: Part,
-        vrf: Part,
-        next: usize,
-    },
-    Unread,
+struct Front {
+    suite: u64,
+    mode: u64,
+    signature: Part,
+    vrf: Part,
+    next: usize,
 }
 
 // The times, and the offset after them.
 #[derive(Clone, Copy)]
-enum Times {
-    Fields {
-        ahead: u64,
-        behind: u64,
-        window: u64,
-        lifetime: Lifetime,
-        next: usize,
-    },
-    Unread,
+struct Times {
+    ahead: u64,
+    behind: u64,
+    window: u64,
+    lifetime: Option<u64>,
+    next: usize,
 }
 
 // The configuration that bytes encode exactly, of the one suite and mode that are taken.
-pub fn read_configuration(s: &[u8]) -> ReadConfiguration
+pub fn read_configuration(s: &[u8]) -> Option<Configuration>
     ensures { configuration_of s.now result ≡ read_configuration s.now }
 {
-    let Front::Fields {
-        suite,
-        mode,
-        signature,
-        vrf,
-        next,
-    } = front_of(s)
-    else {
-        return ReadConfiguration::Unread;
-    };
-    let Times::Fields {
-        ahead,
-        behind,
-        window,
-        lifetime,
-        next: end,
-    } = times_at(s, next)
-    else {
-        return ReadConfiguration::Unread;
-    };
-    if end < s.len() {
-        return ReadConfiguration::Unread;
+    let front = front_of(s)?;
+    let times = times_at(s, front.next)?;
+    if times.next < s.len() {
+        return None;
     }
-    if suite != P256_SUITE {
-        return ReadConfiguration::Unread;
+    if front.suite != P256_SUITE {
+        return None;
     }
-    if mode != CONTACT_MONITORING {
-        return ReadConfiguration::Unread;
+    if front.mode != CONTACT_MONITORING {
+        return None;
     }
-    ReadConfiguration::Read(Configuration {
-        suite: suite as u16,
-        mode: mode as u8,
-        signature,
-        vrf,
-        ahead,
-        behind,
-        window,
-        lifetime,
+    Some(Configuration {
+        suite: front.suite as u16,
+        mode: front.mode as u8,
+        signature: front.signature,
+        vrf: front.vrf,
+        ahead: times.ahead,
+        behind: times.behind,
+        window: times.window,
+        lifetime: times.lifetime,
     })
 }
 
 // Suite, mode, signature key and VRF key, which stand first.
-fn front_of(s: &[u8]) -> Front
+fn front_of(s: &[u8]) -> Option<Front>
     ensures { front_in s.now result ≡ read_front s.now }
 {
-    let Uint::Value {
-        value: suite,
-        next: mode_at,
-    } = uint_at(s, 0, UINT16)
-    else {
-        return Front::Unread;
-    };
-    let Uint::Value {
-        value: mode,
-        next: signature_at,
-    } = uint_at(s, mode_at, UINT8)
-    else {
-        return Front::Unread;
-    };
-    let Opaque::Key {
-        key: signature,
-        next: vrf_at,
-    } = opaque_at(s, signature_at)
-    else {
-        return Front::Unread;
-    };
-    let Opaque::Key { key: vrf, next } = opaque_at(s, vrf_at) else {
-        return Front::Unread;
-    };
-    Front::Fields {
+    let (suite, mode_at) = uint_at(s, 0, UINT16)?;
+    let (mode, signature_at) = uint_at(s, mode_at, UINT8)?;
+    let (signature, vrf_at) = opaque_at(s, signature_at)?;
+    let (vrf, next) = opaque_at(s, vrf_at)?;
+    Some(Front {
         suite,
         mode,
         signature,
         vrf,
         next,
-    }
+    })
 }
 
 // The log's time ahead of the clock and behind it, the monitoring window and the maximum lifetime,
 // from an offset on.
-fn times_at(s: &[u8], at: usize) -> Times
+fn times_at(s: &[u8], at: usize) -> Option<Times>
     ensures { times_in s.now result ≡ read_times (drop at s.now) }
 {
-    let Uint::Value {
-        value: ahead,
-        next: behind_at,
-    } = uint_at(s, at, UINT64)
-    else {
-        return Times::Unread;
-    };
-    let Uint::Value {
-        value: behind,
-        next: window_at,
-    } = uint_at(s, behind_at, UINT64)
-    else {
-        return Times::Unread;
-    };
-    let Uint::Value {
-        value: window,
-        next: lifetime_at,
-    } = uint_at(s, window_at, UINT64)
-    else {
-        return Times::Unread;
-    };
-    let Optional::Value { lifetime, next } = optional_at(s, lifetime_at) else {
-        return Times::Unread;
-    };
-    Times::Fields {
+    let (ahead, behind_at) = uint_at(s, at, UINT64)?;
+    let (behind, window_at) = uint_at(s, behind_at, UINT64)?;
+    let (window, lifetime_at) = uint_at(s, window_at, UINT64)?;
+    let (lifetime, next) = optional_at(s, lifetime_at)?;
+    Some(Times {
         ahead,
         behind,
         window,
         lifetime,
         next,
-    }
+    })
 }
 
-// The optional number at an offset.
-fn optional_at(s: &[u8], at: usize) -> Optional
+// The optional number at an offset, and the offset after it.
+fn optional_at(s: &[u8], at: usize) -> Option<(Option<u64>, usize)>
     ensures { optional_in s.now result ≡ read_optional (drop at s.now) }
 {
-    let Uint::Value {
-        value: present,
-        next: number_at,
-    } = uint_at(s, at, UINT8)
-    else {
-        return Optional::Unread;
-    };
+    let (present, number_at) = uint_at(s, at, UINT8)?;
     if present == ABSENT {
-        return Optional::Value {
-            lifetime: Lifetime::Unlimited,
-            next: number_at,
-        };
+        return Some((None, number_at));
     }
     if present != PRESENT {
-        return Optional::Unread;
+        return None;
     }
-    let Uint::Value { value, next } = uint_at(s, number_at, UINT64) else {
-        return Optional::Unread;
-    };
-    Optional::Value {
-        lifetime: Lifetime::Limited(value),
-        next,
-    }
+    let (value, next) = uint_at(s, number_at, UINT64)?;
+    Some((Some(value), next))
 }
 
-// The byte string at an offset, after its length of two bytes.
-fn opaque_at(s: &[u8], at: usize) -> Opaque
+// The byte string at an offset, after its length of two bytes, and the offset after it.
+fn opaque_at(s: &[u8], at: usize) -> Option<(Part, usize)>
     ensures { opaque_in s.now result ≡ read_opaque uint16 (drop at s.now) }
 {
-    let Uint::Value {
-        value: length,
-        next: start,
-    } = uint_at(s, at, UINT16)
-    else {
-        return Opaque::Unread;
-    };
+    let (length, start) = uint_at(s, at, UINT16)?;
     if ((s.len() - start) as u64) < length {
-        return Opaque::Unread;
+        return None;
     }
     let stop = start + length as usize;
-    Opaque::Key {
-        key: Part { start, stop },
-        next: stop,
-    }
+    Some((Part { start, stop }, stop))
 }
 
-// The number of a width at an offset.
-fn uint_at(s: &[u8], at: usize, width: usize) -> Uint
+// The number of a width at an offset, and the offset after it.
+fn uint_at(s: &[u8], at: usize, width: usize) -> Option<(u64, usize)>
     requires { (0 < width) × (width ≤ uint64) }
     ensures result_value { uint_in s.now result ≡ read_uint width (drop at s.now) }
     ensures within { after_uint result ≤ length s.now }
 {
     if s.len() < at {
-        return Uint::Unread;
+        return None;
     }
     if s.len() - at < width {
-        return Uint::Unread;
+        return None;
     }
     let next = at + width;
-    let value = uint_of(&s[at..next]);
-    Uint::Value { value, next }
+    Some((uint_of(&s[at..next]), next))
 }
 
 // The number that bytes encode, the highest first.
@@ -292,10 +170,8 @@ fn uint_of(s: &[u8]) -> u64
     ensures { result ≡ uint s.now }
 {
     let mut value: u64 = 0;
-    let mut i: usize = 0;
-    while i < s.len() {
-        value = value * 256 + s[i] as u64;
-        i += 1;
+    for &byte in s {
+        value = value * 256 + byte as u64;
     }
     value
 }

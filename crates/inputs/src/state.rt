@@ -98,16 +98,7 @@ impl State {
     pub fn is_valid(self) -> bool
         ensures { result ≡ is_some (valid_state (state_of self)) }
     {
-        let label = self.label;
-        let log = self.log;
-        let map = self.map;
-        if !label.fits() {
-            return false;
-        }
-        if !log.fits() {
-            return false;
-        }
-        map.fits(log.size)
+        self.label.fits() && self.log.fits() && self.map.fits(self.log.size)
     }
 }
 
@@ -130,11 +121,7 @@ impl Label {
         ensures { result ≡ label_block s.now }
     {
         let mut bytes = [0u8; State::LABEL];
-        let mut i: usize = 0;
-        while i < s.len() {
-            bytes[i] = s[i];
-            i += 1;
-        }
+        bytes[..s.len()].copy_from_slice(s);
         Label {
             bytes,
             length: s.len(),
@@ -145,12 +132,10 @@ impl Label {
     fn fits(self) -> bool
         ensures { result ≡ label_fits self }
     {
-        let bytes = self.bytes;
-        let length = self.length;
-        if State::LABEL < length {
+        if State::LABEL < self.length {
             return false;
         }
-        zeros_from(&bytes, length)
+        zeros_from(&self.bytes, self.length)
     }
 }
 
@@ -177,16 +162,42 @@ impl MonitoringMap {
     fn fits(self, size: u64) -> bool
         ensures { result ≡ map_fits size self }
     {
-        let positions = self.positions;
-        let versions = self.versions;
-        let count = self.count;
-        if State::PAIRS < count {
+        if State::PAIRS < self.count {
             return false;
         }
-        if !zero_pairs_from(positions, versions, count) {
+        if !self.zeros_follow() {
             return false;
         }
-        pairs_fit(positions, versions, count, size)
+        self.pairs_fit(size)
+    }
+
+    // Whether positions and versions are zero after the pairs.
+    fn zeros_follow(self) -> bool
+        ensures { result
+            ≡ (zeros_from self.count self.positions && zeros_from self.count self.versions) }
+    {
+        if !self.positions.iter().skip(self.count).all(|x| *x == 0) {
+            return false;
+        }
+        self.versions.iter().skip(self.count).all(|x| *x == 0)
+    }
+
+    // Whether the positions rise and are below a size, and no version is too great.
+    fn pairs_fit(self, size: u64) -> bool
+        requires { self.count ≤ map_limit }
+        ensures { result
+            ≡ pairs_fit size (take self.count self.positions) (take self.count self.versions) }
+    {
+        let positions = &self.positions[..self.count];
+        let versions = &self.versions[..self.count];
+        let mut least: u64 = 0;
+        for (&position, &version) in positions.iter().zip(versions) {
+            if position < least || size <= position || State::GREATEST_VERSION < version {
+                return false;
+            }
+            least = position + 1;
+        }
+        true
     }
 }
 
@@ -194,72 +205,12 @@ impl MonitoringMap {
 fn timestamp_fits(size: u64, timestamp: u64) -> bool
     ensures { result ≡ (ltb 0 size || eqb timestamp 0) }
 {
-    if 0 < size {
-        return true;
-    }
-    timestamp == 0
+    0 < size || timestamp == 0
 }
 
 // Whether bytes are zero from an offset on.
 fn zeros_from(s: &[u8], from: usize) -> bool
     ensures { result ≡ zeros_from from s.now }
 {
-    let mut i = from;
-    while i < s.len() {
-        if s[i] != 0 {
-            return false;
-        }
-        i += 1;
-    }
-    true
-}
-
-// Whether positions and versions are zero from an index on.
-fn zero_pairs_from(
-    positions: [u64; State::PAIRS],
-    versions: [u32; State::PAIRS],
-    from: usize,
-) -> bool
-    ensures { result ≡ (zeros_from from positions && zeros_from from versions) }
-{
-    let mut i = from;
-    while i < State::PAIRS {
-        if positions[i] != 0 {
-            return false;
-        }
-        if versions[i] != 0 {
-            return false;
-        }
-        i += 1;
-    }
-    true
-}
-
-// Whether the positions of so many pairs rise and are below the size, and no version is too great.
-fn pairs_fit(
-    positions: [u64; State::PAIRS],
-    versions: [u32; State::PAIRS],
-    pairs: usize,
-    size: u64,
-) -> bool
-    requires { pairs ≤ map_limit }
-    ensures { result ≡ pairs_fit size (take pairs positions) (take pairs versions) }
-{
-    let mut least: u64 = 0;
-    let mut i: usize = 0;
-    while i < pairs {
-        let position = positions[i];
-        if position < least {
-            return false;
-        }
-        if size <= position {
-            return false;
-        }
-        if State::GREATEST_VERSION < versions[i] {
-            return false;
-        }
-        least = position + 1;
-        i += 1;
-    }
-    true
+    s.iter().skip(from).all(|x| *x == 0)
 }

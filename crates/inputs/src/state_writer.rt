@@ -45,19 +45,22 @@ fn put_state(out: &mut [u8], state: State) -> usize
     requires room { state_text_limit ≤ length out.old }
     ensures { Wrote out.old 0 (write_state (contents state)) result out.new }
 {
-    let label = state.label;
-    let bytes = label.bytes;
-    let length = label.length;
-    let log = state.log;
-    let values = log.values;
+    let State { label, log, map } = state;
     let count = u64::count_ones(log.size) as usize;
-    let map = state.map;
-    let positions = map.positions;
-    let versions = map.versions;
-    let pairs = map.count;
-    let keeps_at = put_size(out, 0, log.size, log.timestamp, &bytes[..length]);
-    let pairs_at = put_keeps(out, keeps_at, &values, count);
-    put_pairs(out, pairs_at, &positions[..pairs], &versions[..pairs])
+    let keeps_at = put_size(
+        out,
+        0,
+        log.size,
+        log.timestamp,
+        &label.bytes[..label.length],
+    );
+    let pairs_at = put_keeps(out, keeps_at, &log.values, count);
+    put_pairs(
+        out,
+        pairs_at,
+        &map.positions[..map.count],
+        &map.versions[..map.count],
+    )
 }
 
 // The `size` line.
@@ -80,11 +83,8 @@ fn put_keeps(out: &mut [u8], at: usize, values: &[u8], count: usize) -> usize
         (flat_map write_keep (runs count hash_length values.now)) result out.new }
 {
     let mut offset = at;
-    let mut i: usize = 0;
-    while i < count {
-        let start = VALUE * i;
-        offset = put_keep(out, offset, &values[start..start + VALUE]);
-        i += 1;
+    for value in values[..VALUE * count].chunks_exact(VALUE) {
+        offset = put_keep(out, offset, value);
     }
     offset
 }
@@ -108,10 +108,8 @@ fn put_pairs(out: &mut [u8], at: usize, positions: &[u64], versions: &[u32]) -> 
         (flat_map write_pair (map_of positions.now versions.now)) result out.new }
 {
     let mut offset = at;
-    let mut i: usize = 0;
-    while i < positions.len() {
-        offset = put_pair(out, offset, positions[i], versions[i]);
-        i += 1;
+    for (&position, &version) in positions.iter().zip(versions) {
+        offset = put_pair(out, offset, position, version);
     }
     offset
 }

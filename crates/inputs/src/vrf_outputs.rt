@@ -4,8 +4,6 @@ ghost use Rattle.lists.specs.Choice.{is_some};
 ghost use Rattle.rules.specs.VrfOutputs.{record_length, read_outputs};
 ghost use Rattle.inputs.specs.VrfOutputs.{record_at, IsRecordOf, IsOfSomeRecord};
 
-use hash::bytes::number4;
-
 // The bytes of a version, of an output, and of a record of the two.
 const VERSION: usize = 4;
 
@@ -13,10 +11,9 @@ const OUTPUT: usize = 32;
 
 const RECORD: usize = VERSION + OUTPUT;
 
-// The output of a version and the number of its record, counted from 0; or none, 0 and zeros.
+// The output of a version, and the number of its record, counted from 0.
 #[derive(Clone, Copy)]
 pub struct FoundOutput {
-    pub found: bool,
     pub index: usize,
     pub output: [u8; OUTPUT],
 }
@@ -28,20 +25,17 @@ pub fn outputs_rise(outputs: &[u8]) -> bool
     if outputs.len() % RECORD != 0 {
         return false;
     }
-    let count = outputs.len() / RECORD;
-    let mut i: usize = 0;
-    while i + 1 < count {
-        if version_at(outputs, i + 1) <= version_at(outputs, i) {
+    for i in 1..outputs.len() / RECORD {
+        if version_at(outputs, i) <= version_at(outputs, i - 1) {
             return false;
         }
-        i += 1;
     }
     true
 }
 
 // The output of a version, found by halving. Of bytes that are no outputs it is that of some record
 // of the version, or none.
-pub fn find_output(outputs: &[u8], version: u32) -> FoundOutput
+pub fn find_output(outputs: &[u8], version: u32) -> Option<FoundOutput>
     ensures rising { IsRecordOf outputs.now version result }
     ensures any { IsOfSomeRecord outputs.now version result }
 {
@@ -51,11 +45,10 @@ pub fn find_output(outputs: &[u8], version: u32) -> FoundOutput
         let middle = low + (high - low) / 2;
         let there = version_at(outputs, middle);
         if there == version {
-            return FoundOutput {
-                found: true,
+            return Some(FoundOutput {
                 index: middle,
                 output: output_at(outputs, middle),
-            };
+            });
         }
         if there < version {
             low = middle + 1;
@@ -63,11 +56,7 @@ pub fn find_output(outputs: &[u8], version: u32) -> FoundOutput
             high = middle;
         }
     }
-    FoundOutput {
-        found: false,
-        index: 0,
-        output: [0u8; OUTPUT],
-    }
+    None
 }
 
 // The version of a record.
@@ -76,12 +65,9 @@ fn version_at(outputs: &[u8], i: usize) -> u32
     ensures { result ≡ (record_at outputs.now i).version }
 {
     let at = RECORD * i;
-    number4(
-        outputs[at],
-        outputs[at + 1],
-        outputs[at + 2],
-        outputs[at + 3],
-    )
+    let mut bytes = [0u8; VERSION];
+    bytes.copy_from_slice(&outputs[at..at + VERSION]);
+    u32::from_be_bytes(bytes)
 }
 
 // The output of a record.
@@ -90,9 +76,7 @@ fn output_at(outputs: &[u8], i: usize) -> [u8; OUTPUT]
     ensures { result ≡ (record_at outputs.now i).output }
 {
     let at = RECORD * i + VERSION;
-    let mut r = [0u8; OUTPUT];
-    for k in 0..OUTPUT {
-        r[k] = outputs[at + k];
-    }
-    r
+    let mut output = [0u8; OUTPUT];
+    output.copy_from_slice(&outputs[at..at + OUTPUT]);
+    output
 }

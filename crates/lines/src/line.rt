@@ -28,13 +28,15 @@ pub fn line_end(s: &[u8], at: usize) -> usize
     ensures value { result ≡ at + length (before newline (drop at s.now)) }
     ensures within { (at ≤ result) × (result - at ≤ length s.now - at) }
 {
-    let near = at.saturating_add(NEAR).min(s.len()).max(at);
-    for i in at..near {
+    if s.len().saturating_sub(at) < NEAR {
+        return span(s, at, b'\n');
+    }
+    for i in at..at + NEAR {
         if s[i] == b'\n' {
             return i;
         }
     }
-    let far = skipped(s, near, WIDE);
+    let far = skipped(s, at + NEAR, WIDE);
     span(s, skipped(s, far, NARROW), b'\n')
 }
 
@@ -59,7 +61,7 @@ fn skipped(s: &[u8], at: usize, step: usize) -> usize
 }
 
 // Whether so many bytes from an offset on have no newline. All are looked at: a loop with one way
-// out is compiled to steps of sixteen bytes.
+// out is compiled to steps of sixteen bytes. By hand: `contains` and memchr were tried, and slower.
 fn lacks_newline(s: &[u8], at: usize, count: usize) -> bool
     requires { at + count ≤ length s.now }
     ensures { result ≡ true → at + count + length (before newline (drop (at + count) s.now))

@@ -3,21 +3,20 @@
 use mathlib.Core.Path.{◌≡◌, refl, sym, ap, ap₂, ◌∙◌, subst}
 use mathlib.Core.Logic.{inl, inr}
 use mathlib.Core.Bool.{Bool, true, false, ◌&&◌, ◌||◌}
-use mathlib.Core.List.{[]}
 use Prim.Native.Nat.{ℕ, suc, ◌+◌, ◌*◌, ◌/◌, ◌%◌, ◌^◌, ◌≤◌, ◌<◌}
 use native.Mathlib.Nat.{pow-succ', mod-lt}
 use native.Mathlib.Decide.{dec_lt}
 use native.Mathlib.Omega.{arith}
 use lib.Count.{ones, ones_step, ones_cat, ones-le}
 use lib.Dec.{eqb, ltb}
-use lib.ListN.{length, get_or, take, drop}
+use lib.ListN.{get_or, take, drop}
 use lib.Pow.{pow_pos, shl-shr, split}
 use borrow.Author.Tests.{lt-ltb, le-ltb, eq-eqb, ne_eqb, eqb-true}
 use Rattle.lists.specs.Lists.{Bytes, runs}
 use Rattle.lists.proofs.ChoiceLaws.{and_holds}
 use Rattle.hash.specs.Sha256.{digest_length}
 use Rattle.tree.specs.declared.log_tree.Source.{Source}
-use Rattle.tree.specs.declared.log_tree.Source.TheVariants.{Retained, Given, Shown, Parent}
+use Rattle.tree.specs.declared.log_tree.Source.TheVariants.{Given, Parent}
 use Rattle.tree.specs.LogTree.{Range, full_subtrees, is_full, holds_full, value_among, kept_value, zeros}
 use Rattle.tree.specs.LogHead.{level_limit, known_in}
 use Rattle.tree.specs.LogWalk.{range, Whole, Halves, even, uneven, SourceFacts}
@@ -89,21 +88,20 @@ module _ (m s w : ℕ) (h : Whole s w) where
       let d : m / (2 * w) ≡ m / 2 ^ e / 2 = ap (λ (v : ℕ). m / v) (rw h.width_is (sym (pow-succ' 2 e))) ∙ halved m e in
       omega (arith, c, ones_step (m / 2 ^ e), ap ones d, x, z)
 
-  module _ (b : Bytes) (l : ℕ) (p : 0 < l) (u : m ≤ 2 ^ l) (v : length b ≡ l * digest_length) (f : is_full m (range s w) ≡ true) where
-    -- it stands within a block of as many values as there are levels
-    pub kept-room : digest_length * ones (m / (2 * w)) + digest_length ≤ length b
-    kept-room = omega (arith, kept-number f, ones_limit l m p u, v)
+  -- as many values as there are levels leave room for it
+  pub kept-room : (l : ℕ) → 0 < l → m ≤ 2 ^ l → is_full m (range s w) ≡ true → ones (m / (2 * w)) < l
+  kept-room l p u f = omega (arith, kept-number f, ones_limit l m p u)
 
-    -- it is the value found among the kept ones
-    pub kept-is : take digest_length (drop (digest_length * ones (m / (2 * w))) b) ≡ kept_value (known_in [] m b) (range s w)
-    unfolding kept_value known_in
-    kept-is =
-        let e : ℕ = h.level in
-        let d : m / (2 * w) ≡ m / 2 ^ suc e = ap (λ (v : ℕ). m / v) (rw h.width_is (sym (pow-succ' 2 e))) in
-        sym (runs-at (ones m) digest_length b (ones (m / (2 * w))) zeros (kept-number f))
-        ∙ ap (λ (i : ℕ). get_or (runs (ones m) digest_length b) (ones i) zeros) d
-        ∙ sym (ap (value_among (full_subtrees m) (runs (ones m) digest_length b)) block-is
-        ∙ value_among_lem m e h.number (runs (ones m) digest_length b) (ap (is_full m) (sym block-is) ∙ f))
+  -- it is the value found among the kept ones
+  pub kept-is : (t b : Bytes) → is_full m (range s w) ≡ true → take digest_length (drop (digest_length * ones (m / (2 * w))) b) ≡ kept_value (known_in t m b) (range s w)
+  unfolding kept_value known_in
+  kept-is t b f =
+      let e : ℕ = h.level in
+      let d : m / (2 * w) ≡ m / 2 ^ suc e = ap (λ (v : ℕ). m / v) (rw h.width_is (sym (pow-succ' 2 e))) in
+      sym (runs-at (ones m) digest_length b (ones (m / (2 * w))) zeros (kept-number f))
+      ∙ ap (λ (i : ℕ). get_or (runs (ones m) digest_length b) (ones i) zeros) d
+      ∙ sym (ap (value_among (full_subtrees m) (runs (ones m) digest_length b)) block-is
+      ∙ value_among_lem m e h.number (runs (ones m) digest_length b) (ap (is_full m) (sym block-is) ∙ f))
 
   -- ---- the step that it takes, something being shown in it or not
 

@@ -2,11 +2,10 @@
 use mathlib.Core.Path.{◌≡◌, refl, sym, ◌∙◌, ap}
 use mathlib.Core.List.{List, [], ◌∷◌, ◌++◌, map, flat_map, flatten, append_assoc, map-id, Memᴰ}
 use Prim.Native.Nat.{ℕ, zero, suc, ◌+◌, ◌*◌, ◌≤◌, ◌<◌}
-use native.Mathlib.Numerals.{add-one}
 use native.Mathlib.Omega.{arith}
-use lib.ListN.{length, take, drop, get_or, set, length-append, length-drop, length-map, get_or-map}
+use lib.ListN.{length, take, drop, get_or, length-append, length-drop, length-map, get_or-map}
 use lib.ListN.{get_or-eq_default}
-use lib.Seq.{take-nil, take-suc, take-suc-set, take_at, drop_at, drop-drop, get_or-drop, length-take-le}
+use lib.Seq.{take-nil, take_at, drop_at, drop-drop, length-take-le}
 use Rattle.lists.specs.Lists.{runs}
 use Rattle.lists.proofs.MemberLaws.{each_nil, each-cons}
 use Rattle.hash.specs.Bytes.{AreBytes}

@@ -16,7 +16,7 @@ use Rattle.tree.specs.declared.walk_cursor.WalkCursor.{WalkCursor}
 use Rattle.tree.specs.declared.log_tree.Source.TheVariants.{Shown}
 use Rattle.tree.specs.declared.log_tree.Walked.{Walked}
 use Rattle.tree.specs.SearchTree.{power}
-use Rattle.tree.specs.LogTree.{LogEntry, is_shown, is_full, Walk, given, parent, walk, node_count, width_of}
+use Rattle.tree.specs.LogTree.{is_shown, is_full, Walk, given, parent, walk, node_count, width_of}
 use Rattle.tree.specs.LogTree.{Known, value, full_values}
 use Rattle.tree.specs.LogText.{shown_in}
 use Rattle.tree.specs.LogHead.{block_length, positions}
@@ -24,7 +24,7 @@ use Rattle.tree.specs.LogWalk.{range, position_of, cursor_before, past_node, Rea
 use Rattle.tree.specs.LogWalk.{walked_by, walked_on, node_next, parent_by, compared_by, Filled, values_from}
 use Rattle.tree.proofs.WalkCaseLaws.{walks_over, walks_width}
 use Rattle.tree.proofs.WalkValueLaws.{full_values_one, full_values_both}
-use Rattle.tree.proofs.WalkedLaws.{compared_entries, walked-cursor, walked-given, walked-parent}
+use Rattle.tree.proofs.WalkedLaws.{walked-cursor, walked-given, walked-parent}
 use Rattle.tree.proofs.DecisionLaws.{whole_some}
 use Rattle.tree.proofs.WalkLaws.{known, next-shown, next_stays, over_cases, ready_behind}
 use Rattle.tree.proofs.EndLaws.{ends_joined}
@@ -131,11 +131,11 @@ module _ (vs : List Bytes) (text : Bytes) (ns : List Bytes) {m n s w : ℕ} {c :
     spine-split q = cut-split t z l m (positions (shown_in text)) h (⊎_elim (λ b. inl (tail-shown ∙ b)) inr q)
 
     -- what they yield, from what the full subtree yields with which they begin and those after it
-    pub spine-cut : (fs : List LogEntry) (i j x : Walked) → (ltb (position_of c.position) n ≡ true) ⊎ (s < m) → i ≡ walked_on text (known m vs (shown_in text)) ns c.node (range s w)
+    pub spine-cut : (i j x : Walked) → (ltb (position_of c.position) n ≡ true) ⊎ (s < m) → i ≡ walked_on text (known m vs (shown_in text)) ns c.node (range s w)
         → j ≡ walked_on text (known m vs (shown_in text)) ns i.cursor.node (range (s + w) (n - (s + w)))
-        → x ≡ compared_by (known m vs fs) (range s (w + (n - (s + w)))) (parent_by w i (n - (s + w)) j)
+        → x ≡ compared_by (known m vs (shown_in text)) (range s (w + (n - (s + w)))) (parent_by w i (n - (s + w)) j)
         → x ≡ walked_on text (known m vs (shown_in text)) ns c.node (range s (n - s))
-    spine-cut fs i j x q ei ej ex =
+    spine-cut i j x q ei ej ex =
         let k : Known = known m vs (shown_in text) in
         let a : Walk = walk_on k (range s w) in
         let b : Walk = walk_on k (range (s + w) (n - (s + w))) in
@@ -144,7 +144,7 @@ module _ (vs : List Bytes) (text : Bytes) (ns : List Bytes) {m n s w : ℕ} {c :
         let f : width_of a ≡ w = walks_width (over_cases m (positions (shown_in text)) s (w) half-some) in
         let g : width_of b ≡ n - (s + w) = walks_width (over_cases m (positions (shown_in text)) (s + w) (n - (s + w)) (omega arith)) in
         let o : w + (n - (s + w)) ≡ n - s = omega arith in
-        ex ∙ compared_entries m vs fs (shown_in text) (range s (w + (n - (s + w)))) (parent_by w i (n - (s + w)) j)
+        ex
         ∙ ap (λ (y : ℕ). compared_by k (range s y) (parent_by w i (n - (s + w)) j)) o
         ∙ ap₂ (λ (y z : ℕ). compared_by k (range s (n - s)) (parent_by y i z j)) (sym f) (sym g)
         ∙ walked-parent text k ns (s + (n - s)) c.node (range s (n - s)) a b (s + w) i j ei (ej ∙ ap₂ (λ (y z : ℕ). walked_by text k ns y z b) e d)

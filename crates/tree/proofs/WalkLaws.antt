@@ -4,12 +4,12 @@ use mathlib.Core.Path.{◌≡◌, refl, sym, ap, ap₂, ◌∙◌}
 use mathlib.Core.Logic.{◌⊎◌, inl, inr, ⊎_elim}
 use mathlib.Core.Bool.{Bool, true, false}
 use mathlib.Core.List.{List, []}
-use Prim.Native.Nat.{ℕ, zero, suc, ◌+◌, ◌-◌, ◌*◌, ◌/◌, ◌%◌, ◌^◌, ◌≤◌, ◌<◌}
+use Prim.Native.Nat.{ℕ, zero, suc, ◌+◌, ◌-◌, ◌*◌, ◌/◌, ◌^◌, ◌≤◌, ◌<◌}
 use native.Mathlib.Nat.{mul-one}
 use native.Mathlib.Omega.{arith}
 use lib.Dec.{ltb}
 use lib.ListN.{length, get_or, drop}
-use borrow.Author.Tests.{eq-eqb, ne_eqb, ltb-true, ltb-false}
+use borrow.Author.Tests.{ltb-true, ltb-false}
 use Rattle.std.proofs.lemmas.Option.{unwrap_or-slice_get}
 use Rattle.lists.specs.Lists.{Bytes}
 use Rattle.hash.specs.Sha256.{sha256}
@@ -33,8 +33,8 @@ use Rattle.tree.proofs.RunLaws.{get_d_any}
 use Rattle.tree.proofs.EntryLineLaws.{offset-within}
 use Rattle.tree.proofs.CursorLaws.{is_shown_lem, below_quiet, below_one, string_at_lem, entry_at}
 use Rattle.tree.proofs.CursorLaws.{length_positions, cursor_next}
-use Rattle.tree.proofs.DecisionLaws.{whole_some, full-taken, full_left}
-use Rattle.tree.proofs.WalkedLaws.{kept_entries, agrees_entries, compared_entries, walked-cursor}
+use Rattle.tree.proofs.DecisionLaws.{whole_some}
+use Rattle.tree.proofs.WalkedLaws.{walked-cursor}
 use Rattle.tree.proofs.WalkedLaws.{walked-retained, walked-given, walked-shown, walked-parent}
 
 -- what is known, by its parts
@@ -87,7 +87,7 @@ module _ (t : Bytes) {m s : ℕ} {c : WalkCursor} (r : Ready t m s c) (b : s < 2
 
   -- its value, and the entries shown after it
   pub entry-walked : (vs : List Bytes) (v : Bytes) (x : WalkCursor) (g : Bool) → v ≡ sha256 (log_leaf_string (entry_in (drop (c.at + entry_fields) t)))
-      → x ≡ cursor_from t (next_line t c.at) c.node → g ≡ agrees (known m vs (shown_in [])) (range s 1) v
+      → x ≡ cursor_from t (next_line t c.at) c.node → g ≡ agrees (known m vs (shown_in t)) (range s 1) v
       → record { value = v; cursor = x; met = g } ≡ walked_by t (known m vs (shown_in t)) [] (s + 1) c.node (shown s)
   unfolding value shown_in
   entry-walked vs v x g ev ex eg =
@@ -98,7 +98,7 @@ module _ (t : Bytes) {m s : ℕ} {c : WalkCursor} (r : Ready t m s c) (b : s < 2
       walked-shown t (known m vs es) [] (s + 1) c.node s x v g
       (ex ∙ cursor_next t i c.node c.at one_left (offset_at r) ∙ ap (λ (j : ℕ). cursor_at t j c.node) (sym passed.0))
       (ev ∙ ap (λ (e : LogEntry). sha256 (log_leaf_string e)) (sym y) ∙ ap sha256 (sym (string_at_lem es z s no_position (omega arith) (omega (arith, h, position_at r)))))
-      (eg ∙ agrees_entries m vs (shown_in []) es (range s 1) v)
+      eg
 
 -- ---- the nodes taken
 
@@ -200,11 +200,11 @@ module _ (vs : List Bytes) (text : Bytes) (ns : List Bytes) {m s w : ℕ} {c : W
   block-shown = next-shown r w (omega (arith, h.small))
 
   -- a retained one
-  pub block-retained : (fs : List LogEntry) (v : Bytes) → SourceFacts (ltb (position_of c.position) (s + w)) m (range s w) Retained → v ≡ kept_value (known m vs fs) (range s w)
+  pub block-retained : (v : Bytes) → SourceFacts (ltb (position_of c.position) (s + w)) m (range s w) Retained → v ≡ kept_value (known m vs (shown_in text)) (range s w)
       → record { value = v; cursor = c; met = true } ≡ walked_on text (known m vs (shown_in text)) ns c.node (range s w)
-  block-retained fs v f e =
+  block-retained v f e =
       let x : walk w m (positions (shown_in text)) (range s w) ≡ retained (range s w) = first_step ∙ walk_retained (w - 1) m (positions (shown_in text)) (range s w) (block-shown ∙ f.0) f.1 in
-      walked-retained text (known m vs (shown_in text)) ns (s + w) c.node (range s w) c v (next_stays r w f.0) (e ∙ kept_entries m vs fs (shown_in text) (range s w))
+      walked-retained text (known m vs (shown_in text)) ns (s + w) c.node (range s w) c v (next_stays r w f.0) e
       ∙ ap (walked_by text (known m vs (shown_in text)) ns (s + w) c.node) (sym x)
 
   -- a given one
@@ -232,11 +232,11 @@ module _ (vs : List Bytes) (text : Bytes) (ns : List Bytes) {m s w : ℕ} {c : W
       (walked-cursor text (known m vs (shown_in text)) ns (s + w / 2) c.node (walk (w / 2) m (positions (shown_in text)) (range s (w / 2))) i e)
 
   -- one that splits, from what its halves yield
-  pub block-parent : (fs : List LogEntry) (i j z : Walked) → SourceFacts (ltb (position_of c.position) (s + w)) m (range s w) Parent
+  pub block-parent : (i j z : Walked) → SourceFacts (ltb (position_of c.position) (s + w)) m (range s w) Parent
       → i ≡ walked_on text (known m vs (shown_in text)) ns c.node (range s (w / 2)) → j ≡ walked_on text (known m vs (shown_in text)) ns i.cursor.node (range (s + w / 2) (w / 2))
-      → z ≡ compared_by (known m vs fs) (range s (w / 2 + w / 2)) (parent_by (w / 2) i (w / 2) j)
+      → z ≡ compared_by (known m vs (shown_in text)) (range s (w / 2 + w / 2)) (parent_by (w / 2) i (w / 2) j)
       → z ≡ walked_on text (known m vs (shown_in text)) ns c.node (range s w)
-  block-parent fs i j z f ei ej ez =
+  block-parent i j z f ei ej ez =
       let k : Known = known m vs (shown_in text) in
       let g : 1 < w = f.0 in
       let p : 0 < w / 2 = whole_some (whole-left h g) in
@@ -247,7 +247,7 @@ module _ (vs : List Bytes) (text : Bytes) (ns : List Bytes) {m s w : ℕ} {c : W
       let u : width_of a ≡ w / 2 = walks_width (over_cases m (positions (shown_in text)) s (w / 2) p) in
       let v : width_of b ≡ w / 2 = walks_width (over_cases m (positions (shown_in text)) (s + w / 2) (w / 2) p) in
       let x : walk w m (positions (shown_in text)) (range s w) ≡ parent (range s w) a b = split-whole h g m (positions (shown_in text)) (⊎_elim (λ q. inl (block-shown ∙ q)) inr f.1) in
-      ez ∙ compared_entries m vs fs (shown_in text) (range s (w / 2 + w / 2)) (parent_by (w / 2) i (w / 2) j)
+      ez
       ∙ ap (λ (d : ℕ). compared_by k (range s d) (parent_by (w / 2) i (w / 2) j)) (sym (half_twice h g))
       ∙ ap₂ (λ (d e : ℕ). compared_by k (range s w) (parent_by d i e j)) (sym u) (sym v)
       ∙ walked-parent text k ns (s + w) c.node (range s w) a b (s + w / 2) i j ei (ej ∙ ap₂ (λ (d e : ℕ). walked_by text k ns d e b) t n)

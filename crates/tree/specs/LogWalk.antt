@@ -6,6 +6,7 @@ use Rattle.std.specs.Prelude.{slice_get, unwrap_or}
 use mathlib.Core.List.{List, [], ◌∷◌, ◌++◌, flatten}
 use Rattle.lists.specs.Choice.{choose}
 use Rattle.lists.specs.Lists.{Bytes, all, rising}
+use Rattle.tree.specs.declared.known_log.KnownLog.{KnownLog}
 use Rattle.tree.specs.declared.log_tree.Source.{Source}
 use Rattle.tree.specs.declared.log_tree.Source.TheVariants.{Retained, Given, Shown, Parent}
 use Rattle.tree.specs.declared.log_spine.Edge.{Edge}
@@ -16,12 +17,19 @@ use Rattle.hash.specs.Bytes.{padded}
 use Rattle.hash.specs.Sha256.{digest_length, sha256}
 use Rattle.tree.specs.LogTree.{log_parent_string, Range, is_full, holds_full, Walk, walk, node_count, Known}
 use Rattle.tree.specs.LogTree.{zeros, value, agrees, kept_values_met, full_values}
-use Rattle.tree.specs.LogText.{entry_offsets, shown_in}
-use Rattle.tree.specs.LogHead.{level_limit, block_length, positions}
+use Rattle.tree.specs.LogText.{entry_offsets, shown_in, nodes_in}
+use Rattle.tree.specs.LogHead.{level_limit, block_length, known_in, positions}
 
 -- so many entries from a first one on
 abbrev pub range : ℕ → ℕ → Range
 range s w = record { start = s; width = w }
+
+-- what is known of a log, and the values of its nodes
+abbrev pub known_by : KnownLog → Known
+known_by l = known_in l.text.now l.kept_size l.kept.now
+
+abbrev pub nodes_by : KnownLog → List Bytes
+nodes_by l = nodes_in l.nodes.now
 
 -- positions rise and are below n
 abbrev pub rising_below : ℕ → List ℕ → Bool

@@ -1,6 +1,7 @@
 // The tree layer: binary ladder, search tree, log tree, prefix tree.
 #![tactic(auto)]
 
+mod known_log;
 pub mod ladder;
 pub mod log_head;
 mod log_spine;

@@ -5,6 +5,7 @@ ghost use Rattle.tree.specs.LogHead.{block_length, positions, known_in, is_walka
 ghost use Rattle.tree.specs.LogHead.{nodes_asked};
 ghost use Rattle.tree.specs.LogWalk.{rising_below};
 
+use crate::known_log::KnownLog;
 use crate::log_spine::{spine, spine_end};
 use crate::log_text::{entry_from, next_line, position_at};
 use crate::walk_cursor::WalkCursor;
@@ -85,9 +86,13 @@ pub fn log_head(
     *values = [0u8; LogHead::BLOCK];
     if walkable(text, tree_size, kept_size) {
         let cursor = WalkCursor::from(text, 0, 0);
-        let top = spine(
-            text, nodes, kept_size, kept, tree_size, 0, cursor, values, 0,
-        );
+        let log = KnownLog {
+            text,
+            nodes,
+            kept_size,
+            kept,
+        };
+        let top = spine(&log, tree_size, 0, cursor, values, 0);
         let root = top.value;
         return LogHead { root, met: top.met };
     }

@@ -3,12 +3,13 @@
 ghost use Rattle.std.specs.Prelude.{◌≡◌, [], ◌+◌, ◌-◌, ◌<◌, ◌≤◌, length};
 ghost use Rattle.std.specs.Int.Count.{ones};
 ghost use Rattle.hash.specs.Sha256.{digest_length};
-ghost use Rattle.tree.specs.LogText.{nodes_in};
 ghost use Rattle.tree.specs.LogHead.{level_limit, known_in};
-ghost use Rattle.tree.specs.LogWalk.{range, Ready, Tail, EdgeFacts, end_on, walked_on, Filled, values_from};
+ghost use Rattle.tree.specs.LogWalk.{range, known_by, nodes_by, Ready, Tail, EdgeFacts, end_on, walked_on};
+ghost use Rattle.tree.specs.LogWalk.{Filled, values_from};
 
+use crate::known_log::KnownLog;
 use crate::log_head::LogHead;
-use crate::log_tree::{Walked, joined, next_node, shown_entry, subtree, subtree_end};
+use crate::log_tree::{Walked, subtree, subtree_end};
 use crate::search_tree::power;
 use crate::walk_cursor::WalkCursor;
 
@@ -51,67 +52,52 @@ fn put_value(block: &mut [u8; LogHead::BLOCK], i: usize, value: [u8; 32])
 // The walk over the entries from start on up to tree_size. The values of the full subtrees of all
 // entries that are among them go into a block, after so many others.
 pub(crate) fn spine(
-    text: &[u8],
-    nodes: &[u8],
-    kept_size: u64,
-    kept: &[u8; LogHead::BLOCK],
+    log: &KnownLog<'_>,
     tree_size: u64,
     start: u64,
     cursor: WalkCursor,
     block: &mut [u8; LogHead::BLOCK],
     count: usize,
 ) -> Walked
-    requires tail { Tail tree_size start × Ready text.now kept_size start cursor
-        × (kept_size ≤ tree_size) }
+    requires tail { Tail tree_size start × Ready log.now.text.now log.now.kept_size start cursor
+        × (log.now.kept_size ≤ tree_size) }
     requires room { count + ones (tree_size - start) ≤ level_limit }
-    ensures value { result ≡ walked_on text.now
-        (known_in text.now kept_size kept.now) (nodes_in nodes.now)
-        cursor.node (range start (tree_size - start)) }
+    ensures value { result ≡ walked_on log.now.text.now (known_by log.now) (nodes_by log.now) cursor.node
+        (range start (tree_size - start)) }
     ensures filled { Filled count block.old block.new
-        (values_from tree_size (known_in text.now kept_size kept.now)
-        (nodes_in nodes.now) start cursor.node) }
+        (values_from tree_size (known_by log.now) (nodes_by log.now) start cursor.node) }
 {
     let width = power(tree_size - start);
     let shown = cursor.is_before(tree_size);
-    match edge_at(kept_size, tree_size, start, width, shown) {
+    match edge_at(log.kept_size, tree_size, start, width, shown) {
         Edge::Block => {
             if width == 1 {
                 if shown {
-                    let entry = shown_entry(text, kept_size, kept, start, cursor);
+                    let entry = log.shown_entry(start, cursor);
                     let value = entry.value;
                     put_value(block, count, value);
                     return entry;
                 }
             }
-            let whole = subtree(text, nodes, kept_size, kept, start, width, cursor);
+            let whole = subtree(log, start, width, cursor);
             let value = whole.value;
             put_value(block, count, value);
             whole
         }
         Edge::Node => {
-            let given = next_node(nodes, cursor);
+            let given = log.next_node(cursor);
             let value = given.value;
             put_value(block, count, value);
             given
         }
         Edge::Cut => {
-            let left = subtree(text, nodes, kept_size, kept, start, width, cursor);
+            let left = subtree(log, start, width, cursor);
             let value = left.value;
             put_value(block, count, value);
             let next = start + width;
             let middle = left.cursor;
-            let right = spine(
-                text,
-                nodes,
-                kept_size,
-                kept,
-                tree_size,
-                next,
-                middle,
-                block,
-                count + 1,
-            );
-            joined(kept_size, kept, start, width, left, tree_size - next, right)
+            let right = spine(log, tree_size, next, middle, block, count + 1);
+            log.joined(start, width, left, tree_size - next, right)
         }
     }
 }

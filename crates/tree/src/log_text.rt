@@ -6,7 +6,9 @@ ghost use Rattle.lines.specs.Layout.{value_digits};
 ghost use Rattle.tree.specs.LogTree.{log_leaf_string, zeros};
 ghost use Rattle.tree.specs.LogText.{number_in, value_in, values_in, entry_in, next_line, entry_offsets};
 ghost use Rattle.tree.specs.LogText.{nodes_in};
+ghost use Rattle.tree.specs.LogHead.{level_limit};
 
+use crate::log_head::LogHead;
 use hash::strings::digest_40;
 use lines::hex::read_digest;
 use lines::layout::Layout;
@@ -106,9 +108,9 @@ pub(crate) fn sibling_at(siblings: &[u8], i: usize) -> [u8; 32]
     value_in_line(siblings, Layout::DIGITS, 0, i)
 }
 
-// A value of a block of values, as bytes.
-pub(crate) fn stored_at(block: &[u8], i: usize) -> [u8; 32]
-    requires { 32 * i + 32 ≤ length block.now }
+// A value of a block of values.
+pub(crate) fn stored_at(block: &[u8; LogHead::BLOCK], i: usize) -> [u8; 32]
+    requires { i < level_limit }
     ensures { result ≡ take 32 (drop (32 * i) block.now) }
 {
     let mut value = [0u8; 32];

@@ -2,12 +2,12 @@
 // at each call.
 ghost use Rattle.std.specs.Prelude.{◌≡◌, true, cond, [], ◌+◌, ◌<◌, ◌≤◌, ◌^◌, eqb};
 ghost use Rattle.tree.specs.LogTree.{is_full, kept_value, agrees, shown};
-ghost use Rattle.tree.specs.LogText.{nodes_in};
 ghost use Rattle.tree.specs.LogHead.{level_limit, known_in};
-ghost use Rattle.tree.specs.LogWalk.{range, position_of, Ready, Whole, Halves, SourceFacts, walked_by};
-ghost use Rattle.tree.specs.LogWalk.{end_on, walked_on, node_next, parent_by, compared_by};
+ghost use Rattle.tree.specs.LogWalk.{range, known_by, nodes_by, position_of, Ready, Whole, Halves};
+ghost use Rattle.tree.specs.LogWalk.{SourceFacts, walked_by, end_on, walked_on, node_next, parent_by};
+ghost use Rattle.tree.specs.LogWalk.{compared_by};
 
-use crate::log_head::LogHead;
+use crate::known_log::KnownLog;
 use crate::log_text::{leaf_at, node_at, stored_at};
 use crate::walk_cursor::WalkCursor;
 use hash::strings::digest_66;
@@ -71,71 +71,6 @@ pub struct Walked {
     pub met: bool,
 }
 
-// The kept value of a full subtree: before it stand those of wider ones.
-fn kept_value(kept_size: u64, kept: &[u8; LogHead::BLOCK], start: u64, width: u64) -> [u8; 32]
-    requires whole { Whole start width × (is_full kept_size (range start width) ≡ true) }
-    requires kept_size_bound { kept_size ≤ 2 ^ level_limit }
-    ensures { result ≡ kept_value (known_in [] kept_size kept.now) (range start width) }
-{
-    stored_at(kept, u64::count_ones(kept_size / (2 * width)) as usize)
-}
-
-// Whether a value that was worked out is the one that is kept, if one is.
-fn is_met(
-    kept_size: u64,
-    kept: &[u8; LogHead::BLOCK],
-    start: u64,
-    width: u64,
-    value: [u8; 32],
-) -> bool
-    requires { Whole start width × (kept_size ≤ 2 ^ level_limit) }
-    ensures { result ≡ agrees (known_in [] kept_size kept.now) (range start width) value }
-{
-    if is_full(kept_size, start, width) {
-        let v = kept_value(kept_size, kept, start, width);
-        return value == v;
-    }
-    true
-}
-
-// The next node.
-pub(crate) fn next_node(nodes: &[u8], cursor: WalkCursor) -> Walked
-    requires { cursor.node ≤ 2 ^ level_limit }
-    ensures { result ≡ node_next (nodes_in nodes.now) cursor }
-{
-    let value = node_at(nodes, cursor.node);
-    Walked {
-        value,
-        cursor: cursor.past_node(),
-        met: true,
-    }
-}
-
-// A shown entry, which the cursor is at.
-pub(crate) fn shown_entry(
-    text: &[u8],
-    kept_size: u64,
-    kept: &[u8; LogHead::BLOCK],
-    start: u64,
-    cursor: WalkCursor,
-) -> Walked
-    requires { Ready text.now kept_size start cursor × (start < 2 ^ level_limit)
-        × (position_of cursor.position < start + 1) }
-    ensures { result ≡ walked_by text.now
-        (known_in text.now kept_size kept.now) [] (start + 1) cursor.node
-        (shown start) }
-{
-    let at = cursor.at;
-    let value = leaf_at(text, at + Layout::ENTRY);
-    let met = is_met(kept_size, kept, start, 1, value);
-    let next = cursor.past_entry(text);
-    Walked {
-        value,
-        cursor: next,
-        met,
-    }
-}
-
 // The byte before a child's value in its parent's string: 0x00 where the child is a leaf, 0x01
 // where it is a parent (001, 10.8).
 fn content_mark(width: u64) -> u8
@@ -144,84 +79,119 @@ fn content_mark(width: u64) -> u8
     if width == 1 { 0x00 } else { 0x01 }
 }
 
-// Whether the value of a parent is the one that is kept, if one is: only of a whole block, whose
-// halves are equal, a value is kept.
-fn is_parent_met(
-    kept_size: u64,
-    kept: &[u8; LogHead::BLOCK],
-    start: u64,
-    half: u64,
-    rest: u64,
-    value: [u8; 32],
-) -> bool
-    requires { Halves kept_size start half rest × (kept_size ≤ 2 ^ level_limit) }
-    ensures { result ≡ agrees (known_in [] kept_size kept.now) (range start (half + rest))
-        value }
-{
-    if rest == half {
-        return is_met(kept_size, kept, start, half + rest, value);
+impl KnownLog<'_> {
+    // The kept value of a full subtree: before it stand those of wider ones.
+    fn kept_value(&self, start: u64, width: u64) -> [u8; 32]
+        requires { Whole start width × (is_full self.now.kept_size (range start width) ≡ true) }
+        ensures { result ≡ kept_value (known_by self.now) (range start width) }
+    {
+        stored_at(
+            self.kept,
+            u64::count_ones(self.kept_size / (2 * width)) as usize,
+        )
     }
-    true
-}
 
-// A parent, of its left child of half as many entries as a block and its right child of the rest,
-// compared with its kept value, if there is one.
-pub(crate) fn joined(
-    kept_size: u64,
-    kept: &[u8; LogHead::BLOCK],
-    start: u64,
-    half: u64,
-    left: Walked,
-    rest: u64,
-    right: Walked,
-) -> Walked
-    requires { Halves kept_size start half rest × (kept_size ≤ 2 ^ level_limit) }
-    ensures { result ≡ compared_by (known_in [] kept_size kept.now)
-        (range start (half + rest)) (parent_by half left rest right) }
-{
-    let l = left.value;
-    let r = right.value;
-    let value = digest_66(content_mark(half), l, content_mark(rest), r);
-    let met = is_parent_met(kept_size, kept, start, half, rest, value);
-    Walked {
-        value,
-        cursor: right.cursor,
-        met: met & (left.met & right.met),
+    // Whether a value that was worked out is the one that is kept, if one is.
+    fn is_met(&self, start: u64, width: u64, value: [u8; 32]) -> bool
+        requires { Whole start width }
+        ensures { result ≡ agrees (known_by self.now) (range start width) value }
+    {
+        if is_full(self.kept_size, start, width) {
+            let v = self.kept_value(start, width);
+            return value == v;
+        }
+        true
+    }
+
+    // The same of a parent: only of a whole block, whose halves are equal, a value is kept.
+    fn is_parent_met(&self, start: u64, half: u64, rest: u64, value: [u8; 32]) -> bool
+        requires { Halves self.now.kept_size start half rest }
+        ensures { result ≡ agrees (known_by self.now) (range start (half + rest)) value }
+    {
+        if rest == half {
+            return self.is_met(start, half + rest, value);
+        }
+        true
+    }
+
+    // The next node.
+    pub(crate) fn next_node(&self, cursor: WalkCursor) -> Walked
+        requires { cursor.node ≤ 2 ^ level_limit }
+        ensures { result ≡ node_next (nodes_by self.now) cursor }
+    {
+        let value = node_at(self.nodes, cursor.node);
+        Walked {
+            value,
+            cursor: cursor.past_node(),
+            met: true,
+        }
+    }
+
+    // A shown entry, which the cursor is at.
+    pub(crate) fn shown_entry(&self, start: u64, cursor: WalkCursor) -> Walked
+        requires { Ready self.now.text.now self.now.kept_size start cursor × (start < 2 ^ level_limit)
+            × (position_of cursor.position < start + 1) }
+        ensures { result ≡ walked_by self.now.text.now (known_by self.now) [] (start + 1) cursor.node (shown start) }
+    {
+        let value = leaf_at(self.text, cursor.at + Layout::ENTRY);
+        let met = self.is_met(start, 1, value);
+        let next = cursor.past_entry(self.text);
+        Walked {
+            value,
+            cursor: next,
+            met,
+        }
+    }
+
+    // A parent, of its left child of half as many entries as a block and its right child of the
+    // rest, compared with its kept value, if there is one.
+    pub(crate) fn joined(
+        &self,
+        start: u64,
+        half: u64,
+        left: Walked,
+        rest: u64,
+        right: Walked,
+    ) -> Walked
+        requires { Halves self.now.kept_size start half rest }
+        ensures { result ≡ compared_by (known_by self.now) (range start (half + rest))
+            (parent_by half left rest right) }
+    {
+        let l = left.value;
+        let r = right.value;
+        let value = digest_66(content_mark(half), l, content_mark(rest), r);
+        let met = self.is_parent_met(start, half, rest, value);
+        Walked {
+            value,
+            cursor: right.cursor,
+            met: met & (left.met & right.met),
+        }
     }
 }
 
 // The walk over a whole block.
-pub(crate) fn subtree(
-    text: &[u8],
-    nodes: &[u8],
-    kept_size: u64,
-    kept: &[u8; LogHead::BLOCK],
-    start: u64,
-    width: u64,
-    cursor: WalkCursor,
-) -> Walked
-    requires { Whole start width × Ready text.now kept_size start cursor }
-    ensures { result ≡ walked_on text.now
-        (known_in text.now kept_size kept.now) (nodes_in nodes.now)
-        cursor.node (range start width) }
+pub(crate) fn subtree(log: &KnownLog<'_>, start: u64, width: u64, cursor: WalkCursor) -> Walked
+    requires { Whole start width × Ready log.now.text.now log.now.kept_size start cursor }
+    ensures { result ≡ walked_on log.now.text.now (known_by log.now) (nodes_by log.now) cursor.node
+        (range start width) }
 {
-    match source_at(kept_size, start, width, cursor.is_before(start + width)) {
+    match source_at(log.kept_size, start, width, cursor.is_before(start + width)) {
         Source::Retained => {
-            let value = kept_value(kept_size, kept, start, width);
+            let value = log.kept_value(start, width);
             Walked {
                 value,
                 cursor,
                 met: true,
             }
         }
-        Source::Given => next_node(nodes, cursor),
-        Source::Shown => shown_entry(text, kept_size, kept, start, cursor),
+        Source::Given => log.next_node(cursor),
+        Source::Shown => log.shown_entry(start, cursor),
         Source::Parent => {
             let half = width / 2;
-            let left = subtree(text, nodes, kept_size, kept, start, half, cursor);
+            let left = subtree(log, start, half, cursor);
             let middle = left.cursor;
-            let right = subtree(text, nodes, kept_size, kept, start + half, half, middle);
-            joined(kept_size, kept, start, half, left, half, right)
+            let right = subtree(log, start + half, half, middle);
+            log.joined(start, half, left, half, right)
         }
     }
 }

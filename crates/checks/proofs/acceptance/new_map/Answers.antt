@@ -6,4 +6,4 @@ pub returns-in-Search : goal.returns-in-Search
 returns-in-Search c = search-new _ _ _ _ _ _ c.in-Search.is c.with_pair.ensures
 
 pub returns-in-Monitor : goal.returns-in-Monitor
-returns-in-Monitor c = monitoring-new _ _ _ _ _ _ c.in-Monitor.is c.moved_pairs.ensures
+returns-in-Monitor c = monitoring-new _ _ _ _ _ _ c.requires c.in-Monitor.is c.moved_pairs.ensures

@@ -20,46 +20,44 @@ loop-kind-init c =
 pub returns-then-tree_size-position : goal.returns-then-tree_size-position
 returns-then-tree_size-position c =
     let it = followed-end _ _ _ _ _ _ _ _ _ _ _ _ c.loop-kind.invariant.1 _ c.next_asked-position.ensures c.if-tree_size-position.true in
-    record { asked = it.0; timestamps = it.1.0; marks = it.1.1 }
+    rw c.then_some.ensures (record { asked = it.0; timestamps = it.1.0; marks = it.1.1 })
 
 pub next_entry-requires : goal.next_entry-requires
 next_entry-requires c = let f = c.loop-kind.invariant.1 in record { lines = f.lines; loose = f.loose; within = f.within }
 
-pub returns-in_default : goal.returns-in_default
-returns-in_default c =
+pub returns-in_err-first : goal.returns-in_err-first
+returns-in_err-first c =
     let it = followed-missing _ _ _ _ _ _ _ _ _ _ _ _ c.loop-kind.invariant.1 _ c.next_asked-position.ensures
-    (omega (arith, c.if-tree_size-position.false)) c.in_default.ensures _ c.not_asked.ensures in
-    record { asked = it.0; timestamps = it.1.0; marks = it.1.1 }
+    (omega (arith, c.if-tree_size-position.false)) c.in_err-first.ensures in
+    rw c.from_residual.ensures (record { asked = it.0; timestamps = it.1.0; marks = it.1.1 })
 
 pub overflow_add-at : goal.overflow_add-at
-overflow_add-at c = let n = c.in-Some.ensures in omega (arith, n.4, n.5)
+overflow_add-at c = let n = c.in_ok-first.ensures in omega (arith, n.4, n.5)
 
 pub returns-then-position_at-position : goal.returns-then-position_at-position
 returns-then-position_at-position c =
     let p = c.position_at in
     let it = followed-elsewhere _ _ _ _ _ _ _ _ _ _ _ _ c.loop-kind.invariant.1 _ c.next_asked-position.ensures (omega (arith, c.if-tree_size-position.false))
-    _ c.in-Some.ensures _ p.ensures c.if-position_at-position.true _ c.not_asked-then-position_at-position.ensures in
+    _ c.in_ok-first.ensures _ p.ensures c.if-position_at-position.true in
     record { asked = it.0; timestamps = it.1.0; marks = it.1.1 }
 
-pub entry_asked-entry-requires : goal.entry_asked-entry-requires
-entry_asked-entry-requires c =
-    let n = c.in-Some.ensures in
+pub entry_asked-requires : goal.entry_asked-requires
+entry_asked-requires c =
+    let n = c.in_ok-first.ensures in
     record { lines = n.3; within = n.5; pairs = c.requires.pairs.0; marks = c.loop-kind.invariant.1.marks.alike }
 
-pub returns-then-not-entry : goal.returns-then-not-entry
-returns-then-not-entry c =
+pub returns-in_err-next : goal.returns-in_err-next
+returns-in_err-next c =
     let p = c.position_at in
-    let asked = c.entry_asked-entry.ensures.asked in
-    let after = c.entry_asked-entry.ensures.next in
-    let marks = c.entry_asked-entry.ensures.marks in
+    let asked = c.in_err-next.ensures.asked in
+    let marks = c.in_err-next.ensures.marks in
     let it = followed-unasked _ _ _ _ _ _ _ _ _ _ _ _ c.loop-kind.invariant.1 _ c.next_asked-position.ensures (omega (arith, c.if-tree_size-position.false))
-    _ c.in-Some.ensures _ p.ensures c.if-position_at-position.false _ asked _ marks
-    (not-true _ c.if-not-entry.true) _ c.not_asked-then-not-entry.ensures in
-    record { asked = it.0; timestamps = it.1.0; marks = it.1.1 }
+    _ c.in_ok-first.ensures _ p.ensures c.if-position_at-position.false _ asked _ marks refl in
+    rw c.from_residual-in_err-next.ensures (record { asked = it.0; timestamps = it.1.0; marks = it.1.1 })
 
 pub overflow_add-at-in-loop-kind : goal.overflow_add-at-in-loop-kind
 overflow_add-at-in-loop-kind c =
-    let n = c.in-Some.ensures in
+    let n = c.in_ok-first.ensures in
     omega (arith, n.4, n.5)
 
 pub overflow_add-from : goal.overflow_add-from
@@ -72,11 +70,11 @@ pub loop-kind-preserved : goal.loop-kind-preserved
 loop-kind-preserved c =
     let (same, f) = c.loop-kind.invariant in
     let p = c.position_at in
-    let asked = c.entry_asked-entry.ensures.asked in
-    let after = c.entry_asked-entry.ensures.next in
-    let marks = c.entry_asked-entry.ensures.marks in
+    let asked = c.in_ok-next.ensures.asked in
+    let after = c.in_ok-next.ensures.next in
+    let marks = c.in_ok-next.ensures.marks in
     let next =
     followed-next _ _ _ _ _ _ _ _ _ _ _ _ f _ c.next_asked-position.ensures (omega (arith, c.if-tree_size-position.false))
-    _ c.in-Some.ensures _ p.ensures c.if-position_at-position.false _ asked _ marks _ c.timestamp_at-timestamp.ensures
-    (not-false _ c.if-not-entry.false) _ after _ c.next-timestamps.ensures in
+    _ c.in_ok-first.ensures _ p.ensures c.if-position_at-position.false _ asked _ marks _ c.timestamp_at-timestamp.ensures
+    refl _ after _ c.next-timestamps.ensures in
     (next.marks.alike ∙ sym f.marks.alike ∙ same, next)

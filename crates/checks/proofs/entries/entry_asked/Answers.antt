@@ -1,7 +1,9 @@
 -- `checks::entries::entry_asked` meets its contract: the lookups are as the kind asks.
+use mathlib.Core.Path.{◌∙◌}
 use lib.ListN.{drop}
 use Rattle.inputs.specs.Response.{loose_in}
-use Rattle.checks.proofs.EntryAskedLaws.{search-asked, monitoring-asked, search_marks}
+use Rattle.checks.specs.Sections.{AfterLookups}
+use Rattle.checks.proofs.EntryAskedLaws.{told_if, search-asked, monitoring-asked, search_marks}
 use Rattle.checks.proofs.EntryAskedLaws.{monitoring_marks}
 use Rattle.checks.proofs.entries.entry_asked.Goals as goal
 
@@ -14,7 +16,8 @@ returns-in-Search c =
     let count = c.lookups_shown-lookups.ensures.count in
     let next = c.lookups_shown-lookups.ensures.next in
     let asked = search-asked _ _ a.tree_size a.positions.now a.versions.now a.position k ls in
-    record { asked = asked _ _ begin count; next = next; marks = search_marks _ _ _ _ _ k _ }
+    let given = told_if c.then_some.ensures (AfterLookups c.args.entries.now c.args.from) next in
+    record { asked = given.0 ∙ asked _ _ begin count; next = given.1; marks = search_marks _ _ _ _ _ k _ }
 
 pub returns-in-Monitor : goal.returns-in-Monitor
 returns-in-Monitor c =

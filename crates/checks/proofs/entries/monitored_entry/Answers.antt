@@ -6,7 +6,8 @@ use lib.ListN.{drop}
 use Rattle.hash.proofs.BytesLaws.{filled_front}
 use Rattle.inputs.specs.Response.{loose_in}
 use Rattle.inputs.proofs.PairLaws.{version_within}
-use Rattle.checks.proofs.EntryAskedLaws.{shown_all, shown_none}
+use Rattle.checks.specs.Sections.{AfterLookups}
+use Rattle.checks.proofs.EntryAskedLaws.{told_if, shown_all, shown_none}
 use borrow.Author.Rules.{rules}
 use Rattle.checks.proofs.entries.monitored_entry.Goals as goal
 
@@ -42,11 +43,13 @@ returns-in-Some c =
     let next = c.lookups_shown-lookups.ensures.next in
     let (front, _, length) = filled_front _ _ _ _ c.versions_not_above-shown.ensures in
     let asked = shown_all (loose_in (drop c.args.from c.args.entries.now)) _ _ _ _ _ begin count length (shown ∙ sym front) in
-    record { asked = asked; next = next; marks = inl (_, pair, shown, refl) }
+    let given = told_if c.then_some.ensures (AfterLookups c.args.entries.now c.args.from) next in
+    record { asked = given.0 ∙ asked; next = given.1; marks = inl (_, pair, shown, refl) }
 
 pub returns-in-None : goal.returns-in-None
 returns-in-None c =
     let count = c.lookups_shown-lookups-in-None.ensures.count in
     let next = c.lookups_shown-lookups-in-None.ensures.next in
     let asked = shown_none (loose_in (drop c.args.from c.args.entries.now)) _ _ count c.in-None.ensures in
-    record { asked = asked; next = next; marks = inr (c.in-None.ensures, refl) }
+    let given = told_if c.then_some-in-None.ensures (AfterLookups c.args.entries.now c.args.from) next in
+    record { asked = given.0 ∙ asked; next = given.1; marks = inr (c.in-None.ensures, refl) }

@@ -7,7 +7,7 @@ use Rattle.checks.proofs.lookups.entries_judged.Goals as goal
 pub loop-first-init : goal.loop-first-init
 loop-first-init c =
     let p = c.requires in
-    judged-none _ _ _ _ _ _ _ c.start-results.ensures p.lines p.loose
+    judged-none _ _ _ c.start-results.ensures p.lines p.loose
 
 pub next_entry-requires : goal.next_entry-requires
 next_entry-requires c = record { lines = c.loop-first.invariant.lines; loose = c.loop-first.invariant.loose; within = c.loop-first.invariant.within }
@@ -23,7 +23,7 @@ overflow_add-at-in-Some c =
 pub lookups_judged-summed-requires : goal.lookups_judged-summed-requires
 lookups_judged-summed-requires c =
     let h = c.in-Some.ensures in
-    record { lines = h.3; within = h.5; short = c.requires.short; outputs = c.requires.outputs; room = c.requires.room }
+    record { lines = h.3; within = h.5; short = c.requires.short }
 
 pub loop-first-smaller : goal.loop-first-smaller
 loop-first-smaller c =
@@ -35,10 +35,10 @@ pub loop-first-preserved : goal.loop-first-preserved
 loop-first-preserved c =
     let summary = c.lookups_judged-summed.ensures.summary in
     let after = c.lookups_judged-summed.ensures.next in
-    judged-next _ _ _ _ _ _ _ _ c.loop-first.invariant _ _ _ _ _ _ _ c.in-Some.ensures
+    judged-next _ _ _ _ c.loop-first.invariant _ _ _ _ _ _ _ c.in-Some.ensures
     c.prefix_root_at-root.ensures
     c.position_at-position.ensures refl summary after c.next-results.ensures
 
 pub returns-in-None : goal.returns-in-None
 returns-in-None c =
-    judged-all _ _ _ _ _ _ _ _ c.loop-first.invariant c.in-None.ensures
+    judged-all _ _ _ _ c.loop-first.invariant c.in-None.ensures

@@ -8,7 +8,7 @@ use Rattle.checks.proofs.lookups.lookups_judged.Goals as goal
 pub loop-stop-init : goal.loop-stop-init
 loop-stop-init c =
     let p = c.requires in
-    summed-start _ _ _ _ _ _ _ _ _ c.start-summary.ensures p.lines p.within
+    summed-start _ _ _ _ _ c.start-summary.ensures p.lines p.within
 
 pub next_lookup-requires : goal.next_lookup-requires
 next_lookup-requires c = record { lines = c.loop-stop.invariant.lines; within = c.loop-stop.invariant.within }
@@ -30,7 +30,7 @@ next-summary-requires c =
     let short = c.requires.short in
     let forward = c.loop-stop.invariant.forward in
     let within = c.loop-stop.invariant.within in
-    record { few = omega arith; outputs = c.requires.outputs; room = c.requires.room }
+    omega arith
 
 pub loop-stop-smaller : goal.loop-stop-smaller
 loop-stop-smaller c =
@@ -38,9 +38,9 @@ loop-stop-smaller c =
 
 pub loop-stop-preserved : goal.loop-stop-preserved
 loop-stop-preserved c =
-    summed-next _ _ _ _ _ _ _ _ _ _ c.loop-stop.invariant _ _ _ c.in-Some.ensures c.next-summary.ensures
+    summed-next _ _ _ _ _ _ c.loop-stop.invariant _ _ _ c.in-Some.ensures c.next-summary.ensures
 
 pub returns-in-None : goal.returns-in-None
 returns-in-None c =
-    let it = summed-all _ _ _ _ _ _ _ _ _ _ c.loop-stop.invariant _ (beginning_root _ _ c.start-summary.ensures) c.in-None.ensures in
+    let it = summed-all _ _ _ _ _ _ c.loop-stop.invariant _ (beginning_root _ _ c.start-summary.ensures) c.in-None.ensures in
     record { summary = it.0; next = it.1 }

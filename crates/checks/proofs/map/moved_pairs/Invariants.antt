@@ -4,7 +4,7 @@ use mathlib.Core.List.{List}
 use Prim.Native.Nat.{ℕ, ◌≤◌}
 use Rattle.rules.specs.Limits.{map_limit}
 use Rattle.inputs.specs.declared.state.MonitoringMap.{MonitoringMap}
-use Rattle.checks.specs.Map.{HoldsAll}
+use Rattle.checks.specs.Map.{Holds}
 use Rattle.checks.proofs.MovedPairLaws.{moved_from}
 use Rattle.checks.proofs.map.moved_pairs.Given as goal
 
@@ -14,7 +14,4 @@ old positions versions count = record { positions = positions; versions = versio
 
 abbrev pub invariant-loop-i : goal.invariant-loop-i
 invariant-loop-i l =
-    (l.i ≤ l.initial.i) × (l.initial.i ≤ map_limit) × HoldsAll (moved_from l.tree_size (old l.positions l.versions l.initial.i) l.i) l.moved
-
-abbrev pub decreases-loop-i : goal.decreases-loop-i
-decreases-loop-i l = l.i
+    (l.i ≤ l.initial.i) × (l.initial.i ≤ map_limit) × Holds (moved_from l.tree_size (old l.positions l.versions l.initial.i) l.i) l.moved

@@ -8,8 +8,5 @@ use Rattle.checks.proofs.map.version_there.Given as goal
 
 abbrev pub invariant-loop-i : goal.invariant-loop-i
 invariant-loop-i l =
-    (l.i ≤ l.map.count) × (l.map.count ≤ map_limit) ×
-    (version_at l.position (pairs_from l.map l.i) ≡ version_at l.position (pairs_in l.map))
-
-abbrev pub decreases-loop-i : goal.decreases-loop-i
-decreases-loop-i l = l.map.count - l.i
+    (l.i ≤ l.fn.map.count) × (l.fn.map.count ≤ map_limit) ×
+    (version_at l.position (pairs_from l.fn.map l.i) ≡ version_at l.position (pairs_in l.fn.map))

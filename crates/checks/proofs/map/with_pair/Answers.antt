@@ -1,6 +1,5 @@
 -- `checks::map::with_pair` meets its contract: the pair is carried from index to index, and where
 -- it is stored, the one that stood there is carried on.
-use mathlib.Core.Bool.{false≢true}
 use Prim.Native.Nat.{◌+◌}
 use native.Mathlib.Omega.{arith}
 use Rattle.checks.specs.Map.{pairs_in, put_version}
@@ -32,7 +31,7 @@ loop-i-preserved c =
 pub returns-then-count-eq-PAIRS : goal.returns-then-count-eq-PAIRS
 returns-then-count-eq-PAIRS c =
     let l = c.loop-i in
-    (carried-beyond l.invariant.1 l.invariant.2 (omega arith) c.if-count-eq-PAIRS.true, λ e. absurd (false≢true e))
+    carried-beyond l.invariant.1 l.invariant.2 (omega arith) c.if-count-eq-PAIRS.true
 
 pub returns : goal.returns
 returns c = let l = c.loop-i in carried-last l.invariant.1 l.invariant.2 (omega arith) (omega arith)

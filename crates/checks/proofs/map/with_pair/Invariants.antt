@@ -9,8 +9,4 @@ use Rattle.checks.proofs.map.with_pair.Given as goal
 abbrev pub invariant-loop-i : goal.invariant-loop-i
 invariant-loop-i l =
     (l.i ≤ l.count) × (l.count ≤ map_limit)
-    × Carrying (put_version l.position l.version (pairs_in l.map)) l.count l.positions l.versions l.carried l.carried_version l.i
-
-abbrev pub decreases-loop-i : goal.decreases-loop-i
-decreases-loop-i l =
-    l.count - l.i
+    × Carrying (put_version l.position l.version (pairs_in l.fn.map)) l.count l.positions l.versions l.carried l.carried_version l.i

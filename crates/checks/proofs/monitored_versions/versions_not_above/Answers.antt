@@ -1,48 +1,60 @@
--- `checks::monitored_versions::versions_not_above` meets its contract: of the ladder's first i
--- versions those not above the version are stored.
+-- `checks::monitored_versions::versions_not_above` meets its contract: of the ladder's first versions
+-- those not above the version are stored.
 use Prim.Native.Nat.{◌+◌}
 use native.Mathlib.Omega.{arith}
+use Rattle.hash.proofs.BytesLaws.{filled_front}
 use Rattle.checks.proofs.MonitoredVersionLaws.{Storing, storing_start, storing-past, storing-room}
-use Rattle.checks.proofs.MonitoredVersionLaws.{storing-next, storing-end, whole-fits}
+use Rattle.checks.proofs.MonitoredVersionLaws.{storing-next, storing-end, within_fits}
 use Rattle.checks.proofs.monitored_versions.versions_not_above.Goals as goal
-use Rattle.checks.proofs.monitored_versions.versions_not_above.Goals.{then-all-i, else-all-i}
+use Rattle.checks.proofs.monitored_versions.versions_not_above.Goals.{then-shown-version, else-shown-version}
 
-pub loop-i-init : goal.loop-i-init
-loop-i-init c =
-    let o = c.of-whole in
-    (omega arith, whole-fits _ c.requires _ _ o.ensures.0 o.ensures.1, storing_start c.args.version)
+pub shared_ref_as_front-all : goal.shared_ref_as_front-all
+shared_ref_as_front-all c = omega (arith, c.of-whole.ensures.1, within_fits c.args.version c.requires)
 
-pub offset_bounds-versions-length : goal.offset_bounds-versions-length
-offset_bounds-versions-length c =
-    let o = c.of-whole in
-    omega (arith, storing-room _ c.requires _ _ o.ensures.0 o.ensures.1 _ _ _ c.loop-i.invariant.2 c.loop-i-test.true c.if-all-i.true)
+pub slice_bounds-all-end : goal.slice_bounds-all-end
+slice_bounds-all-end c = (filled_front _ _ _ _ c.of-whole.ensures).2
+
+pub loop-shown-init : goal.loop-shown-init
+loop-shown-init c = storing_start c.args.version
 
 pub bounds-versions-length : goal.bounds-versions-length
 bounds-versions-length c =
-    let o = c.of-whole in
-    omega (arith, storing-room _ c.requires _ _ o.ensures.0 o.ensures.1 _ _ _ c.loop-i.invariant.2 c.loop-i-test.true c.if-all-i.true)
+    let l = c.loop-shown in
+    omega (
+      arith,
+      storing-room _ c.requires _ (filled_front _ _ _ _ c.of-whole.ensures).0 _ _ _ l.invariant (omega arith) c.if-shown-version.true,
+    )
+
+pub offset_bounds-versions-length : goal.offset_bounds-versions-length
+offset_bounds-versions-length c =
+    let l = c.loop-shown in
+    omega (
+      arith,
+      storing-room _ c.requires _ (filled_front _ _ _ _ c.of-whole.ensures).0 _ _ _ l.invariant (omega arith) c.if-shown-version.true,
+    )
 
 pub overflow_add-length : goal.overflow_add-length
 overflow_add-length c =
-    let o = c.of-whole in
-    omega (arith, storing-room _ c.requires _ _ o.ensures.0 o.ensures.1 _ _ _ c.loop-i.invariant.2 c.loop-i-test.true c.if-all-i.true)
+    let l = c.loop-shown in
+    omega (
+      arith,
+      storing-room _ c.requires _ (filled_front _ _ _ _ c.of-whole.ensures).0 _ _ _ l.invariant (omega arith) c.if-shown-version.true,
+    )
 
-pub loop-i-preserved : goal.loop-i-preserved
-loop-i-preserved c =
-    let l = c.loop-i in
-    let o = c.of-whole in
+pub loop-shown-preserved : goal.loop-shown-preserved
+loop-shown-preserved c =
+    let l = c.loop-shown in
     let v = c.args.version in
-    let on : Storing v c.if-all-i.versions c.if-all-i.length (l.i + 1) =
-    elim c.if-all-i.branch [
-      | then-all-i w ↦ rw (w.versions-is, w.length-is)
-          (storing-next _ c.requires _ _ o.ensures.0 o.ensures.1 _ _ _ l.invariant.2 c.loop-i-test.true w.if-all-i.true)
-      | else-all-i w ↦ rw (w.versions-is, w.length-is)
-          (storing-past _ c.requires _ _ o.ensures.0 o.ensures.1 _ _ _ l.invariant.2 c.loop-i-test.true w.if-all-i.false)
+    let all = (filled_front _ _ _ _ c.of-whole.ensures).0 in
+    let on : Storing v c.if-shown-version.versions c.if-shown-version.length (l.shown-index + 1) =
+    elim c.if-shown-version.branch [
+      | then-shown-version w ↦ rw (w.versions-is, w.length-is)
+          (storing-next _ c.requires _ all _ _ _ l.invariant (omega arith) w.if-shown-version.true)
+      | else-shown-version w ↦ rw (w.versions-is, w.length-is)
+          (storing-past _ c.requires _ all _ _ _ l.invariant (omega arith) w.if-shown-version.false)
     ] in
-    (omega arith, l.invariant.1, on)
+    on
 
 pub returns : goal.returns
 returns c =
-    let l = c.loop-i in
-    let o = c.of-whole in
-    storing-end _ c.requires _ _ o.ensures.0 o.ensures.1 _ _ _ l.invariant.2 c.loop-i-test.false
+    storing-end _ c.requires _ (filled_front _ _ _ _ c.of-whole.ensures).0 _ _ _ c.loop-shown.invariant (omega arith)

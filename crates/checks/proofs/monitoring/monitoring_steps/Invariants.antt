@@ -5,9 +5,9 @@ use lib.ListN.{length}
 use Rattle.checks.proofs.MonitoringStepLaws.{Stepping}
 use Rattle.checks.proofs.monitoring.monitoring_steps.Given as goal
 
-abbrev pub invariant-loop-step : goal.invariant-loop-step
-invariant-loop-step l =
+abbrev pub invariant-loop-at : goal.invariant-loop-at
+invariant-loop-at l =
     (l.at ≤ length l.steps) × Stepping l.steps l.outputs l.initial.marks l.versions l.marks l.offsets l.at l.there
 
-abbrev pub decreases-loop-step : goal.decreases-loop-step
-decreases-loop-step l = length l.steps - l.at
+abbrev pub decreases-loop-at : goal.decreases-loop-at
+decreases-loop-at l = length l.steps - l.at

@@ -1,13 +1,12 @@
--- `checks::monitoring::smallest_of` meets its contract: it is the smallest from each version on,
--- from the last back to the first.
+-- `checks::monitoring::smallest_of` meets its contract: the smallest is the smaller of `least` and of
+-- the smallest of those left.
 use mathlib.Core.Path.{◌≡◌}
-use Prim.Native.Nat.{◌≤◌}
-use lib.ListN.{length, drop}
+use Prim.Native.Nat.{◌≤◌, min}
+use lib.ListN.{drop}
+use Rattle.rules.specs.Limits.{version_bound}
 use Rattle.checks.specs.MonitoredVersions.{smallest}
 use Rattle.checks.proofs.monitoring.smallest_of.Given as goal
 
-abbrev pub invariant-loop-i : goal.invariant-loop-i
-invariant-loop-i l = (l.i ≤ length l.versions) × (l.least ≡ smallest (drop l.i l.versions))
-
-abbrev pub decreases-loop-i : goal.decreases-loop-i
-decreases-loop-i l = l.i
+abbrev pub invariant-loop-version : goal.invariant-loop-version
+invariant-loop-version l =
+    (l.least ≤ version_bound) × (min l.least (smallest (drop l.version-index l.versions)) ≡ smallest l.versions)

@@ -9,7 +9,7 @@ use Rattle.checks.proofs.monitoring.step_on.Goals as goal
 use Rattle.checks.proofs.monitoring.step_on.Goals.{then-next-i, else-next-i}
 
 pub loop-i-init : goal.loop-i-init
-loop-i-init c = (omega arith, (c.requires.pairs, refl))
+loop-i-init c = (c.requires.pairs, refl)
 
 pub next_not_above-requires : goal.next_not_above-requires
 next_not_above-requires c = version_within c.args.versions.now c.loop-i.i c.requires.versions (omega arith)
@@ -19,10 +19,10 @@ loop-i-preserved c =
     let l = c.loop-i in
     let on : Moved c.args.versions.now c.args.next.now c.args.from c.if-next-i.next (l.i + 1) =
     elim c.if-next-i.branch [
-      | then-next-i w ↦ moved_on _ _ _ l.next l.i _ _ l.invariant.1 (omega arith) w.if-next-i.true w.next_not_above.ensures w.next-is
-      | else-next-i w ↦ moved_not _ _ _ l.next l.i _ l.invariant.1 (omega arith) w.if-next-i.false w.next-is
+      | then-next-i w ↦ moved_on _ _ _ l.next l.i _ _ l.invariant (omega arith) w.if-next-i.true w.next_not_above.ensures w.next-is
+      | else-next-i w ↦ moved_not _ _ _ l.next l.i _ l.invariant (omega arith) w.if-next-i.false w.next-is
     ] in
-    (omega arith, on)
+    on
 
 pub returns : goal.returns
-returns c = let l = c.loop-i in moved_all _ _ _ _ l.i l.invariant.1 (omega arith)
+returns c = let l = c.loop-i in moved_all _ _ _ _ l.i l.invariant (omega arith)

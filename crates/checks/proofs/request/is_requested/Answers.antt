@@ -1,4 +1,4 @@
--- `checks::given::is_own` meets its contract: a response of another kind is not the call's own, and
+-- `checks::request::is_requested` meets its contract: a response of another kind is not the call's own, and
 -- of others the identifier and the label decide.
 use mathlib.Core.Path.{sym, ◌∙◌}
 use Rattle.checks.proofs.RequestLaws.{kind_foreign, identifier-foreign, label-decides}

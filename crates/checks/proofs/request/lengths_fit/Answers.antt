@@ -1,4 +1,4 @@
--- `checks::given::lengths_fit` meets its contract: an input that is too long decides, and else the
+-- `checks::request::lengths_fit` meets its contract: an input that is too long decides, and else the
 -- identifier's length does.
 use mathlib.Core.Path.{refl, sym}
 use mathlib.Core.Bool.{and-true}

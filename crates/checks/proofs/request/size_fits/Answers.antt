@@ -1,4 +1,4 @@
--- `checks::given::size_fits` meets its contract: 0 and sizes that are too large do not fit, and of
+-- `checks::request::size_fits` meets its contract: 0 and sizes that are too large do not fit, and of
 -- others the kept size decides.
 use Rattle.checks.proofs.RequestLaws.{size-zero, size-large, kept-decides}
 use Rattle.checks.proofs.request.size_fits.Goals as goal

@@ -1,4 +1,4 @@
--- `checks::given::target_fits` meets its contract: in a search the version decides, and monitoring
+-- `checks::request::target_fits` meets its contract: in a search the version decides, and monitoring
 -- has none.
 use Rattle.checks.proofs.RequestLaws.{search-fits, monitor-fits}
 use Rattle.checks.proofs.request.target_fits.Goals as goal

@@ -1,4 +1,4 @@
--- `checks::given::try_6_to_8` meets its contract: the first of the three tests that fails gives its
+-- `checks::request::try_6_to_8` meets its contract: the first of the three tests that fails gives its
 -- number.
 use mathlib.Core.Path.{sym, ◌∙◌}
 use Rattle.checks.proofs.RequestLaws.{first-foreign, first-size, first-version, first_none}

@@ -1,4 +1,4 @@
--- `checks::given::version_fits` meets its contract: no version of the map before i is above this
+-- `checks::request::version_fits` meets its contract: no version of the map before i is above this
 -- one, so those from i on decide.
 use mathlib.Core.Path.{refl, sym, ◌∙◌}
 use mathlib.Core.Bool.{true, false}
@@ -9,14 +9,14 @@ use Rattle.checks.proofs.request.version_fits.Goals as goal
 pub returns-then-version-gt-GREATEST_VERSION : goal.returns-then-version-gt-GREATEST_VERSION
 returns-then-version-gt-GREATEST_VERSION c = version-great _ _ c.if-version-gt-GREATEST_VERSION.true
 
-pub loop-i-init : goal.loop-i-init
-loop-i-init c = refl
+pub loop-other-init : goal.loop-other-init
+loop-other-init c = refl
 
-pub returns-then-version-versions : goal.returns-then-version-versions
-returns-then-version-versions c = versions-decide _ _ true c.if-version-gt-GREATEST_VERSION.false (sym c.loop-i.invariant ∙ any-stops _ _ _ c.loop-i-test.true (lt-ltb _ _ c.if-version-versions.true))
+pub returns-then-version-other : goal.returns-then-version-other
+returns-then-version-other c = versions-decide _ _ true c.if-version-gt-GREATEST_VERSION.false (sym c.loop-other.invariant ∙ any-stops _ _ _ c.loop-other-test.true (lt-ltb _ _ c.if-version-other.true))
 
-pub loop-i-preserved : goal.loop-i-preserved
-loop-i-preserved c = any_next _ _ _ c.loop-i-test.true (le-ltb _ _ c.if-version-versions.false) ∙ c.loop-i.invariant
+pub loop-other-preserved : goal.loop-other-preserved
+loop-other-preserved c = any_next _ _ _ c.loop-other-test.true (le-ltb _ _ c.if-version-other.false) ∙ c.loop-other.invariant
 
 pub returns : goal.returns
-returns c = versions-decide _ _ false c.if-version-gt-GREATEST_VERSION.false (sym c.loop-i.invariant ∙ any-ends _ _ _ c.loop-i-test.false)
+returns c = versions-decide _ _ false c.if-version-gt-GREATEST_VERSION.false (sym c.loop-other.invariant ∙ any-ends _ _ _ c.loop-other-test.false)

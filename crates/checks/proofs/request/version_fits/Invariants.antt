@@ -7,8 +7,5 @@ use lib.ListN.{length, drop}
 use Rattle.lists.specs.Lists.{any}
 use Rattle.checks.proofs.request.version_fits.Given as goal
 
-abbrev pub invariant-loop-i : goal.invariant-loop-i
-invariant-loop-i l = any (λ (v : ℕ). ltb l.version v) (drop l.i l.versions) ≡ any (λ (v : ℕ). ltb l.version v) l.versions
-
-abbrev pub decreases-loop-i : goal.decreases-loop-i
-decreases-loop-i l = length l.versions - l.i
+abbrev pub invariant-loop-other : goal.invariant-loop-other
+invariant-loop-other l = any (λ (v : ℕ). ltb l.version v) (drop l.other-index l.versions) ≡ any (λ (v : ℕ). ltb l.version v) l.versions

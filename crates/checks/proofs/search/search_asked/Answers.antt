@@ -2,10 +2,11 @@
 use mathlib.Core.Path.{◌≡◌, refl, ◌∙◌}
 use native.Mathlib.Omega.{arith}
 use lib.ListN.{take}
+use Rattle.hash.specs.Bytes.{padded}
 use Rattle.hash.proofs.BytesLaws.{filled_front, part_count}
 use Rattle.tree.specs.Ladder.{ladder}
 use Rattle.tree.proofs.LadderFillLaws.{within_some}
-use Rattle.checks.proofs.ShapeLaws.{part_short, target_version, no_pairs, search-shape}
+use Rattle.checks.proofs.ShapeLaws.{part_short, target_version, no_pairs, search-not, search-unasked, search-shape}
 use Rattle.checks.proofs.search.search_asked.Goals as goal
 
 pub slice_bounds-ladder-end : goal.slice_bounds-ladder-end
@@ -14,13 +15,21 @@ slice_bounds-ladder-end c = (filled_front _ _ _ _ c.of-whole.ensures).1
 pub slice_bounds-entries_asked-end : goal.slice_bounds-entries_asked-end
 slice_bounds-entries_asked-end c = part_count _ _ (filled_front _ _ _ _ c.of-whole.ensures).1
 
-pub entries_asked-entries-requires : goal.entries_asked-entries-requires
-entries_asked-entries-requires c =
+pub entries_asked-requires : goal.entries_asked-requires
+entries_asked-requires c =
     let p = c.requires.possible in
     let e = c.of.ensures in
     let l = part_short c.args.text.now c.args.call.response.entries.part _ p.triable.short in
     let f = p.triable.offsets.3 in
     record { lines = rw e f.entries; loose = rw e f.none_loose; short = rw e l; many = p.largest; pairs = (no_pairs, refl) }
+
+pub returns-in_err-timestamps : goal.returns-in_err-timestamps
+returns-in_err-timestamps c =
+    let wanted : take c.of-whole.result.length c.of-whole.result.versions ≡ ladder c.args.call.response.target.version =
+    let v0 = target_version _ _ _ c.requires.kind c.requires.possible.triable.target in
+    (filled_front _ _ _ _ c.of-whole.ensures).0 ∙ within_some c.args.call.response.target.version (omega (arith, v0)) in
+    rw c.from_residual.ensures
+    (λ call i m. search-not i c.requires.kind refl c.of.ensures c.args.commitments.now _ wanted c.in_err-timestamps.ensures.asked refl)
 
 pub slice_bounds-ladder-end-2 : goal.slice_bounds-ladder-end-2
 slice_bounds-ladder-end-2 c = (filled_front _ _ _ _ c.of-whole.ensures).1
@@ -28,23 +37,32 @@ slice_bounds-ladder-end-2 c = (filled_front _ _ _ _ c.of-whole.ensures).1
 pub slice_bounds-search_steps-end : goal.slice_bounds-search_steps-end
 slice_bounds-search_steps-end c = part_count _ _ (filled_front _ _ _ _ c.of-whole.ensures).1
 
-pub search_steps-steps-requires : goal.search_steps-steps-requires
-search_steps-steps-requires c =
+pub search_steps-requires : goal.search_steps-requires
+search_steps-requires c =
     let p = c.requires.possible in
     let e = c.of-2.ensures in
     let l = part_short c.args.text.now c.args.call.response.steps.part _ p.triable.short in
-    record {
-      lines = rw e p.triable.offsets.3.steps;
-      short = rw e l;
-      ladder = (let wanted0 : (take c.of-whole.result.length c.of-whole.result.versions ≡ ladder c.args.call.response.target.version) = let v0 = target_version _ _ _ c.requires.kind c.requires.possible.triable.target in
-          (filled_front _ _ _ _ c.of-whole.ensures).0 ∙ within_some c.args.call.response.target.version (omega (arith, v0)) in wanted0);
-      outputs = p.triable.outputs;
-      room = c.requires.room;
-    }
+    let wanted : take c.of-whole.result.length c.of-whole.result.versions ≡ ladder c.args.call.response.target.version =
+    let v0 = target_version _ _ _ c.requires.kind p.triable.target in
+    (filled_front _ _ _ _ c.of-whole.ensures).0 ∙ within_some c.args.call.response.target.version (omega (arith, v0)) in
+    record { lines = rw e p.triable.offsets.3.steps; short = rw e l; ladder = wanted; outputs = p.triable.outputs }
+
+pub returns-in_err-outputs : goal.returns-in_err-outputs
+returns-in_err-outputs c =
+    let wanted : take c.of-whole.result.length c.of-whole.result.versions ≡ ladder c.args.call.response.target.version =
+    let v0 = target_version _ _ _ c.requires.kind c.requires.possible.triable.target in
+    (filled_front _ _ _ _ c.of-whole.ensures).0 ∙ within_some c.args.call.response.target.version (omega (arith, v0)) in
+    rw c.from_residual-in_err-outputs.ensures
+    (λ call i m.
+    search-unasked i c.requires.kind c.of-2.ensures c.of.ensures c.args.commitments.now _ wanted
+    c.in_ok-timestamps.ensures.asked refl c.in_err-outputs.ensures)
 
 pub returns : goal.returns
 returns c =
+    let wanted : take c.of-whole.result.length c.of-whole.result.versions ≡ ladder c.args.call.response.target.version =
+    let v0 = target_version _ _ _ c.requires.kind c.requires.possible.triable.target in
+    (filled_front _ _ _ _ c.of-whole.ensures).0 ∙ within_some c.args.call.response.target.version (omega (arith, v0)) in
     λ call i m.
-    search-shape i c.requires.kind c.of-2.ensures c.of.ensures _ _ _ (let wanted0 : (take c.of-whole.result.length c.of-whole.result.versions ≡ ladder c.args.call.response.target.version) = let v0 = target_version _ _ _ c.requires.kind c.requires.possible.triable.target in
-    (filled_front _ _ _ _ c.of-whole.ensures).0 ∙ within_some c.args.call.response.target.version (omega (arith, v0)) in wanted0)
-    c.entries_asked-entries.ensures.asked (c.search_steps-steps.ensures.asked, (c.search_steps-steps.ensures.there, c.search_steps-steps.ensures.offsets)) c.entries_asked-entries.ensures.timestamps refl
+    search-shape i c.requires.kind c.of-2.ensures c.of.ensures _ _ wanted c.in_ok-timestamps.ensures.asked refl
+    (record { outputs = c.in_ok-outputs.outputs; timestamps = c.in_ok-timestamps.timestamps })
+    c.in_ok-outputs.ensures c.in_ok-timestamps.ensures.timestamps

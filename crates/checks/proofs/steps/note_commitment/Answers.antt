@@ -21,7 +21,6 @@ bounds-offsets-index c =
       arith,
       (let within0 : (c.find_output-found.result.index < records_capacity) = let f0 = c.find_output-found in
           found_below _ _ records_capacity _ (omega arith) (omega (arith, c.requires.outputs)) f0.ensures.any in within0),
-      c.requires.room,
     )
 
 pub returns-then-found : goal.returns-then-found

@@ -1,5 +1,4 @@
 -- `checks::trial::try_14` meets its contract: the head says whether the kept values were met.
-use mathlib.Core.Path.{refl}
 use borrow.Author.Tests.{not-true, not-false}
 use Rattle.checks.proofs.Trial6to14Laws.{head-refused, head_passed}
 use Rattle.checks.proofs.trial.try_14.Goals as goal
@@ -7,7 +6,7 @@ use Rattle.checks.proofs.trial.try_14.Goals as goal
 pub returns-then-not-head : goal.returns-then-not-head
 returns-then-not-head c =
     head-refused _ _ _ _ _ _ c.of.ensures c.of-2.ensures _ _
-    c.log_head-head.ensures.result_after (not-true _ c.if-not-head.true) _ refl
+    c.log_head-head.ensures.result_after (not-true _ c.if-not-head.true)
 
 pub returns : goal.returns
 returns c =

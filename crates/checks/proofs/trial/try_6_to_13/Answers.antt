@@ -1,8 +1,11 @@
 -- `checks::trial::try_6_to_13` meets its contract: 6 to 8 are tried, and 9 to 13 on what they let
 -- pass.
-use mathlib.Core.Path.{sym}
+use mathlib.Core.Path.{◌≡◌, sym, ap}
 use native.Mathlib.Omega.{arith}
 use lib.Seq.{length-take-le}
+use borrow.Author.Rules.{rules}
+use Rattle.std.specs.Prelude.{Err}
+use Rattle.inputs.specs.Refusal.{number_in}
 use Rattle.checks.proofs.Trial6to14Laws.{label-fits, first-refused, first-passed, first-possible}
 use Rattle.checks.proofs.trial.try_6_to_13.Goals as goal
 
@@ -12,15 +15,10 @@ slice_bounds-try_6_to_8-end c = sym (length-take-le _ _ c.requires.label_within)
 pub slice_bounds-try_6_to_8-end-2 : goal.slice_bounds-try_6_to_8-end-2
 slice_bounds-try_6_to_8-end-2 c = sym (length-take-le _ _ c.requires.versions_within)
 
-pub try_6_to_8-number-requires : goal.try_6_to_8-number-requires
-try_6_to_8-number-requires c =
+pub try_6_to_8-requires : goal.try_6_to_8-requires
+try_6_to_8-requires c =
     let P = c.requires in
     record { fields = P.offsets.0; identifier = omega (arith, P.identifier); label = label-fits P }
-
-pub returns-then-number-ne0 : goal.returns-then-number-ne0
-returns-then-number-ne0 c =
-    first-refused c.requires _ _ c.try_6_to_8-number.ensures c.if-number-ne0.true _
-    c.refused_lines.ensures
 
 pub slice_bounds-try_9_to_13-end : goal.slice_bounds-try_9_to_13-end
 slice_bounds-try_9_to_13-end c = sym (length-take-le _ _ c.requires.label_within)
@@ -31,13 +29,21 @@ slice_bounds-try_9_to_13-end-2 c = sym (length-take-le _ _ c.requires.positions_
 pub slice_bounds-try_9_to_13-end-3 : goal.slice_bounds-try_9_to_13-end-3
 slice_bounds-try_9_to_13-end-3 c = sym (length-take-le _ _ c.requires.versions_within)
 
+pub returns-in_err-try_6_to_8 : goal.returns-in_err-try_6_to_8
+returns-in_err-try_6_to_8 c =
+    let e : c.from_residual.result ≡ Err c.in_err-try_6_to_8.field-0.0 = search rules in
+    rw e
+    (first-refused c.requires _ _ c.try_6_to_8.ensures c.in_err-try_6_to_8.field-0.0
+    (ap number_in c.in_err-try_6_to_8.was))
+
 pub try_9_to_13-requires : goal.try_9_to_13-requires
 try_9_to_13-requires c =
     let P = c.requires in
-    let z = c.if-number-ne0.false in
-    record { possible = first-possible P _ _ c.try_6_to_8-number.ensures z; label = label-fits P }
+    record {
+      possible = first-possible P _ _ c.try_6_to_8.ensures (ap number_in c.in_ok-try_6_to_8.was);
+      label = label-fits P;
+    }
 
 pub returns : goal.returns
 returns c =
-    let z = c.if-number-ne0.false in
-    first-passed c.requires _ _ c.try_6_to_8-number.ensures z _ c.try_9_to_13.ensures
+    first-passed c.requires _ _ c.try_6_to_8.ensures (ap number_in c.in_ok-try_6_to_8.was) _ c.try_9_to_13.ensures

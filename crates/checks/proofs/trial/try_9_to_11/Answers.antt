@@ -5,40 +5,32 @@ use Rattle.checks.proofs.ShapeTrialLaws.{shape-refused, nodes-refused, outputs-r
 use Rattle.checks.proofs.ShapeTrialLaws.{timestamps-refused, clock-refused, tried_passed}
 use Rattle.checks.proofs.trial.try_9_to_11.Goals as goal
 
-pub returns-then-not-shape : goal.returns-then-not-shape
-returns-then-not-shape c =
-    shape-refused c.requires.possible c.asked_by_kind-shape.ensures (not-true _ c.if-not-shape.true) _
-    c.refused_shape.ensures
+pub returns-in_default : goal.returns-in_default
+returns-in_default c = shape-refused c.requires.possible c.asked_by_kind.new.commitments c.in_default.ensures
 
 pub returns-then-nodes-call : goal.returns-then-nodes-call
 returns-then-nodes-call c =
-    nodes-refused c.requires.possible c.asked_by_kind-shape.ensures
-    (not-false _ c.if-not-shape.false) c.of.ensures c.nodes_asked-nodes.ensures
-    c.if-nodes-call.true _ c.refused_shape-then-nodes-call.ensures
+    nodes-refused c.requires.possible _ c.in-Some.ensures c.of.ensures c.nodes_asked-nodes.ensures
+    c.if-nodes-call.true
+
+pub returns-then-not-shape : goal.returns-then-not-shape
+returns-then-not-shape c =
+    outputs-refused c.requires.possible _ c.in-Some.ensures c.of.ensures c.nodes_asked-nodes.ensures
+    c.if-nodes-call.false (not-true _ c.if-not-shape.true)
 
 pub returns-then-not-shape-2 : goal.returns-then-not-shape-2
 returns-then-not-shape-2 c =
-    outputs-refused c.requires.possible c.asked_by_kind-shape.ensures
-    (not-false _ c.if-not-shape.false) c.of.ensures c.nodes_asked-nodes.ensures
-    c.if-nodes-call.false (not-true _ c.if-not-shape-2.true) _ c.refused_shape-then-not-shape-2.ensures
-
-pub returns-then-not-shape-3 : goal.returns-then-not-shape-3
-returns-then-not-shape-3 c =
-    timestamps-refused c.requires.possible c.asked_by_kind-shape.ensures
-    (not-false _ c.if-not-shape.false) c.of.ensures c.nodes_asked-nodes.ensures
-    c.if-nodes-call.false (not-false _ c.if-not-shape-2.false) (not-true _ c.if-not-shape-3.true) _
-    c.refused_shape-then-not-shape-3.ensures
+    timestamps-refused c.requires.possible _ c.in-Some.ensures c.of.ensures c.nodes_asked-nodes.ensures
+    c.if-nodes-call.false (not-false _ c.if-not-shape.false) (not-true _ c.if-not-shape-2.true)
 
 pub returns-then-not-near_clock : goal.returns-then-not-near_clock
 returns-then-not-near_clock c =
-    clock-refused c.requires.possible c.asked_by_kind-shape.ensures
-    (not-false _ c.if-not-shape.false) c.of.ensures c.nodes_asked-nodes.ensures
-    c.if-nodes-call.false (not-false _ c.if-not-shape-2.false) (not-false _ c.if-not-shape-3.false)
-    c.near_clock.ensures c.if-not-near_clock.true _ c.refused_shape-then-not-near_clock.ensures
+    clock-refused c.requires.possible _ c.in-Some.ensures c.of.ensures c.nodes_asked-nodes.ensures
+    c.if-nodes-call.false (not-false _ c.if-not-shape.false) (not-false _ c.if-not-shape-2.false)
+    c.near_clock.ensures c.if-not-near_clock.true
 
 pub returns : goal.returns
 returns c =
-    tried_passed c.requires.possible c.asked_by_kind-shape.ensures
-    (not-false _ c.if-not-shape.false) c.of.ensures c.nodes_asked-nodes.ensures
-    c.if-nodes-call.false (not-false _ c.if-not-shape-2.false) (not-false _ c.if-not-shape-3.false) c.near_clock.ensures
+    tried_passed c.requires.possible _ c.in-Some.ensures c.of.ensures c.nodes_asked-nodes.ensures
+    c.if-nodes-call.false (not-false _ c.if-not-shape.false) (not-false _ c.if-not-shape-2.false) c.near_clock.ensures
     c.if-not-near_clock.false

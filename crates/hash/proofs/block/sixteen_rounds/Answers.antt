@@ -1,44 +1,6 @@
--- `hash::block::sixteen_rounds` meets its contract: each call is one round more; each index below
--- 16 is below the length that the function requires (`.pre`, at its start).
+-- `hash::block::sixteen_rounds` meets its contract: each call is one round more.
 use Rattle.hash.proofs.BlockLaws.{rounds_zero, rounds_step}
-use Rattle.std.proofs.Common.{arith}
 use Rattle.hash.proofs.block.sixteen_rounds.Goals as goal
-
-pub bounds-k-4 : goal.bounds-k-4
-bounds-k-4 c = omega (arith, c.requires)
-
-pub bounds-k-5 : goal.bounds-k-5
-bounds-k-5 c = omega (arith, c.requires)
-
-pub bounds-k-6 : goal.bounds-k-6
-bounds-k-6 c = omega (arith, c.requires)
-
-pub bounds-k-7 : goal.bounds-k-7
-bounds-k-7 c = omega (arith, c.requires)
-
-pub bounds-k-8 : goal.bounds-k-8
-bounds-k-8 c = omega (arith, c.requires)
-
-pub bounds-k-9 : goal.bounds-k-9
-bounds-k-9 c = omega (arith, c.requires)
-
-pub bounds-k-10 : goal.bounds-k-10
-bounds-k-10 c = omega (arith, c.requires)
-
-pub bounds-k-11 : goal.bounds-k-11
-bounds-k-11 c = omega (arith, c.requires)
-
-pub bounds-k-12 : goal.bounds-k-12
-bounds-k-12 c = omega (arith, c.requires)
-
-pub bounds-k-13 : goal.bounds-k-13
-bounds-k-13 c = omega (arith, c.requires)
-
-pub bounds-k-14 : goal.bounds-k-14
-bounds-k-14 c = omega (arith, c.requires)
-
-pub bounds-k-15 : goal.bounds-k-15
-bounds-k-15 c = omega (arith, c.requires)
 
 pub returns : goal.returns
 returns c =

@@ -1,9 +1,9 @@
--- `hash::bytes::bytes8` meets its contract: the eight bytes are those of the definition, and each
--- cast fits.
-use Rattle.std.proofs.Common.{refl}
-use Rattle.hash.specs.Bytes.{big_endian}
+-- `hash::bytes::bytes8` meets its contract: std's bytes of a number are those of the definition.
+use Rattle.std.proofs.Common.{ap, ◌∙◌, length}
+use Rattle.hash.proofs.BytesLaws.{be_bytes, length_big_endian}
 use Rattle.hash.proofs.bytes.bytes8.Goals as goal
 
 pub returns : goal.returns
-unfolding big_endian
-returns c = (refl, refl)
+returns c =
+    let e = c.to_be_bytes.ensures ∙ be_bytes 8 c.args.x in
+    (ap length e ∙ length_big_endian 8 c.args.x, e)

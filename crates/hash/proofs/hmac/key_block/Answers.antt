@@ -5,7 +5,7 @@ use Rattle.hash.proofs.HmacLaws.{key_short, key_long}
 use Rattle.hash.proofs.hmac.key_block.Goals as goal
 
 pub returns-then-key-le64 : goal.returns-then-key-le64
-returns-then-key-le64 c = key_short c.args.key.now c.copy_at.new.dst (omega arith) c.copy_at.ensures
+returns-then-key-le64 c = key_short c.args.key.now c.buffer_of.result (omega arith) c.buffer_of.ensures
 
 pub returns-else-key-le64 : goal.returns-else-key-le64
-returns-else-key-le64 c = key_long c.args.key.now c.digest-d.result c.copy_at-else-key-le64.new.dst (omega arith) c.digest-d.ensures c.copy_at-else-key-le64.ensures
+returns-else-key-le64 c = key_long c.args.key.now c.digest.result c.buffer_of-else-key-le64.result (omega arith) c.digest.ensures c.buffer_of-else-key-le64.ensures

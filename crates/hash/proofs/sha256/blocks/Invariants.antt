@@ -1,7 +1,8 @@
--- `hash::sha256::blocks` meets its contract: the blocks hashed so far are those of the definition.
-use Rattle.std.proofs.Common.{◌≡◌, ◌/◌, ◌≤◌, length}
-use Rattle.hash.specs.Sha256.{blocks}
+-- `hash::sha256::blocks` meets its contract: the value so far is that after the blocks passed.
+use Rattle.std.proofs.Common.{◌≡◌, take}
+use Rattle.std.specs.Prelude.{fold}
+use Rattle.hash.specs.Block.{compressed}
 use Rattle.hash.proofs.sha256.blocks.Given as goal
 
-abbrev pub invariant-loop-i : goal.invariant-loop-i
-invariant-loop-i l = (l.n ≡ length l.s / 64) × (l.i ≤ l.n) × (l.x ≡ blocks l.i l.initial.x l.s)
+abbrev pub invariant-loop-block : goal.invariant-loop-block
+invariant-loop-block l = l.x ≡ fold compressed l.initial.x (take l.block-index l.blocks)

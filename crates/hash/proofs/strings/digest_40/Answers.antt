@@ -1,12 +1,12 @@
--- `hash::strings::digest_40` meets its contract: the string is put together in a buffer of its
--- length.
-use Rattle.std.proofs.Common.{ap, ◌∙◌}
-use Rattle.hash.specs.Sha256.{sha256}
-use Rattle.hash.proofs.StringLaws.{string_40}
+-- `hash::strings::digest_40` meets its contract: the string fills its buffer.
+use Rattle.std.proofs.Common.{◌∙◌, append-nil, arith, length-append}
+use Rattle.hash.specs.Bytes.{big_endian}
+use Rattle.hash.proofs.BytesLaws.{be_bytes, length_big_endian}
+use Rattle.hash.proofs.StringLaws.{string_law}
 use Rattle.hash.proofs.strings.digest_40.Goals as goal
 
 pub returns : goal.returns
 returns c =
-    let n = c.bytes8-n in
-    let e = string_40 n.result c.args.value c.copy_at.new.dst c.copy_at-2.new.dst n.ensures.0 c.well_formed.1.0.1.0.1 c.copy_at.ensures c.copy_at-2.ensures in
-    c.digest.ensures ∙ ap sha256 (e ∙ rw n.ensures.1)
+    string_law 40 c.buffer_of.result _ _ c.digest.result c.buffer_of.ensures c.digest.ensures
+    (rw (c.to_be_bytes.ensures ∙ be_bytes 8 c.args.number, append-nil c.args.value))
+    (rw (length-append (big_endian 8 c.args.number) c.args.value, length_big_endian 8 c.args.number) (omega arith))

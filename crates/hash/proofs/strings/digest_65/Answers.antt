@@ -1,11 +1,10 @@
--- `hash::strings::digest_65` meets its contract: the string is put together in a buffer of its
--- length.
-use Rattle.std.proofs.Common.{ap, ◌∙◌}
-use Rattle.hash.specs.Sha256.{sha256}
-use Rattle.hash.proofs.StringLaws.{string_65}
+-- `hash::strings::digest_65` meets its contract: the string fills its buffer.
+use Rattle.std.proofs.Common.{append-nil, arith, length-append}
+use Rattle.hash.proofs.StringLaws.{string_law}
 use Rattle.hash.proofs.strings.digest_65.Goals as goal
 
 pub returns : goal.returns
 returns c =
-    let e = string_65 c.args.tag c.args.left c.args.right c.copy_at.new.dst c.copy_at-2.new.dst c.well_formed.1.0.1.0.1 c.well_formed.1.1.0.1.0.1 c.copy_at.ensures c.copy_at-2.ensures in
-    c.digest.ensures ∙ ap sha256 e
+    string_law 65 c.buffer_of.result _ _ c.digest.result c.buffer_of.ensures c.digest.ensures
+    (rw (append-nil c.args.right))
+    (rw (length-append c.args.left c.args.right) (omega arith))

@@ -1,17 +1,16 @@
--- `inputs::state::zeros_from` meets its contract: the bytes before i are zero, so those from i on
--- decide.
-use mathlib.Core.Path.{refl, sym, ◌∙◌}
-use Rattle.inputs.proofs.RoomLaws.{zeros-next, zeros-stop, zeros-end}
+-- `inputs::state::zeros_from` meets its contract: the test of all bytes from the offset on.
+use Prim.Native.Nat.{ℕ}
+use lib.Dec.{eqb}
+use Rattle.std.proofs.Common.{rules}
+use Rattle.std.proofs.lemmas.Iterator.{YieldsList-from_slice}
+use Rattle.std.proofs.lemmas.Iterator.Adapters.{YieldsList-from_skip}
+use Rattle.std.proofs.lemmas.Iterator.Search.{all_from_yields_List}
+use borrow.Author.Tests.{tests}
+use Rattle.inputs.proofs.RoomLaws.{zeros_tested}
 use Rattle.inputs.proofs.state.zeros_from.Goals as goal
 
-pub loop-i-init : goal.loop-i-init
-loop-i-init c = refl
-
-pub returns-then-s-i-ne0 : goal.returns-then-s-i-ne0
-returns-then-s-i-ne0 c = sym (sym c.loop-i.invariant ∙ zeros-stop _ _ c.loop-i-test.true c.if-s-i-ne0.true)
-
-pub loop-i-preserved : goal.loop-i-preserved
-loop-i-preserved c = zeros-next _ _ c.loop-i-test.true c.if-s-i-ne0.false ∙ c.loop-i.invariant
-
 pub returns : goal.returns
-returns c = sym (sym c.loop-i.invariant ∙ zeros-end _ _ c.loop-i-test.false)
+returns c =
+    zeros_tested c.args.from c.args.s.now _
+    (all_from_yields_List (λ (x : ℕ). eqb x 0) _ _ _ c.all.ensures.ran
+    (YieldsList-from_skip _ (YieldsList-from_slice c.args.s.now cc) cc) (λ x b q k. search (rules, tests)))

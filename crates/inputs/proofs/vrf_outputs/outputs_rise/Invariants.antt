@@ -1,5 +1,5 @@
 -- `inputs::vrf_outputs::outputs_rise` meets its contract: the outputs read where the versions from
--- the present record on rise.
+-- the last record on rise.
 use mathlib.Core.Path.{◌≡◌}
 use Prim.Native.Nat.{◌-◌, ◌≤◌}
 use lib.ListN.{drop}
@@ -10,7 +10,4 @@ use Rattle.inputs.proofs.VrfOutputLaws.{versions}
 use Rattle.inputs.proofs.vrf_outputs.outputs_rise.Given as goal
 
 abbrev pub invariant-loop-i : goal.invariant-loop-i
-invariant-loop-i l = (l.i ≤ l.count) × (is_some (read_outputs l.outputs) ≡ rising (drop l.i (versions l.outputs)))
-
-abbrev pub decreases-loop-i : goal.decreases-loop-i
-decreases-loop-i l = l.count - l.i
+invariant-loop-i l = (1 ≤ l.i) × (is_some (read_outputs l.outputs) ≡ rising (drop (l.i - 1) (versions l.outputs)))

@@ -7,5 +7,5 @@ use Rattle.lines.proofs.line.line_end.Given as goal
 
 abbrev pub invariant-loop-i : goal.invariant-loop-i
 invariant-loop-i l =
-    (l.near - l.at ≤ length l.s - l.at)
+    (l.at + 12 ≤ length l.s)
     × (l.i + length (before newline (drop l.i l.s)) ≡ l.at + length (before newline (drop l.at l.s)))

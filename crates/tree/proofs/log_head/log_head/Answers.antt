@@ -7,6 +7,10 @@ use Rattle.tree.specs.LogHead.{known_in}
 use Rattle.tree.proofs.HeadLaws.{walkable_values, head-ready, head-room, head-made, head_none}
 use Rattle.tree.proofs.log_head.log_head.Goals as goal
 
+pub invariant_of-log : goal.invariant_of-log
+unfolding known_in
+invariant_of-log c = record { kept_bound = (head-ready c.args.text.now _ _ _ _ (sym c.walkable.ensures ∙ c.if-walkable.true) c.from-cursor.ensures).1.size_small }
+
 pub spine-top-requires : goal.spine-top-requires
 unfolding known_in
 spine-top-requires c =

@@ -26,11 +26,11 @@ edge_at-requires t c = tail-least c.requires.tail.0 c.power-width.ensures
 
 pub shown_entry-entry-requires : goal.shown_entry-entry-requires
 shown_entry-entry-requires t c =
-    let text = c.args.text.now in
-    let ns = nodes_in c.args.nodes.now in
+    let text = c.args.log.now.text.now in
+    let ns = nodes_in c.args.log.now.nodes.now in
     let p = c.requires in
     let w = tail-whole c.requires.tail.0 c.power-width.ensures in
-    let f = spine_entry c.args.kept_size _ _ _ _ (edge_told _ _ _ _ Block c.in-Block.is c.is_before-shown.ensures c.edge_at.ensures) c.if-width-eq1.true (sym c.is_before-shown.ensures ∙ c.if-shown.true) in
+    let f = spine_entry c.args.log.now.kept_size _ _ _ _ (edge_told _ _ _ _ Block c.in-Block.is c.is_before-shown.ensures c.edge_at.ensures) c.if-width-eq1.true (sym c.is_before-shown.ensures ∙ c.if-shown.true) in
     let (b, l) = block-entry [] text ns w c.requires.tail.1 f in
     (p.tail.1, b, l)
 
@@ -41,11 +41,11 @@ put_value-requires t c =
 pub returns-then-shown : goal.returns-then-shown
 unfolding known_in
 returns-then-shown t c =
-    let text = c.args.text.now in
-    let ns = nodes_in c.args.nodes.now in
+    let text = c.args.log.now.text.now in
+    let ns = nodes_in c.args.log.now.nodes.now in
     let e = edge_told _ _ _ _ Block c.in-Block.is c.is_before-shown.ensures c.edge_at.ensures in
     let w = tail-whole c.requires.tail.0 c.power-width.ensures in
-    let y = c.shown_entry-entry.ensures ∙ block-shown-entry _ text ns w c.requires.tail.1 (spine_entry c.args.kept_size _ _ _ _ e c.if-width-eq1.true (sym c.is_before-shown.ensures ∙ c.if-shown.true)) in
+    let y = c.shown_entry-entry.ensures ∙ block-shown-entry _ text ns w c.requires.tail.1 (spine_entry c.args.log.now.kept_size _ _ _ _ e c.if-width-eq1.true (sym c.is_before-shown.ensures ∙ c.if-shown.true)) in
     let (x, v) = spine-block _ text ns c.requires.tail.0 c.power-width.ensures c.requires.tail.1 c.requires.tail.2 _ e y in
     record { value = x; filled = subst (Filled _ _ _) v c.put_value.ensures.1 }
 
@@ -85,7 +85,7 @@ overflow_add-count t c = omega (arith, c.requires.room)
 pub spine-right-requires : goal.spine-right-requires
 unfolding known_in
 spine-right-requires t c =
-    let text = c.args.text.now in
+    let text = c.args.log.now.text.now in
     let f = edge_told _ _ _ _ Cut c.in-Cut.is c.is_before-shown.ensures c.edge_at.ensures in
     let p = c.requires in
     let w = whole_some (tail-whole c.requires.tail.0 c.power-width.ensures) in
@@ -98,22 +98,21 @@ overflow_sub-tree_size-in-Cut t c = omega (arith, tail-least c.requires.tail.0 c
 pub joined-requires : goal.joined-requires
 joined-requires t c =
     let f = edge_told _ _ _ _ Cut c.in-Cut.is c.is_before-shown.ensures c.edge_at.ensures in
-    let p = c.requires in
-    (cut-halves p.tail.0 c.power-width.ensures f.0 _, p.tail.1.size_small)
+    cut-halves c.requires.tail.0 c.power-width.ensures f.0 _
 
 pub returns-after-width-eq1 : goal.returns-after-width-eq1
 unfolding known_in
 returns-after-width-eq1 t c =
-    let text = c.args.text.now in
-    let ns = nodes_in c.args.nodes.now in
+    let text = c.args.log.now.text.now in
+    let ns = nodes_in c.args.log.now.nodes.now in
     let (x, v) = spine-block _ text ns c.requires.tail.0 c.power-width.ensures c.requires.tail.1 c.requires.tail.2 _ (edge_told _ _ _ _ Block c.in-Block.is c.is_before-shown.ensures c.edge_at.ensures) c.subtree-whole.ensures in
     record { value = x; filled = subst (Filled _ _ _) v c.put_value-in-Block.ensures.1 }
 
 pub returns-in-Node : goal.returns-in-Node
 unfolding known_in
 returns-in-Node t c =
-    let text = c.args.text.now in
-    let ns = nodes_in c.args.nodes.now in
+    let text = c.args.log.now.text.now in
+    let ns = nodes_in c.args.log.now.nodes.now in
     let f = edge_told _ _ _ _ Node c.in-Node.is c.is_before-shown.ensures c.edge_at.ensures in
     let (x, v) = spine-node _ text ns c.requires.tail.0 c.power-width.ensures c.requires.tail.1 c.requires.tail.2 _ f.0 f.1 f.2 c.next_node-given.ensures in
     record { value = x; filled = subst (Filled _ _ _) v c.put_value-in-Node.ensures.1 }
@@ -121,10 +120,10 @@ returns-in-Node t c =
 pub returns-in-Cut : goal.returns-in-Cut
 unfolding known_in
 returns-in-Cut t c =
-    let text = c.args.text.now in
-    let ns = nodes_in c.args.nodes.now in
+    let text = c.args.log.now.text.now in
+    let ns = nodes_in c.args.log.now.nodes.now in
     let f = edge_told _ _ _ _ Cut c.in-Cut.is c.is_before-shown.ensures c.edge_at.ensures in
-    let x = spine-cut _ text ns c.requires.tail.0 c.power-width.ensures c.requires.tail.1 c.requires.tail.2 f.0 _ _ _ _ f.1 c.subtree-left.ensures c.spine-right.ensures.value c.joined.ensures in
+    let x = spine-cut _ text ns c.requires.tail.0 c.power-width.ensures c.requires.tail.1 c.requires.tail.2 f.0 _ _ _ f.1 c.subtree-left.ensures c.spine-right.ensures.value c.joined.ensures in
     let v = spine-values _ text ns c.requires.tail.0 c.power-width.ensures c.requires.tail.1 c.requires.tail.2 f.0 _ f.1 c.subtree-left.ensures in
     let p = c.put_value-in-Cut.ensures in
     record { value = x; filled = subst (Filled _ _ _) v (filled_then _ _ _ _ _ _ p.0 p.1 c.spine-right.ensures.filled) }

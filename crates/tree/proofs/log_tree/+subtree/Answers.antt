@@ -17,15 +17,15 @@ source_at-requires t c = c.requires.0
 pub kept_value-value-requires : goal.kept_value-value-requires
 kept_value-value-requires t c =
     let f = step_told _ _ Retained c.in-Retained.is c.is_before.ensures c.source_at.ensures in
-    record { whole = (c.requires.0, f.1); kept_size_bound = c.requires.1.size_small }
+    (c.requires.0, f.1)
 
 pub next_node-requires : goal.next_node-requires
 next_node-requires t c = omega (arith, c.requires.0.small, c.requires.1.taken)
 
 pub shown_entry-requires : goal.shown_entry-requires
 shown_entry-requires t c =
-    let text = c.args.text.now in
-    let ns = nodes_in c.args.nodes.now in
+    let text = c.args.log.now.text.now in
+    let ns = nodes_in c.args.log.now.nodes.now in
     let (b, l) = block-entry [] text ns c.requires.0 c.requires.1 (step_told _ _ Shown c.in-Shown.is c.is_before.ensures c.source_at.ensures) in
     (c.requires.1, b, l)
 
@@ -40,8 +40,8 @@ overflow_add-start t c = omega (arith, c.requires.0.small)
 pub subtree-right-requires : goal.subtree-right-requires
 unfolding known_in
 subtree-right-requires t c =
-    let text = c.args.text.now in
-    let ns = nodes_in c.args.nodes.now in
+    let text = c.args.log.now.text.now in
+    let ns = nodes_in c.args.log.now.nodes.now in
     let f = step_told _ _ Parent c.in-Parent.is c.is_before.ensures c.source_at.ensures in
     let r = ready-right _ text ns c.requires.0 c.requires.1 _ f.0 c.subtree-left.ensures in
     (omega (arith, c.decreases, f.0), (whole-right c.requires.0 f.0, r))
@@ -49,33 +49,33 @@ subtree-right-requires t c =
 pub joined-requires : goal.joined-requires
 joined-requires t c =
     let f = step_told _ _ Parent c.in-Parent.is c.is_before.ensures c.source_at.ensures in
-    (whole-halves c.requires.0 f.0 _, c.requires.1.size_small)
+    whole-halves c.requires.0 f.0 _
 
 pub returns-in-Retained : goal.returns-in-Retained
 unfolding known_in
 returns-in-Retained t c =
-    let text = c.args.text.now in
-    let ns = nodes_in c.args.nodes.now in
-    block-retained _ text ns c.requires.0 c.requires.1 _ _ (step_told _ _ Retained c.in-Retained.is c.is_before.ensures c.source_at.ensures) c.kept_value-value.ensures
+    let text = c.args.log.now.text.now in
+    let ns = nodes_in c.args.log.now.nodes.now in
+    block-retained _ text ns c.requires.0 c.requires.1 _ (step_told _ _ Retained c.in-Retained.is c.is_before.ensures c.source_at.ensures) c.kept_value-value.ensures
 
 pub returns-in-Given : goal.returns-in-Given
 unfolding known_in
 returns-in-Given t c =
-    let text = c.args.text.now in
-    let ns = nodes_in c.args.nodes.now in
+    let text = c.args.log.now.text.now in
+    let ns = nodes_in c.args.log.now.nodes.now in
     c.next_node.ensures ∙ block-given _ text ns c.requires.0 c.requires.1 (step_told _ _ Given c.in-Given.is c.is_before.ensures c.source_at.ensures)
 
 pub returns-in-Shown : goal.returns-in-Shown
 unfolding known_in
 returns-in-Shown t c =
-    let text = c.args.text.now in
-    let ns = nodes_in c.args.nodes.now in
+    let text = c.args.log.now.text.now in
+    let ns = nodes_in c.args.log.now.nodes.now in
     c.shown_entry.ensures ∙ block-shown-entry _ text ns c.requires.0 c.requires.1 (step_told _ _ Shown c.in-Shown.is c.is_before.ensures c.source_at.ensures)
 
 pub returns-in-Parent : goal.returns-in-Parent
 unfolding known_in
 returns-in-Parent t c =
-    let text = c.args.text.now in
-    let ns = nodes_in c.args.nodes.now in
+    let text = c.args.log.now.text.now in
+    let ns = nodes_in c.args.log.now.nodes.now in
     let f = step_told _ _ Parent c.in-Parent.is c.is_before.ensures c.source_at.ensures in
-    block-parent _ text ns c.requires.0 c.requires.1 _ _ _ _ f c.subtree-left.ensures c.subtree-right.ensures c.joined.ensures
+    block-parent _ text ns c.requires.0 c.requires.1 _ _ _ f c.subtree-left.ensures c.subtree-right.ensures c.joined.ensures

@@ -6,6 +6,6 @@ use Rattle.checks.proofs.lookups.Summary.next.Goals as goal
 pub returns : goal.returns
 returns c =
     let a = c.args in
-    summary-next a.sought a.outputs.now a.steps.now a.offsets.now a.ladder.now
+    summary-next a.sought
     a.line.now a.self _ _ _ _
     c.lookup_version-version.ensures c.is_included-included.ensures c.lookup_passes-reached.ensures c.is_at.ensures

@@ -6,12 +6,12 @@ use Rattle.rules.specs.Limits.{label_limit}
 use Rattle.inputs.specs.State.{label_fits}
 use Rattle.inputs.proofs.state.Label.fits.Goals as goal
 
-pub returns-then-length-gt-LABEL : goal.returns-then-length-gt-LABEL
+pub returns-then-self-gt-LABEL : goal.returns-then-self-gt-LABEL
 unfolding label_fits
-returns-then-length-gt-LABEL c = rw (lt-leb c.args.self.length label_limit c.if-length-gt-LABEL.true) refl
+returns-then-self-gt-LABEL c = rw (lt-leb c.args.self.length label_limit c.if-self-gt-LABEL.true) refl
 
 pub returns : goal.returns
 unfolding label_fits
 returns c =
     let b = c.args.self in
-    rw (le-leb b.length label_limit c.if-length-gt-LABEL.false) c.zeros_from.ensures
+    rw (le-leb b.length label_limit c.if-self-gt-LABEL.false) c.zeros_from.ensures

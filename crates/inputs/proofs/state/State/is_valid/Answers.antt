@@ -1,31 +1,26 @@
 -- `inputs::state::State::is_valid` meets its contract: the tests of the struct decide, one after
 -- the other.
-use mathlib.Core.Path.{◌≡◌, sym, ◌∙◌}
-use mathlib.Core.Bool.{◌&&◌}
-use Rattle.lists.specs.Choice.{is_some}
-use Rattle.rules.specs.Refusals.{valid_state}
-use Rattle.inputs.specs.State.{state_of, label_fits, log_fits, map_fits}
-use Rattle.inputs.proofs.StateBlockLaws.{block_valid}
+use mathlib.Core.Path.{◌≡◌, refl, ◌∙◌}
+use mathlib.Core.Bool.{true, false, ◌&&◌}
 use borrow.Author.Rules.{rules}
+use Rattle.inputs.specs.State.{label_fits, log_fits}
+use Rattle.inputs.proofs.StateBlockLaws.{block_valid}
+use Rattle.inputs.proofs.state.State.is_valid.Goals.{then-fits, else-fits}
 use Rattle.inputs.proofs.state.State.is_valid.Goals as goal
 
-pub returns-then-not-fits : goal.returns-then-not-fits
-returns-then-not-fits c =
-    rw (sym c.fits.ensures ∙ c.if-not-fits.true) at (let decided0 : (let b1 = c.args.self in (label_fits b1.label && log_fits b1.log && map_fits b1.log.size b1.map) ≡ is_some (valid_state (state_of b1))) = block_valid c.args.self
-    (record { label_room = search rules; values_room = search rules; positions_room = search rules; versions_room = search rules })
-    (search rules) in decided0)
+pub returns-then-fits-2 : goal.returns-then-fits-2
+returns-then-fits-2 c =
+    let b = c.args.self in
+    let label : label_fits b.label ≡ true = elim c.if-fits.branch [ then-fits w ↦ cc | else-fits w ↦ cc ] in
+    let log : log_fits b.log ≡ true = elim c.if-fits.branch [ then-fits w ↦ cc | else-fits w ↦ cc ] in
+    c.fits-then-fits-2.ensures ∙ (rw (label, log) at (block_valid b (search rules) (search rules)))
 
-pub returns-then-not-fits-2 : goal.returns-then-not-fits-2
-returns-then-not-fits-2 c =
-    let l = sym c.fits.ensures ∙ c.if-not-fits.false in
-    rw (l, sym c.fits-2.ensures ∙ c.if-not-fits-2.true) at (let decided0 : (let b1 = c.args.self in (label_fits b1.label && log_fits b1.log && map_fits b1.log.size b1.map) ≡ is_some (valid_state (state_of b1))) = block_valid c.args.self
-    (record { label_room = search rules; values_room = search rules; positions_room = search rules; versions_room = search rules })
-    (search rules) in decided0)
-
-pub returns : goal.returns
-returns c =
-    let l = sym c.fits.ensures ∙ c.if-not-fits.false in
-    let g = sym c.fits-2.ensures ∙ c.if-not-fits-2.false in
-    c.fits-3.ensures ∙ (rw (l, g) at (let decided0 : (let b1 = c.args.self in (label_fits b1.label && log_fits b1.log && map_fits b1.log.size b1.map) ≡ is_some (valid_state (state_of b1))) = block_valid c.args.self
-    (record { label_room = search rules; values_room = search rules; positions_room = search rules; versions_room = search rules })
-    (search rules) in decided0))
+pub returns-else-fits-2 : goal.returns-else-fits-2
+returns-else-fits-2 c =
+    let b = c.args.self in
+    let both : (label_fits b.label && log_fits b.log) ≡ false =
+    elim c.if-fits.branch [
+      | then-fits w ↦ (let l : label_fits b.label ≡ true = cc in let g : log_fits b.log ≡ false = cc in rw (l, g) refl)
+      | else-fits w ↦ (let l : label_fits b.label ≡ false = cc in rw l refl)
+    ] in
+    c.if-fits-2.false ∙ (rw both at (block_valid b (search rules) (search rules)))

@@ -1,7 +1,0 @@
--- `hash::hasher::Hasher::finish` meets its contract: the digest of what is pending is `closed`, by
--- its law.
-use Rattle.hash.proofs.HasherLaws.{closed_law}
-use Rattle.hash.proofs.hasher.Hasher.finish.Goals as goal
-
-pub returns : goal.returns
-returns c = closed_law c.args.self c.closed.result c.closed.ensures
