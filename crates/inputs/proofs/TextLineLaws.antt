@@ -7,8 +7,9 @@ use native.Mathlib.Omega.{arith}
 use lib.ListN.{length, take, drop}
 use Rattle.lists.specs.Lists.{Bytes}
 use Rattle.lists.proofs.ChoiceLaws.{map_some}
-use Rattle.lines.specs.Line.{ended_lines, open_rest}
+use Rattle.lines.specs.Line.{ended_lines, open_rest, leading}
 use Rattle.lines.specs.Cursor.{line_at}
+use Rattle.lines.proofs.LineLaws.{leading_end, leading-none}
 use Rattle.lines.proofs.SectionLaws.{LineHere, line_here, line_none}
 use Rattle.inputs.specs.TextLine.{read_from, line_from}
 
@@ -105,3 +106,18 @@ module _ {A : Type 0} (read : Bytes → Option A) (s : Bytes) (at : ℕ) where
           let m = take (stop - at) (drop at s) in
           let p : (m, after) ≡ (l, next) = some-injective (m, after) (l, next) (sym (from_some some s at stop after m q refl) ∙ e) in
           from-line read s at stop after q ∙ ap (λ (x : Bytes × ℕ). map (followed_by x.1) (read x.0)) p
+
+-- where none is read, no line leads
+pub none-leads : {A : Type 0} (read : Bytes → Option A) (s : Bytes) (at : ℕ) → read_from read s at ≡ none
+    → leading read (ended_lines (drop at s)) ≡ ([], ended_lines (drop at s))
+none-leads {A} read s at e = go (line_at s at) refl
+  where
+    step : (stop next : ℕ) → line_at s at ≡ some (stop, next) → (o : Option A) → read (take (stop - at) (drop at s)) ≡ o
+        → leading read (ended_lines (drop at s)) ≡ ([], ended_lines (drop at s))
+    step stop next q none n =
+        rw (line_here s at stop next q).lines (leading-none read (take (stop - at) (drop at s)) (ended_lines (drop next s)) n)
+    step stop next q (some a) r = absurd (none-ne-some (a, next) (sym e ∙ from_some read s at stop next a q r))
+
+    go : (o : Option (ℕ × ℕ)) → line_at s at ≡ o → leading read (ended_lines (drop at s)) ≡ ([], ended_lines (drop at s))
+    go none q = rw (line_none s at q).0 (leading_end read)
+    go (some (stop, next)) q = step stop next q (read (take (stop - at) (drop at s))) refl

@@ -6,7 +6,7 @@ ghost use Rattle.lists.specs.Choice.{option_of};
 ghost use Rattle.lines.specs.Field.{up_to, read_fields};
 ghost use Rattle.lines.specs.Line.{read_line};
 ghost use Rattle.lines.specs.Cursor.{fields_from};
-ghost use Rattle.rules.specs.Limits.{label_limit, state_text_limit};
+ghost use Rattle.rules.specs.Limits.{label_limit, map_limit, state_text_limit};
 ghost use Rattle.rules.specs.State.{State as StateRead};
 ghost use Rattle.rules.specs.StateText.{size_form, read_keep, read_pair, read_state, read_state_text};
 ghost use Rattle.inputs.specs.TextLine.{read_from};
@@ -237,7 +237,8 @@ fn read_pairs(text: &[u8], from: usize) -> Pairs
 
 // Counts a pair, and stores it where there is room for it.
 fn put_pair(map: &mut MonitoringMap, position: u64, version: u32)
-    requires { map.old.count + 1 < 2 ^ 64 }
+    requires counts { map.old.count + 1 < 2 ^ 64 }
+    requires room { (length map.old.positions ≡ map_limit) × (length map.old.versions ≡ map_limit) }
     ensures { map.new ≡ with_pair map.old position version }
 {
     if map.count < State::PAIRS {
