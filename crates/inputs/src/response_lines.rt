@@ -69,8 +69,11 @@ pub(crate) fn kt_line(l: &[u8]) -> Option<KtLine>
         ≡ or_else (read_kind_line search l.now) (read_kind_line monitor l.now) }
     ensures stands { KtStands l.now result }
 {
-    kind_line(l, Kind::Search, &Word::SEARCH)
-        .or_else(|| kind_line(l, Kind::Monitor, &Word::MONITOR))
+    kind_line(l, Kind::Search, &Word::SEARCH).or_else(|| kind_line(
+        l,
+        Kind::Monitor,
+        &Word::MONITOR,
+    ))
 }
 
 // A `head` line: n.
@@ -178,8 +181,7 @@ fn is_leaf_lookup(l: &[u8]) -> bool
 fn ends_with_siblings(l: &[u8], c: Cursor) -> bool
     ensures { result ≡ is_some (read_fields (siblings_field ∷ []) (fields_from l.now c.at)) }
 {
-    last_bytes(l, c)
-        .is_some_and(|(length, _)| length % HASH == 0 && length <= SIBLINGS * HASH)
+    last_bytes(l, c).is_some_and(|(length, _)| length % HASH == 0 && length <= SIBLINGS * HASH)
 }
 
 // The number that follows the word with which a line begins.

@@ -16,13 +16,13 @@ returns-then-is_plain_lookup-2 c =
     let l = c.args.l.now in
     let t = c.if-is_plain_lookup-2.true in
     elim c.if-is_plain_lookup.branch [
-      then-is_plain_lookup w ↦
-        let e : is_some (read_line in_form l) ≡ true = sym c.is_plain_lookup.ensures ∙ w.if-is_plain_lookup.true in
-        t ∙ sym (lookup_given l ∙ rw e refl)
-    | else-is_plain_lookup w ↦
-        let e : is_some (read_line in_form l) ≡ false = sym c.is_plain_lookup.ensures ∙ w.if-is_plain_lookup.false in
-        let f : is_some (read_line no_form l) ≡ true = sym w.is_plain_lookup-else-is_plain_lookup.ensures ∙ sym w.value-is ∙ t in
-        t ∙ sym (lookup_given l ∙ rw (e, f) refl)
+      | then-is_plain_lookup w ↦
+          let e : is_some (read_line in_form l) ≡ true = sym c.is_plain_lookup.ensures ∙ w.if-is_plain_lookup.true in
+          t ∙ sym (lookup_given l ∙ rw e refl)
+      | else-is_plain_lookup w ↦
+          let e : is_some (read_line in_form l) ≡ false = sym c.is_plain_lookup.ensures ∙ w.if-is_plain_lookup.false in
+          let f : is_some (read_line no_form l) ≡ true = sym w.is_plain_lookup-else-is_plain_lookup.ensures ∙ sym w.value-is ∙ t in
+          t ∙ sym (lookup_given l ∙ rw (e, f) refl)
     ]
 
 pub returns-else-is_plain_lookup-2 : goal.returns-else-is_plain_lookup-2
@@ -31,9 +31,9 @@ returns-else-is_plain_lookup-2 c =
     let l = c.args.l.now in
     let t = c.if-is_plain_lookup-2.false in
     elim c.if-is_plain_lookup.branch [
-      then-is_plain_lookup w ↦ absurd (false≢true (sym t ∙ w.value-is ∙ w.if-is_plain_lookup.true))
-    | else-is_plain_lookup w ↦
-        let e : is_some (read_line in_form l) ≡ false = sym c.is_plain_lookup.ensures ∙ w.if-is_plain_lookup.false in
-        let f : is_some (read_line no_form l) ≡ false = sym w.is_plain_lookup-else-is_plain_lookup.ensures ∙ sym w.value-is ∙ t in
-        c.is_leaf_lookup.ensures ∙ sym (lookup_given l ∙ rw (e, f) refl)
+      | then-is_plain_lookup w ↦ absurd (false≢true (sym t ∙ w.value-is ∙ w.if-is_plain_lookup.true))
+      | else-is_plain_lookup w ↦
+          let e : is_some (read_line in_form l) ≡ false = sym c.is_plain_lookup.ensures ∙ w.if-is_plain_lookup.false in
+          let f : is_some (read_line no_form l) ≡ false = sym w.is_plain_lookup-else-is_plain_lookup.ensures ∙ sym w.value-is ∙ t in
+          c.is_leaf_lookup.ensures ∙ sym (lookup_given l ∙ rw (e, f) refl)
     ]

@@ -11,6 +11,6 @@ unfolding with_pair
 returns c =
     let m = c.args.map.now in
     elim c.if-map-lt-PAIRS.branch [
-      then-map-lt-PAIRS w ↦ rw w.map-is refl
-    | else-map-lt-PAIRS w ↦ rw (w.map-is, set_out m.positions m.count c.args.position (omega arith), set_out m.versions m.count c.args.version (omega arith)) refl
+      | then-map-lt-PAIRS w ↦ rw w.map-is refl
+      | else-map-lt-PAIRS w ↦ rw (w.map-is, set_out m.positions m.count c.args.position (omega arith), set_out m.versions m.count c.args.version (omega arith)) refl
     ]
