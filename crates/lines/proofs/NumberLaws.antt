@@ -29,11 +29,6 @@ pub is_digit_lem : (b : ℕ) → 48 ≤ b → b ≤ 57 → is_digit b ≡ true
 unfolding is_digit
 is_digit_lem b l h = holds_and (leb 48 b) (leb b 57) (le-leb 48 b l) (le-leb b 57 h)
 
--- a byte below 48 is none
-pub below_digits : (b : ℕ) → b < 48 → is_digit b ≡ false
-unfolding is_digit
-below_digits b h = rw (lt-leb 48 b h) refl
-
 -- nor is one above 57
 pub above_digits : (b : ℕ) → 57 < b → is_digit b ≡ false
 unfolding is_digit

@@ -59,14 +59,6 @@ written_nil s at h = sym (written_sets s at [] (omega arith))
 
 -- ---- whether it fits
 
--- a text fits from an offset on if it is no longer than what is there from that offset on
-pub room_behind : (room at n : ℕ) → at ≤ room → leb n (room - at) ≡ leb (at + n) room
-room_behind room at n h = go (dec_lt (room - at) n)
-  where
-    go : Dec (room - at < n) → leb n (room - at) ≡ leb (at + n) room
-    go (yes p) = lt-leb n (room - at) p ∙ sym (lt-leb (at + n) room (omega arith))
-    go (no p) = le-leb n (room - at) (omega arith) ∙ sym (le-leb (at + n) room (omega arith))
-
 -- a text that fits is written, and the offset is after it
 pub put_fits : (s : Bytes) (at : ℕ) (t : Bytes) → at + length t ≤ length s
     → (offset_after s at t ≡ some (at + length t)) × (put_at s at t ≡ written s at t)
