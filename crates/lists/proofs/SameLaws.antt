@@ -42,8 +42,10 @@ begins_first x xs [] = refl
 begins_first x xs (y ∷ ys) = ap (λ (b : Bool). b && begins xs ys) (sym (and-true (eqb x y)))
 
 -- what stands at an offset begins with the first number, and what follows it with the others
-pub begins_next : (x : ℕ) (xs ys : List ℕ) (i : ℕ) → begins (x ∷ xs) (drop i ys) ≡ (begins (x ∷ []) (drop i ys) && begins xs (drop (i + 1) ys))
-begins_next x xs ys i = begins_first x xs (drop i ys) ∙ ap (λ (l : List ℕ). begins (x ∷ []) (drop i ys) && begins xs l) (drop-drop 1 i ys)
+pub begins_next : (x : ℕ) (xs ys : List ℕ) (i : ℕ)
+    → begins (x ∷ xs) (drop i ys) ≡ (begins (x ∷ []) (drop i ys) && begins xs (drop (i + 1) ys))
+begins_next x xs ys i =
+    begins_first x xs (drop i ys) ∙ ap (λ (l : List ℕ). begins (x ∷ []) (drop i ys) && begins xs l) (drop-drop 1 i ys)
 
 -- a list is the same as another where that begins with it and is as long
 pub begins_same : (xs ys : List ℕ) → (begins xs ys && eqb (length xs) (length ys)) ≡ same xs ys
@@ -53,4 +55,5 @@ begins_same [] (y ∷ ys) = eqb-zero-suc (length ys)
 begins_same (x ∷ xs) [] = refl
 begins_same (x ∷ xs) (y ∷ ys) =
     rw (eqb-suc-suc (length xs) (length ys))
-    (and_assoc (eqb x y) (begins xs ys) (eqb (length xs) (length ys)) ∙ ap (λ (b : Bool). eqb x y && b) (begins_same xs ys))
+    (and_assoc (eqb x y) (begins xs ys) (eqb (length xs) (length ys))
+    ∙ ap (λ (b : Bool). eqb x y && b) (begins_same xs ys))
