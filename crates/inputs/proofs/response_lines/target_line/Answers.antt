@@ -19,21 +19,21 @@ pub returns-in_err-version-clause-read : goal.returns-in_err-version-clause-read
 unfolding ascii
 returns-in_err-version-clause-read c =
     rw c.from_residual.ensures
-    (sym (number-off _ _ _ (exactly opening_length ∷ up_to value_limit ∷ []) (sym c.number_after.ensures ∙ ap read_of c.in_err-version.was)))
+    (sym (number-off _ _ _ (exactly opening_length ∷ up_to value_limit ∷ []) (sym c.in_err-version.ensures)))
 
 pub returns-in_err-opening-clause-read : goal.returns-in_err-opening-clause-read
 unfolding bind ascii
 returns-in_err-opening-clause-read c =
-    let e = sym c.number_after.ensures ∙ ap read_of c.in_ok-version.was in
+    let e = sym c.in_ok-version.ensures in
     rw c.from_residual-in_err-opening.ensures (sym (target-parts _ _ _ e _ c.last_parts.ensures.read ∙ rw c.in_err-opening.was refl))
 
 pub overflow_cast-result : goal.overflow_cast-result
 unfolding ascii
 overflow_cast-result c =
-    let h = number-below _ _ version_bound _ _ (sym c.number_after.ensures ∙ ap read_of c.in_ok-version.was) in omega arith
+    let h = number-below _ _ version_bound _ _ (sym c.in_ok-version.ensures) in omega arith
 
 pub returns-clause-read : goal.returns-clause-read
 unfolding bind ascii
 returns-clause-read c =
-    let e = sym c.number_after.ensures ∙ ap read_of c.in_ok-version.was in
+    let e = sym c.in_ok-version.ensures in
     sym (target-parts _ _ _ e _ c.last_parts.ensures.read ∙ rw c.in_ok-opening.was refl)
