@@ -49,11 +49,9 @@ impl Cursor {
     pub fn field(self, line: &[u8]) -> &[u8]
         ensures { result.now ≡ field_at line.now self.at }
     {
-        if line.len() < self.at {
-            return &line[0..0];
-        }
-        let stop = span(line, self.at, b'\t');
-        &line[self.at..stop]
+        let start = self.at.min(line.len());
+        let stop = span(line, start, b'\t');
+        &line[start..stop]
     }
 
     // The field that begins here in a line and the cursor after it; none begins beyond the line.
