@@ -1,5 +1,5 @@
 -- Laws of what a method of an option promises by its cases.
-use mathlib.Core.Path.{◌≡◌, refl, sym}
+use mathlib.Core.Path.{◌≡◌, refl}
 use mathlib.Core.Option.{Option, none, some, map, none-ne-some}
 use Rattle.std.specs.Prelude.{MatchOption, Some, None, Option as CodeOption}
 

@@ -3,7 +3,7 @@
 use mathlib.Core.Path.{◌≡◌, refl, sym, ◌∙◌, ap}
 use mathlib.Core.Bool.{Bool, true, false, not, false≢true}
 use mathlib.Core.List.{List, [], ◌∷◌, ◌++◌, append-nil}
-use mathlib.Core.Option.{Option, none, some, bind, map, none-ne-some}
+use mathlib.Core.Option.{Option, none, some, bind, map}
 use Prim.Native.Nat.{ℕ, suc, ◌+◌, ◌-◌, ◌≤◌}
 use native.Mathlib.Omega.{arith}
 use lib.Dec.{ltb}
@@ -12,12 +12,11 @@ use borrow.Author.Tests.{lt-ltb}
 use Rattle.std.specs.Bool.{then_some}
 use Rattle.lists.specs.Choice.{is_some, or_else}
 use Rattle.lists.specs.Lists.{Bytes}
-use Rattle.lists.proofs.ChoiceLaws.{map_some, given_some, given_none}
+use Rattle.lists.proofs.ChoiceLaws.{map_some, given_none}
 use Rattle.lines.specs.Line.{Read as ReadForm, ended_lines, read_line, leading}
-use Rattle.lines.specs.Cursor.{line_at}
 use Rattle.lines.specs.Readings.{part_of}
-use Rattle.lines.proofs.LineLaws.{leading_end, leading-none, leading-some}
-use Rattle.lines.proofs.SectionLaws.{line_here, line_none, Section, section_start, section_next}
+use Rattle.lines.proofs.LineLaws.{leading_end, leading-some}
+use Rattle.lines.proofs.SectionLaws.{Section, section_start, section_next}
 use Rattle.lines.proofs.SectionLaws.{section-lines, section-rest, section-part, section-closed}
 use Rattle.lines.proofs.SectionLaws.{leading-append, leading-snoc}
 use Rattle.rules.specs.Response.{Entry, Lookup}

@@ -2,7 +2,6 @@
 use mathlib.Core.Path.{sym, ◌∙◌, ap}
 use mathlib.Core.List.{[]}
 use Rattle.lines.specs.Number.{ascii}
-use Rattle.lines.specs.Readings.{read_of}
 use Rattle.inputs.specs.ResponseLines.{head_of}
 use Rattle.inputs.proofs.ResponseLineLaws.{number-off, head-alone}
 use Rattle.inputs.proofs.response_lines.head_line.Goals as goal

@@ -1,8 +1,7 @@
 -- `inputs::response_lines::kind_line` meets its contract: the two words are passed over, then the
 -- two parts are read.
-use mathlib.Core.Path.{◌≡◌, refl, sym, ◌∙◌, ap}
+use mathlib.Core.Path.{refl, sym, ◌∙◌, ap}
 use Rattle.lines.specs.Number.{ascii}
-use Rattle.lines.specs.Readings.{next_of}
 use Rattle.inputs.proofs.ResponseLineLaws.{with_kind, kind-on, kind-off, kind-other}
 use Rattle.inputs.proofs.response_lines.kind_line.Goals as goal
 

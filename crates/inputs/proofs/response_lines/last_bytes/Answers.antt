@@ -1,12 +1,10 @@
 -- `inputs::response_lines::last_bytes` meets its contract: the field encodes a byte string, and no
 -- other follows it.
-use mathlib.Core.Path.{refl, sym, ◌∙◌, ap}
+use mathlib.Core.Path.{refl, sym, ◌∙◌}
 use mathlib.Core.List.{[]}
-use native.Mathlib.Omega.{arith}
 use borrow.Author.Tests.{lt-ltb, le-ltb}
 use Rattle.lists.specs.Choice.{provided}
 use Rattle.lines.specs.Field.{bytes}
-use Rattle.lines.specs.Readings.{read_of}
 use Rattle.lines.proofs.FormLaws.{bytes-none, field_off}
 use Rattle.inputs.proofs.ResponseLineLaws.{part-stands, last-field}
 use Rattle.inputs.proofs.response_lines.last_bytes.Goals as goal

@@ -1,15 +1,12 @@
 -- `inputs::response_lines::last_parts` meets its contract: the first field has its length, and the
 -- last is not too long.
-use mathlib.Core.Path.{◌≡◌, refl, sym, ◌∙◌, ap}
+use mathlib.Core.Path.{refl, sym, ◌∙◌}
 use mathlib.Core.List.{[], ◌∷◌}
 use mathlib.Core.Option.{bind}
-use Prim.Native.Nat.{ℕ}
-use lib.Dec.{leb}
 use borrow.Author.Tests.{le-leb, lt-leb}
 use Rattle.lists.specs.Choice.{provided}
 use Rattle.lines.specs.Field.{exactly, up_to}
 use Rattle.lines.proofs.FormLaws.{field_off}
-use Rattle.inputs.specs.ResponseLines.{next_part_of}
 use Rattle.inputs.proofs.ResponseLineLaws.{first-part}
 use Rattle.inputs.proofs.response_lines.last_parts.Goals as goal
 

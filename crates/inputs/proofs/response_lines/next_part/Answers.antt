@@ -1,9 +1,8 @@
 -- `inputs::response_lines::next_part` meets its contract: the field encodes a byte string, and its
 -- length is compared.
-use mathlib.Core.Path.{sym, ◌∙◌, ap}
+use mathlib.Core.Path.{sym}
 use native.Mathlib.Omega.{arith}
 use borrow.Author.Tests.{eq-eqb, ne_eqb}
-use Rattle.lines.specs.Readings.{read_of}
 use Rattle.lines.proofs.FormLaws.{bytes-unfit, bytes-none}
 use Rattle.inputs.proofs.ResponseLineLaws.{part-stands, part-read}
 use Rattle.inputs.proofs.response_lines.next_part.Goals as goal

@@ -1,17 +1,12 @@
 -- `inputs::response_lines::target_line` meets its contract: the word and the version are read, then
 -- the two parts.
-use mathlib.Core.Path.{◌≡◌, refl, sym, ◌∙◌, ap}
+use mathlib.Core.Path.{refl, sym, ◌∙◌}
 use mathlib.Core.List.{[], ◌∷◌}
 use mathlib.Core.Option.{bind}
 use native.Mathlib.Omega.{arith}
 use Rattle.lines.specs.Number.{ascii}
 use Rattle.lines.specs.Field.{exactly, up_to}
-use Rattle.lines.specs.Line.{read_line}
-use Rattle.lines.specs.Readings.{read_of}
-use Rattle.lines.proofs.FormLaws.{with_rest}
 use Rattle.rules.specs.Limits.{version_bound, opening_length, value_limit}
-use Rattle.rules.specs.ResponseText.{version_field, target_form}
-use Rattle.inputs.specs.ResponseLines.{last_parts_of}
 use Rattle.inputs.proofs.ResponseLineLaws.{number-off, number-below, target-parts}
 use Rattle.inputs.proofs.response_lines.target_line.Goals as goal
 

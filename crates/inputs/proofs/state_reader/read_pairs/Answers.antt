@@ -1,6 +1,6 @@
 -- `inputs::state_reader::read_pairs` meets its contract. The loop's invariant: the lines so far all
 -- lead, and are counted; the first of their positions and versions stand in the arrays.
-use mathlib.Core.Path.{sym, ◌∙◌, ap}
+use mathlib.Core.Path.{sym}
 use native.Mathlib.Omega.{arith}
 use borrow.Author.Rules.{rules}
 use Rattle.rules.specs.StateText.{read_pair}

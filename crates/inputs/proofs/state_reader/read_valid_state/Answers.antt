@@ -3,7 +3,6 @@
 use mathlib.Core.Path.{sym, ◌∙◌, ap}
 use mathlib.Core.Option.{none, some, map}
 use native.Mathlib.Omega.{arith}
-use borrow.Author.Rules.{rules}
 use Rattle.lists.proofs.ChoiceLaws.{map_some}
 use Rattle.lines.specs.Line.{read_line}
 use Rattle.rules.specs.StateText.{size_form}

@@ -1,8 +1,7 @@
 -- `inputs::text_line::line_from` meets its contract: the newline that is found ends the line.
-use mathlib.Core.Path.{◌≡◌, refl, sym, ◌∙◌, ap}
+use mathlib.Core.Path.{refl, sym}
 use mathlib.Core.Option.{some}
 use native.Mathlib.Omega.{arith}
-use Rattle.lines.specs.Readings.{read_of}
 use Rattle.lines.proofs.SectionLaws.{line_here}
 use Rattle.inputs.proofs.TextLineLaws.{from-open, from_some}
 use Rattle.inputs.proofs.text_line.line_from.Goals as goal
