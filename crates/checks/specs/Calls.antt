@@ -44,7 +44,6 @@ use Rattle.inputs.specs.declared.response_lines.Kind.{Kind as KindBlock}
 use Rattle.inputs.specs.declared.response_lines.Kind.TheVariants.{Search, Monitor}
 use Rattle.inputs.specs.declared.response_lines.Target.{Target as TargetBlock}
 use Rattle.inputs.specs.declared.response.Response.{Response}
-use Rattle.inputs.specs.declared.response.ReadResponse.TheVariants.{Read as ReadAs}
 use Rattle.inputs.specs.Response.{parts_in, Offsets}
 use Rattle.checks.specs.declared.call.Accepted.{Accepted}
 use Rattle.checks.specs.declared.call.Found.{Found}
@@ -176,7 +175,7 @@ are_lengths_fit limit response configuration signed outputs identifier =
 pub record Readable (st : Option State) (text : Bytes) (k : CallBlock)
     (identifier' outputs' : Bytes) : Type 0 where
   pub valid : is_some (valid_state st) ≡ true
-  pub offsets : Offsets text (ReadAs k.response)
+  pub offsets : Offsets text (Some k.response)
   pub read : read_response text ≡ some (parts_in text k.response)
   pub short : length text ≤ offset_bound
   pub identifier : length identifier' ≡ identifier_length
@@ -289,7 +288,7 @@ TargetFits Monitor text t = Unit {0}
 
 -- what is known of a response that was read, to which 8 does not apply, and of the outputs
 pub record Triable (text : Bytes) (k : CallBlock) (outputs' : Bytes) : Type 0 where
-  pub offsets : Offsets text (ReadAs k.response)
+  pub offsets : Offsets text (Some k.response)
   pub short : length text ≤ offset_bound
   pub outputs : length outputs' ≤ vrf_outputs_limit
   pub target : TargetFits k.response.kind text k.response.target
@@ -391,7 +390,7 @@ Is14Tried text k t kept r block =
 pub record Checkable (text : Bytes) (k : CallBlock) (identifier' label' : Bytes) (length' : ℕ)
     (positions versions' : List ℕ)
     (pairs' : ℕ) (outputs' : Bytes) : Type 0 where
-  pub offsets : Offsets text (ReadAs k.response)
+  pub offsets : Offsets text (Some k.response)
   pub read : read_response text ≡ some (parts_in text k.response)
   pub short : length text ≤ offset_bound
   pub identifier : length identifier' ≡ identifier_length
@@ -451,7 +450,7 @@ pub record Accepting (c : Call) (text : Bytes) (k : CallBlock) (b : StateBlock) 
     (room : ℕ) : Type 0 where
   pub parts : c.parts ≡ parts_in text k.response
   pub read : read_response text ≡ some (parts_in text k.response)
-  pub offsets : Offsets text (ReadAs k.response)
+  pub offsets : Offsets text (Some k.response)
   pub state : state_of b ≡ some c.state
   pub leaves : Leaves c k r block
   pub is_room : c.inputs.room ≡ room

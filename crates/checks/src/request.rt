@@ -15,8 +15,7 @@ use inputs::refusal::Refusal;
 use inputs::response::Response;
 use inputs::response_lines::{Kind, KtLine};
 use inputs::state::State;
-use lines::part::equal;
-use lines::writing::{Put, put_decoded};
+use lines::writing::put_decoded;
 use tree::log_head::LogHead;
 
 // Whether no input is too long, a response being limited to so many bytes, and the identifier has
@@ -149,7 +148,7 @@ fn decodes(field: &[u8], bytes: &[u8]) -> bool
 {
     let mut room = [0u8; State::LABEL];
     match put_decoded(&mut room, 0, field) {
-        Put::Next(stop) => equal(&room[..stop], bytes),
-        Put::Unchanged => false,
+        Some(stop) => &room[..stop] == bytes,
+        None => false,
     }
 }

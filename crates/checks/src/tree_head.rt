@@ -5,9 +5,7 @@ ghost use Rattle.rules.specs.Configuration.{tree_head};
 ghost use Rattle.rules.specs.Calls.{placed};
 ghost use Rattle.checks.specs.Calls.{length_in};
 
-use hash::bytes::bytes8;
 use inputs::refusal::Refusal;
-use lines::part::equal;
 use lines::writing::put_bytes;
 
 // The bytes of a size, and those of a size and a root, which stand after the configuration.
@@ -25,21 +23,13 @@ pub(crate) fn is_tree_head(
     ensures { result ≡ same signed.now
         (tree_head configuration.now tree_size root) }
 {
-    if signed.len() < configuration.len() {
+    let Some(rest) = signed.strip_prefix(configuration) else {
         return false;
-    }
-    if !equal(&signed[..configuration.len()], configuration) {
+    };
+    let Some(rest) = rest.strip_prefix(&tree_size.to_be_bytes()) else {
         return false;
-    }
-    let rest = &signed[configuration.len()..];
-    if rest.len() < SIZE {
-        return false;
-    }
-    let number = bytes8(tree_size);
-    if !equal(&rest[..SIZE], &number) {
-        return false;
-    }
-    equal(&rest[SIZE..], &root)
+    };
+    rest == root
 }
 
 // Writes the signed text of a log into bytes from an offset on and answers its length; with too
@@ -77,7 +67,7 @@ fn put_tree_head(bytes: &mut [u8], configuration: &[u8], tree_size: u64, root: [
     ensures { bytes.new
         ≡ written bytes.old 0 (tree_head configuration.now tree_size root) }
 {
-    let number = bytes8(tree_size);
+    let number = tree_size.to_be_bytes();
     put_bytes(bytes, 0, configuration);
     put_bytes(bytes, configuration.len(), &number);
     put_bytes(bytes, configuration.len() + SIZE, &root);
