@@ -22,10 +22,6 @@ same_behind [] s t = refl
 same_behind (x ∷ a) s t = rw (eq-eqb x x refl) (same_behind a s t)
 
 module _ (s a t : List ℕ) where
-  -- a text that is shorter than the first part
-  short-front : length s < length a → false ≡ same s (a ++ t)
-  short-front h = sym (differ_same s (a ++ t) (λ e. omega (arith, ap length e, length-append a t)))
-
   -- one that begins with something else
   other-front : same (take (length a) s) a ≡ false → false ≡ same s (a ++ t)
   other-front h =
@@ -46,10 +42,6 @@ unfolding tree_head
 head_parts a n r = append_assoc a (big_endian 8 n) r
 
 module _ (s a : Bytes) (n : ℕ) (r : Bytes) where
-  -- no room for the configuration
-  pub configuration-short : length s < length a → false ≡ same s (tree_head a n r)
-  configuration-short h = rw (head_parts a n r) (short-front s a (big_endian 8 n ++ r) h)
-
   -- another configuration
   pub configuration-other : same (take (length a) s) a ≡ false → false ≡ same s (tree_head a n r)
   configuration-other h = rw (head_parts a n r) (other-front s a (big_endian 8 n ++ r) h)
@@ -59,19 +51,12 @@ module _ (s a : Bytes) (n : ℕ) (r : Bytes) where
     behind : same t (big_endian 8 n ++ r) ≡ same s (tree_head a n r)
     behind = rw (head_parts a n r, d) (same-front s a (big_endian 8 n ++ r) h)
 
-    -- no room for the size
-    pub size_short : length t < 8 → false ≡ same s (tree_head a n r)
-    size_short f = short-front t (big_endian 8 n) r (rw (length_big_endian 8 n) f) ∙ behind
-
     module _ {b : Bytes} (e : b ≡ big_endian 8 n) where
-      -- the size against its bytes
-      sizes : same (take (length (big_endian 8 n)) t) (big_endian 8 n) ≡ same (take 8 t) b
-      sizes = rw (length_big_endian 8 n, e) refl
-
       -- another size
-      pub size-other : same (take 8 t) b ≡ false → false ≡ same s (tree_head a n r)
-      size-other f = other-front t (big_endian 8 n) r (sizes ∙ f) ∙ behind
+      pub size-other : same (take (length b) t) b ≡ false → false ≡ same s (tree_head a n r)
+      size-other f = other-front t (big_endian 8 n) r (rw (← e) f) ∙ behind
 
       -- the same, and the rest is the root
-      pub root-left : {u : Bytes} → u ≡ drop 8 t → same (take 8 t) b ≡ true → same u r ≡ same s (tree_head a n r)
-      root-left q f = rw (q, ← length_big_endian 8 n) (same-front t (big_endian 8 n) r (sizes ∙ f) ∙ behind)
+      pub root-left : {u : Bytes} → u ≡ drop (length b) t → same (take (length b) t) b ≡ true
+          → same u r ≡ same s (tree_head a n r)
+      root-left q f = rw q (rw e (same-front t (big_endian 8 n) r (rw (← e) f))) ∙ behind

@@ -36,8 +36,7 @@ fn committed(opening: [u8; Target::OPENING], label: &[u8], value: &[u8]) -> [u8;
     ensures { result ≡ commitment_to opening label.now value.now }
 {
     let head = [label.len() as u8];
-    let size = value.len();
-    let mid = [0, 0, (size / 256) as u8, (size % 256) as u8];
+    let mid = (value.len() as u32).to_be_bytes();
     let text = start(&KEY)
         .update(&opening)
         .update(&head)

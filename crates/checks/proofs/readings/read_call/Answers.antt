@@ -34,8 +34,23 @@ returns-then-not-outputs_rise c =
     (sym c.if-not-outputs_rise.true ∙ c.outputs_rise.ensures)
 
 pub returns-in_err-response : goal.returns-in_err-response
-returns-in_err-response c = ?
+returns-in_err-response c =
+    let e : c.from_residual-in_err-response.result ≡ Err c.in_err-response.field-0.0 = search rules in
+    let read = ok_given _ _ _ (sym c.ok_or.ensures.value ∙ c.in_ok-settings.was) in
+    let (none, is) = err_given _ _ _ (sym c.ok_or-2.ensures.value ∙ c.in_err-response.was) in
+    rw (e, is)
+    (inputs-broken _ _ _ _ _ _ _ _ _ _ (sym c.if-not-lengths_fit.false ∙ c.lengths_fit.ensures) _
+    (sym c.read_configuration.ensures ∙ ap (configuration_of _) read) c.if-not-valid.false
+    (sym c.if-not-outputs_rise.false ∙ c.outputs_rise.ensures)
+    (sym c.read_response.ensures.parts ∙ ap (parts_of _) none))
 
 pub returns : goal.returns
 unfolding configuration_in
-returns c = ?
+returns c =
+    let e = c.read_response.ensures in
+    let read = ok_given _ _ _ (sym c.ok_or.ensures.value ∙ c.in_ok-settings.was) in
+    let some = ok_given _ _ _ (sym c.ok_or-2.ensures.value ∙ c.in_ok-response.was) in
+    inputs_read _ _ _ _ _ _ _ _ _ _ (sym c.if-not-lengths_fit.false ∙ c.lengths_fit.ensures) _
+    (sym c.read_configuration.ensures ∙ ap (configuration_of _) read) c.if-not-valid.false
+    (sym c.if-not-outputs_rise.false ∙ c.outputs_rise.ensures) c.requires _
+    (subst (Offsets _) some e.offsets) (sym e.parts ∙ ap (parts_of _) some)
