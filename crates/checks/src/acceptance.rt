@@ -47,7 +47,12 @@ pub(crate) fn accepted(
     ) else {
         return Err(Refusal::Room);
     };
-    let found = put_found(response.kind, version, response.target.value.of(text), output)?;
+    let found = put_found(
+        response.kind,
+        version,
+        response.target.value.of(text),
+        output,
+    )?;
     Ok(Accepted {
         state: State {
             label: state.label,

@@ -77,7 +77,13 @@ pub(crate) fn try_6_to_8(
 }
 
 // Whether a response is of the kind asked for, with the identifier sent and the label.
-fn is_requested(asked: Option<Kind>, text: &[u8], r: Response, identifier: &[u8], label: &[u8]) -> bool
+fn is_requested(
+    asked: Option<Kind>,
+    text: &[u8],
+    r: Response,
+    identifier: &[u8],
+    label: &[u8],
+) -> bool
     requires fields { Fields text.now r }
     requires identifier { length identifier.now ≤ label_limit }
     requires label { length label.now ≤ label_limit }

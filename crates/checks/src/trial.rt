@@ -181,7 +181,10 @@ fn try_9_to_13(
     let mut commitments = [0u32; Commitments::RECORDS];
     let timestamp = try_9_to_11(text, call, positions, versions, outputs, &mut commitments)?;
     let position = try_12_and_13(text, call, label, outputs, &commitments)?;
-    Ok(Tried { position, timestamp })
+    Ok(Tried {
+        position,
+        timestamp,
+    })
 }
 
 // Tries 9 to 11. The offsets of the commitments go into the table lent, by the records of their
