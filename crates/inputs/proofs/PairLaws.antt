@@ -98,14 +98,11 @@ unfolding map_of
 map_made [] = refl
 map_made (e ∷ es) = ap (λ (l : List MapEntry). e ∷ l) (map_made es)
 
--- a pair has the position and the version of its index
-pub map_at : (ps vs : List ℕ) (i : ℕ) (d : MapEntry) → i < length ps → i < length vs
-    → get_or (map_of ps vs) i d ≡ record { position = get_or ps i 0; version = get_or vs i 0 }
+-- without positions there are none
+pub map_none : (ps vs : List ℕ) → length ps ≡ 0 → map_of ps vs ≡ []
 unfolding map_of
-map_at [] vs i d h l = absurd (omega arith)
-map_at (p ∷ ps) [] i d h l = absurd (omega arith)
-map_at (p ∷ ps) (v ∷ vs) zero d h l = refl
-map_at (p ∷ ps) (v ∷ vs) (suc i) d h l = map_at ps vs i d (omega arith) (omega arith)
+map_none [] vs e = refl
+map_none (p ∷ ps) vs e = absurd (omega arith)
 
 -- the pairs from an index on are the one there and those after it
 pub pairs_from_lem : (ps vs : List ℕ) (i : ℕ) → i < length ps → i < length vs

@@ -1,20 +1,23 @@
 -- Laws of writing a state's text (specs/StateWriter.antt): texts written one after the other, the
 -- pieces of which each line is made, a line for each element of a list, and the room that a valid
 -- state's struct and text have.
-use mathlib.Core.Path.{◌≡◌, refl, sym, ◌∙◌, ap}
+use mathlib.Core.Path.{◌≡◌, refl, sym, ◌∙◌, ap, subst}
 use mathlib.Core.Bool.{true, false}
 use mathlib.Core.List.{List, [], ◌∷◌, ◌++◌, flat_map, append_assoc, append-nil}
 use mathlib.Core.Option
 use mathlib.Core.Option.{Option, none, some, Option-elim}
-use Prim.Native.Nat.{ℕ, ◌+◌, ◌-◌, ◌*◌, ◌≤◌, ◌<◌}
+use Prim.Native.Nat.{ℕ, zero, suc, ◌+◌, ◌-◌, ◌*◌, ◌≤◌, ◌<◌}
 use native.Mathlib.Numerals.{add-one}
 use native.Mathlib.Omega.{arith}
 use lib.Count.{ones}
 use lib.Dec.{leb}
 use lib.ListN.{length, take, drop, get_or, length-append, take-append-drop}
-use lib.Seq.{take_all, take-suc}
+use lib.Seq.{take-take, drop_at, length-take-le}
 use borrow.Author.Tests.{le-leb, lt-leb, leb-true}
-use Rattle.lists.specs.Choice.{is_some}
+use Rattle.std.specs.Option.{unwrap_or}
+use Rattle.std.specs.Prelude.{Some, None, Option as CodeOption}
+use Rattle.std.proofs.lemmas.List.{take_at}
+use Rattle.lists.specs.Choice.{is_some, option_of}
 use Rattle.lists.specs.Lists.{Bytes, runs, written}
 use Rattle.lists.proofs.ChoiceLaws.{choose_true, choose_false, choose_by, provided_some, given_some}
 use Rattle.lists.proofs.ChoiceLaws.{given_none}
@@ -33,12 +36,17 @@ use Rattle.rules.specs.Calls.{written_first}
 use Rattle.rules.proofs.StateLaws.{valid_was, values_fit}
 use Rattle.rules.proofs.StateTextLaws.{state_short}
 use Rattle.rules.proofs.RefusalLaws.{valid_some}
-use Rattle.tree.proofs.RunLaws.{length_runs, runs-at}
+use Rattle.tree.proofs.RunLaws.{length_runs, drop-take}
 use Rattle.inputs.specs.declared.state.State.{State as StateBlock}
 use Rattle.inputs.specs.State.{map_of, label_in, log_in, map_in, contents, room_is_zero, state_of}
 use Rattle.inputs.specs.StateWriter.{text_for, Wrote}
 
 -- ---- one text after the other
+
+-- an offset of the code, or the one before, is that of the definitions
+pub unwrapped : (o : CodeOption ℕ) (d : ℕ) → unwrap_or o d ≡ Option.get_or (option_of o) d
+unwrapped None d = refl
+unwrapped (Some n) d = refl
 
 -- a text that is put where it fits is written
 pub wrote_put : {s : Bytes} {at : ℕ} (t : Bytes) {n : ℕ} {s' : Bytes} (o : Option ℕ) → at + length t ≤ length s
@@ -103,59 +111,85 @@ pair_pieces e = simp append_assoc
 
 -- ---- a text for each element of a list
 
-module _ {A : Type 0} (f : A → Bytes) where
-  -- the texts of two lists one after the other are the texts of each
-  texts-append : (xs ys : List A) → flat_map f (xs ++ ys) ≡ flat_map f xs ++ flat_map f ys
-  unfolding flat_map
-  texts-append [] ys = refl
-  texts-append (x ∷ xs) ys = ap (λ (t : Bytes). f x ++ t) (texts-append xs ys) ∙ sym (append_assoc (f x) (flat_map f xs) (flat_map f ys))
+-- texts were written, and those of the elements that are left follow them in the texts of all
+pub record TextsTo {A : Type 0} (f : A → Bytes) (s : Bytes) (at : ℕ) (xs left : List A) (n : ℕ) (s' : Bytes) : Type 0 where
+  pub text : Bytes
+  pub wrote : Wrote s at text n s'
+  pub whole : text ++ flat_map f left ≡ flat_map f xs
 
-  -- the texts of the first elements and of the next
-  texts-next : (xs : List A) (i : ℕ) (d : A) → i < length xs → flat_map f (take (i + 1) xs) ≡ flat_map f (take i xs) ++ f (get_or xs i d)
-  unfolding flat_map
-  texts-next xs i d h =
-      let e = ap (λ (t : Bytes). flat_map f (take i xs) ++ t) (append-nil (f (get_or xs i d))) in
-      rw (add-one i, take-suc xs i d h) (texts-append (take i xs) (get_or xs i d ∷ []) ∙ e)
+module _ {A : Type 0} (f : A → Bytes) (xs : List A) where
+  -- at first no text is written
+  pub texts-start : (s : Bytes) (at : ℕ) → at + length (flat_map f xs) ≤ length s → TextsTo f s at xs xs at s
+  texts-start s at h = record { text = []; wrote = wrote_nothing s at (omega arith); whole = refl }
 
-  -- the texts of the first elements are no longer than those of all
-  texts-within : (xs : List A) (i : ℕ) → length (flat_map f (take i xs)) ≤ length (flat_map f xs)
-  texts-within xs i =
-      let e = ap (flat_map f) (sym (take-append-drop i xs)) ∙ texts-append (take i xs) (drop i xs) in
-      omega (arith, ap length e, length-append (flat_map f (take i xs)) (flat_map f (drop i xs)))
+  module _ {s : Bytes} {at n : ℕ} {s' : Bytes} where
+    module _ (x : A) (left : List A) (w : TextsTo f s at xs (x ∷ left) n s') where
+      -- the texts so far and that of the next element, and those after it
+      next_whole : (w.text ++ f x) ++ flat_map f left ≡ flat_map f xs
+      unfolding flat_map
+      next_whole = append_assoc w.text (f x) (flat_map f left) ∙ w.whole
 
-  module _ (xs : List A) where
-    -- at first no text is written
-    pub texts-start : (s : Bytes) (at : ℕ) → at + length (flat_map f xs) ≤ length s → Wrote s at (flat_map f (take 0 xs)) at s
+      -- where there is room for all texts, there is room for that of the next element
+      pub texts-room : at + length (flat_map f xs) ≤ length s → n + length (f x) ≤ length s'
+      texts-room r = room-then (f x) w.wrote (room_first (w.text ++ f x) (flat_map f left) at (length s) (rw next_whole r))
+
+      -- with it one text more is written
+      pub texts-step : {m : ℕ} {s'' : Bytes} → Wrote s' n (f x) m s'' → TextsTo f s at xs left m s''
+      texts-step {m} {s''} v = record { text = w.text ++ f x; wrote = wrote_then (f x) w.wrote v; whole = next_whole }
+
+    -- when none is left all are written
+    pub texts-end : TextsTo f s at xs [] n s' → Wrote s at (flat_map f xs) n s'
     unfolding flat_map
-    texts-start s at h = wrote_nothing s at (omega arith)
-
-    module _ {s : Bytes} {at i n : ℕ} {s' : Bytes} (w : Wrote s at (flat_map f (take i xs)) n s') where
-      module _ (d x : A) (e : get_or xs i d ≡ x) (h : i < length xs) where
-        -- the texts so far and that of the next element
-        both : flat_map f (take i xs) ++ f x ≡ flat_map f (take (i + 1) xs)
-        both = sym (texts-next xs i d h ∙ ap (λ (y : A). flat_map f (take i xs) ++ f y) e)
-
-        -- where there is room for all texts, there is room for that of the next element
-        pub texts-room : at + length (flat_map f xs) ≤ length s → n + length (f x) ≤ length s'
-        texts-room r = room-then (f x) w (omega (arith, ap length both, texts-within xs (i + 1)))
-
-        -- with it one text more is written
-        pub texts-step : {m : ℕ} {s'' : Bytes} → Wrote s' n (f x) m s'' → Wrote s at (flat_map f (take (i + 1) xs)) m s''
-        texts-step {m} {s''} v = rw both at (wrote_then (f x) w v)
-
-    -- after the last element all are written
-    pub texts-end : {s : Bytes} {at n : ℕ} {s' : Bytes} (i : ℕ) → length xs ≤ i → Wrote s at (flat_map f (take i xs)) n s'
-        → Wrote s at (flat_map f xs) n s'
-    texts-end i h w = rw (take_all i xs h) at w
+    texts-end w = rw (sym (append-nil w.text) ∙ w.whole) at w.wrote
 
 -- ---- values
 
--- a value of a block stands between its offset and that of the next
-pub value_at : (count : ℕ) (block : Bytes) (i : ℕ) → i < count
-    → get_or (runs count hash_length block) i [] ≡ take (hash_length * i + hash_length - hash_length * i) (drop (hash_length * i) block)
-value_at count block i h =
-    let e : hash_length * i + hash_length - hash_length * i ≡ hash_length = omega arith in
-    rw e (runs-at count hash_length block i [] h)
+-- the first runs of the front of a list are those of the list
+pub runs_front : (n k : ℕ) (s : Bytes) → runs n k (take (k * n) s) ≡ runs n k s
+unfolding runs
+runs_front zero k s = refl
+runs_front (suc n) k s =
+    let e : k * suc n ≡ k + k * n = omega arith in
+    rw (take-take k (k * suc n) s (omega arith), e, drop-take k (k * n) s) (ap (λ (vs : List Bytes). take k s ∷ vs) (runs_front n k (drop k s)))
+
+-- the values that are left stand in the bytes that are left
+pub record ValuesTo (s : Bytes) (at : ℕ) (vs : List Bytes) (rest : Bytes) (n : ℕ) (s' : Bytes) : Type 0 where
+  pub left : ℕ
+  pub whole : length rest ≡ hash_length * left
+  pub texts : TextsTo write_keep s at vs (runs left hash_length rest) n s'
+
+-- at first all are left
+pub values_start : (s : Bytes) (at count : ℕ) (block : Bytes) → hash_length * count ≤ length block
+    → at + length (flat_map write_keep (runs count hash_length block)) ≤ length s
+    → ValuesTo s at (runs count hash_length block) (take (hash_length * count) block) at s
+values_start s at count block h r =
+    let vs = runs count hash_length block in
+    record {
+      left = count;
+      whole = length-take-le (hash_length * count) block h;
+      texts = subst (λ (left : List Bytes). TextsTo write_keep s at vs left at s) (sym (runs_front count hash_length block)) (texts-start write_keep vs s at r);
+    }
+
+module _ (s : Bytes) (at : ℕ) (vs : List Bytes) {n : ℕ} {s' : Bytes} where
+  -- a value is the first of those that are left
+  pub values_next : (v rest : Bytes) → length v ≡ hash_length → ValuesTo s at vs (v ++ rest) n s'
+      → (k : ℕ) × (length rest ≡ hash_length * k) × TextsTo write_keep s at vs (v ∷ runs k hash_length rest) n s'
+  unfolding runs
+  values_next v rest h w = go w.left w.whole w.texts
+    where
+      go : (k : ℕ) → length (v ++ rest) ≡ hash_length * k → TextsTo write_keep s at vs (runs k hash_length (v ++ rest)) n s'
+          → (k : ℕ) × (length rest ≡ hash_length * k) × TextsTo write_keep s at vs (v ∷ runs k hash_length rest) n s'
+      go zero e t = absurd (omega (arith, length-append v rest))
+      go (suc k) e t = (k, omega (arith, length-append v rest), rw (take_at v rest hash_length h, drop_at v rest hash_length h) at t)
+
+  -- where fewer bytes are left than a value has, no value is left
+  pub values_end : (rest : Bytes) → length rest < hash_length → ValuesTo s at vs rest n s' → TextsTo write_keep s at vs [] n s'
+  unfolding runs
+  values_end rest h w = go w.left w.whole w.texts
+    where
+      go : (k : ℕ) → length rest ≡ hash_length * k → TextsTo write_keep s at vs (runs k hash_length rest) n s' → TextsTo write_keep s at vs [] n s'
+      go zero e t = t
+      go (suc k) e t = absurd (omega arith)
 
 -- ---- a valid state
 

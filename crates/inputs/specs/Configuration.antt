@@ -1,6 +1,7 @@
 -- How the configuration that was read stands for that of the rules.
 use Rattle.std.proofs.Math.Option.{Option, none, some, bind as ◌>>=◌}
 use Rattle.std.specs.Prelude.{ℕ, drop, Some, None, Option as CodeOption}
+use Rattle.lists.specs.Choice.{option_of}
 use Rattle.lists.specs.Lists.{Bytes}
 use Rattle.lines.specs.declared.part.Part.{Part}
 use Rattle.lines.specs.Readings.{part_of}
@@ -9,11 +10,6 @@ use Rattle.rules.specs.Configuration.{Configuration, read_optional}
 use Rattle.inputs.specs.declared.configuration.Configuration.{Configuration as ConfigurationParts}
 use Rattle.inputs.specs.declared.configuration.Front.{Front}
 use Rattle.inputs.specs.declared.configuration.Times.{Times}
-
--- an optional number
-abbrev pub lifetime_of : CodeOption ℕ → Option ℕ
-lifetime_of (Some n) = some n
-lifetime_of None = none
 
 -- its numbers, and its keys as parts of the encoded configuration
 unfoldable pub configuration_in : Bytes → ConfigurationParts → Configuration
@@ -26,7 +22,7 @@ configuration_in s c =
       max_ahead = c.ahead;
       max_behind = c.behind;
       monitoring_window = c.window;
-      maximum_lifetime = lifetime_of c.lifetime;
+      maximum_lifetime = option_of c.lifetime;
     }
 
 -- what was read; bytes that do not read are refused with 2
@@ -65,7 +61,7 @@ opaque_in s None = none
 
 -- an optional number, if there is one
 abbrev pub optional_in : Bytes → CodeOption (CodeOption ℕ × ℕ) → Option (Option ℕ × Bytes)
-optional_in s (Some (l, next)) = some (lifetime_of l, drop next s)
+optional_in s (Some (l, next)) = some (option_of l, drop next s)
 optional_in s None = none
 
 -- ---- the fields in two groups, with what follows them
@@ -95,5 +91,5 @@ read_times s = do
 
 -- what was read of them, if it could be
 abbrev pub times_in : Bytes → CodeOption Times → Option (ℕ × ℕ × ℕ × Option ℕ × Bytes)
-times_in s (Some t) = some (t.ahead, t.behind, t.window, lifetime_of t.lifetime, drop t.next s)
+times_in s (Some t) = some (t.ahead, t.behind, t.window, option_of t.lifetime, drop t.next s)
 times_in s None = none

@@ -18,7 +18,7 @@ ghost use Rattle.inputs.specs.StateWriter.{text_for, Wrote};
 
 use crate::state::State;
 use lines::layout::Word;
-use lines::writing::{next_offset, put_bytes, put_decimal, put_hex};
+use lines::writing::{put_bytes, put_decimal, put_hex};
 
 // The bytes of a value.
 const VALUE: usize = 32;
@@ -45,19 +45,22 @@ fn put_state(out: &mut [u8], state: State) -> usize
     requires room { state_text_limit ≤ length out.old }
     ensures { Wrote out.old 0 (write_state (contents state)) result out.new }
 {
-    let label = state.label;
-    let bytes = label.bytes;
-    let length = label.length;
-    let log = state.log;
-    let values = log.values;
+    let State { label, log, map } = state;
     let count = u64::count_ones(log.size) as usize;
-    let map = state.map;
-    let positions = map.positions;
-    let versions = map.versions;
-    let pairs = map.count;
-    let keeps_at = put_size(out, 0, log.size, log.timestamp, &bytes[..length]);
-    let pairs_at = put_keeps(out, keeps_at, &values, count);
-    put_pairs(out, pairs_at, &positions[..pairs], &versions[..pairs])
+    let keeps_at = put_size(
+        out,
+        0,
+        log.size,
+        log.timestamp,
+        &label.bytes[..label.length],
+    );
+    let pairs_at = put_keeps(out, keeps_at, &log.values, count);
+    put_pairs(
+        out,
+        pairs_at,
+        &map.positions[..map.count],
+        &map.versions[..map.count],
+    )
 }
 
 // The `size` line.
@@ -80,11 +83,8 @@ fn put_keeps(out: &mut [u8], at: usize, values: &[u8], count: usize) -> usize
         (flat_map write_keep (runs count hash_length values.now)) result out.new }
 {
     let mut offset = at;
-    let mut i: usize = 0;
-    while i < count {
-        let start = VALUE * i;
-        offset = put_keep(out, offset, &values[start..start + VALUE]);
-        i += 1;
+    for value in values[..VALUE * count].chunks_exact(VALUE) {
+        offset = put_keep(out, offset, value);
     }
     offset
 }
@@ -108,10 +108,8 @@ fn put_pairs(out: &mut [u8], at: usize, positions: &[u64], versions: &[u32]) -> 
         (flat_map write_pair (map_of positions.now versions.now)) result out.new }
 {
     let mut offset = at;
-    let mut i: usize = 0;
-    while i < positions.len() {
-        offset = put_pair(out, offset, positions[i], versions[i]);
-        i += 1;
+    for (&position, &version) in positions.iter().zip(versions) {
+        offset = put_pair(out, offset, position, version);
     }
     offset
 }
@@ -145,7 +143,7 @@ fn put_number(out: &mut [u8], at: usize, n: u64) -> usize
     ensures { Wrote out.old at (tab ∷ decimal n) result out.new }
 {
     let offset = put_all(out, at, b"\t");
-    next_offset(put_decimal(out, offset, n), offset)
+    put_decimal(out, offset, n).unwrap_or(offset)
 }
 
 // A byte string as a field, after its tab.
@@ -154,7 +152,7 @@ fn put_field(out: &mut [u8], at: usize, s: &[u8]) -> usize
     ensures { Wrote out.old at (tab ∷ hex_field s.now) result out.new }
 {
     let offset = put_all(out, at, b"\t");
-    next_offset(put_hex(out, offset, s), offset)
+    put_hex(out, offset, s).unwrap_or(offset)
 }
 
 // Bytes as they are.
@@ -162,5 +160,5 @@ fn put_all(out: &mut [u8], at: usize, s: &[u8]) -> usize
     requires { at + length s.now ≤ length out.old }
     ensures { Wrote out.old at s.now result out.new }
 {
-    next_offset(put_bytes(out, at, s), at)
+    put_bytes(out, at, s).unwrap_or(at)
 }

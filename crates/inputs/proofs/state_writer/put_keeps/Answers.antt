@@ -1,37 +1,33 @@
--- `inputs::state_writer::put_keeps` meets its contract: after i turns the lines of the first i
--- values are written.
-use mathlib.Core.List.{[]}
+-- `inputs::state_writer::put_keeps` meets its contract: the lines of the values so far are written,
+-- and those of the values that are left follow them.
+use mathlib.Core.Path.{◌≡◌, sym, ◌∙◌}
+use Prim.Native.Nat.{◌*◌}
 use native.Mathlib.Omega.{arith}
-use Rattle.lists.specs.Lists.{runs}
+use lib.ListN.{length, take}
 use Rattle.rules.specs.Limits.{hash_length}
 use Rattle.rules.specs.StateText.{write_keep}
-use Rattle.tree.proofs.RunLaws.{length_runs}
-use Rattle.inputs.proofs.StateWriterLaws.{texts-start, texts-room, texts-step, texts-end}
-use Rattle.inputs.proofs.StateWriterLaws.{value_at}
+use Rattle.inputs.proofs.StateWriterLaws.{TextsTo, values_start, values_next, values_end}
+use Rattle.inputs.proofs.StateWriterLaws.{texts-room, texts-step, texts-end}
 use Rattle.inputs.proofs.state_writer.put_keeps.Goals as goal
 
-pub loop-i-init : goal.loop-i-init
-loop-i-init c = (omega arith, texts-start write_keep (runs c.args.count hash_length c.args.values.now) _ _ c.requires.room)
+pub loop-value-init : goal.loop-value-init
+loop-value-init c =
+    let a = c.args in
+    let z : c.into_iter-value-iterator.result.size ≡ hash_length = cc in
+    let r : c.into_iter-value-iterator.result.rest.now ≡ take (hash_length * a.count) a.values.now = cc in
+    (z, rw r (values_start a.out.now a.at a.count a.values.now c.requires.values c.requires.room))
 
 pub put_keep-offset-requires : goal.put_keep-offset-requires
 put_keep-offset-requires c =
-    let l = c.loop-i in
-    let a = c.args in
-    let n = length_runs a.count hash_length a.values.now in
-    let v = value_at a.count a.values.now l.i (omega arith) in
-    texts-room write_keep (runs a.count hash_length a.values.now) l.invariant.1 [] _ v (omega arith) c.requires.room
+    let s = c.in-Some.ensures.steps in
+    let (k, e, t) = values_next _ _ _ _ _ (s.1.1 ∙ c.loop-value.invariant.0) (rw s.1.0 at c.loop-value.invariant.1) in
+    texts-room write_keep _ _ _ t c.requires.room
 
-pub loop-i-preserved : goal.loop-i-preserved
-loop-i-preserved c =
-    let l = c.loop-i in
-    let a = c.args in
-    let n = length_runs a.count hash_length a.values.now in
-    let v = value_at a.count a.values.now l.i (omega arith) in
-    (omega arith, texts-step write_keep (runs a.count hash_length a.values.now) l.invariant.1 [] _ v (omega arith) c.put_keep-offset.ensures)
+pub loop-value-preserved : goal.loop-value-preserved
+loop-value-preserved c =
+    let s = c.in-Some.ensures.steps in
+    let (k, e, t) = values_next _ _ _ _ _ (s.1.1 ∙ c.loop-value.invariant.0) (rw s.1.0 at c.loop-value.invariant.1) in
+    (s.0 ∙ c.loop-value.invariant.0, record { left = k; whole = e; texts = texts-step write_keep _ _ _ t c.put_keep-offset.ensures })
 
 pub returns : goal.returns
-returns c =
-    let l = c.loop-i in
-    let a = c.args in
-    let n = length_runs a.count hash_length a.values.now in
-    texts-end write_keep (runs a.count hash_length a.values.now) l.i (omega arith) l.invariant.1
+returns c = texts-end write_keep _ (values_end _ _ _ _ (let s = c.in-None.ensures.steps in let z = c.loop-value.invariant.0 in omega arith) c.loop-value.invariant.1)
