@@ -26,10 +26,10 @@ pub(crate) fn is_tree_head(
     let Some(rest) = signed.strip_prefix(configuration) else {
         return false;
     };
-    let Some(rest) = rest.strip_prefix(&tree_size.to_be_bytes()) else {
-        return false;
-    };
-    rest == root
+    match rest.strip_prefix(&tree_size.to_be_bytes()) {
+        Some(left) => left == root.as_slice(),
+        None => false,
+    }
 }
 
 // Writes the signed text of a log into bytes from an offset on and answers its length; with too

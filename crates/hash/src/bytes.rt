@@ -1,6 +1,6 @@
-// Bytes put one after the other, and numbers as bytes, the highest first.
+// Bytes put one after the other.
 ghost use Rattle.std.specs.Prelude.{◌≡◌, ◌≤◌, length};
-ghost use Rattle.hash.specs.Bytes.{big_endian, joined, padded};
+ghost use Rattle.hash.specs.Bytes.{joined, padded};
 
 // The parts one after the other, and zeros after them.
 pub(crate) fn buffer_of<const N: usize>(parts: &[&[u8]]) -> [u8; N]
@@ -15,11 +15,4 @@ pub(crate) fn buffer_of<const N: usize>(parts: &[&[u8]]) -> [u8; N]
         at += part.len();
     }
     buffer
-}
-
-// The eight bytes of a number.
-pub fn bytes8(x: u64) -> [u8; 8]
-    ensures { (length result ≡ 8) × (result ≡ big_endian 8 x) }
-{
-    x.to_be_bytes()
 }

@@ -3,7 +3,7 @@
 #![tactic(auto)]
 
 pub mod block;
-pub mod bytes;
+mod bytes;
 pub mod hasher;
 pub mod hmac;
 pub mod sha256;

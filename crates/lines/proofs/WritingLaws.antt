@@ -13,7 +13,8 @@ use lib.Seq.{sets, sets-eq, length-sets, drop-set-lt, get_or-set_same, take_all}
 use Rattle.std.proofs.lemmas.Slice.{put_mid-paste}
 use borrow.Author.Tests.{le-leb, lt-leb, leb-true, leb-false}
 use borrow.Rule.Slice.PartMut.{put_mid}
-use Rattle.lists.specs.Choice.{choose, provided}
+use Rattle.std.specs.Prelude.{Some, None, Option as CodeOption}
+use Rattle.lists.specs.Choice.{choose, provided, option_of}
 use Rattle.lists.specs.Lists.{Bytes, written}
 use Rattle.lists.proofs.ChoiceLaws.{provided_some, provided_none}
 use Rattle.lines.specs.Number.{ascii, decimal}
@@ -77,19 +78,34 @@ pub put_over : (s : Bytes) (at : ℕ) (t : Bytes) → length s < at + length t �
 unfolding offset_after put_at choose provided
 put_over s at t h = (rw (lt-leb (at + length t) (length s) h) refl, rw (lt-leb (at + length t) (length s) h) refl)
 
--- where the offset after a text is known, the text fits and is written
-pub put_ends : (s : Bytes) (at : ℕ) (t : Bytes) (e : ℕ) → some e ≡ offset_after s at t
-    → (e ≡ at + length t) × (at + length t ≤ length s) × (put_at s at t ≡ written s at t)
-unfolding offset_after
-put_ends s at t e h =
-    let (l, v) = provided_some _ _ e (sym h) in
-    let f = leb-true _ _ l in
-    (sym v, f, (put_fits s at t f).1)
+-- a text that ends within the room: the offset after it, and what is there once it is written
+pub record Ends (s : Bytes) (at : ℕ) (t : Bytes) (end : ℕ) : Type 0 where
+  pub offset : some end ≡ offset_after s at t
+  pub is : end ≡ at + length t
+  pub fits : at + length t ≤ length s
+  pub bytes : put_at s at t ≡ written s at t
 
--- where there is none, nothing is written
-pub put_stays : (s : Bytes) (at : ℕ) (t : Bytes) → none ≡ offset_after s at t → put_at s at t ≡ s
-unfolding offset_after
-put_stays s at t h = (put_over s at t (leb-false _ _ (provided_none _ _ (sym h)))).1
+-- a text that is not put
+pub record Stays (s : Bytes) (at : ℕ) (t : Bytes) : Type 0 where
+  pub offset : none ≡ offset_after s at t
+  pub bytes : put_at s at t ≡ s
+
+module _ (s : Bytes) (at : ℕ) (t : Bytes) (n : ℕ) (l : length t ≡ n) (r : CodeOption ℕ) (e : option_of r ≡ provided (leb (at + n) (length s)) (at + n)) where
+  -- where the code knows the offset after so many bytes, they are put
+  pub room_ends : (end : ℕ) → r ≡ Some end → Ends s at t end
+  unfolding offset_after
+  room_ends end w =
+      let o : some end ≡ offset_after s at t = rw l (ap option_of (sym w) ∙ e) in
+      let (h, v) = provided_some _ _ end (sym o) in
+      let f = leb-true _ _ h in
+      record { offset = o; is = sym v; fits = f; bytes = (put_fits s at t f).1 }
+
+  -- where it knows none, nothing is
+  pub room_none : r ≡ None → Stays s at t
+  unfolding offset_after
+  room_none w =
+      let o : none ≡ offset_after s at t = rw l (ap option_of (sym w) ∙ e) in
+      record { offset = o; bytes = (put_over s at t (leb-false _ _ (provided_none _ _ (sym o)))).1 }
 
 -- a part in which a text stands in the place of what was there
 pub put_part : (s : Bytes) (at : ℕ) (t : Bytes) (e : ℕ) (now : Bytes) → e ≡ at + length t → now ≡ t

@@ -1,10 +1,13 @@
 -- `lines::hex::decoded_length` meets its contract: the bytes passed are digits, so the others
 -- decide.
-use mathlib.Core.Path.{◌≡◌, refl, sym, ◌∙◌, ap}
+use mathlib.Core.Path.{◌≡◌, sym, ◌∙◌}
 use mathlib.Core.Bool.{Bool}
 use native.Mathlib.Omega.{arith}
 use borrow.Author.Tests.{eqb-true, eqb-false}
-use Rattle.lists.specs.Lists.{same}
+use lib.Dec.{eqb}
+use lib.Pointwise.{pointwise}
+use mathlib.Core.List.{[], ◌∷◌}
+use Rattle.lists.specs.Lists.{Bytes, same}
 use Rattle.lists.proofs.SameLaws.{slices_same}
 use Rattle.lines.specs.Number.{ascii}
 use Rattle.lines.specs.Hex.{dash}
@@ -13,32 +16,33 @@ use Rattle.lines.proofs.HexLengthLaws.{decoded_dash, decoded-empty, decoded-odd,
 use Rattle.lines.proofs.HexLengthLaws.{decoded-half}
 use Rattle.lines.proofs.hex.decoded_length.Goals as goal
 
-pub returns-then-eq : goal.returns-then-eq
+-- whether a field is the dash, as the code has it
+is_dash : (s d : Bytes) (e : Bool) → d ≡ 45 ∷ [] → e ≡ pointwise eqb s d → same s dash ≡ e
 unfolding dash ascii
+is_dash s d e p q = rw p at (sym (q ∙ slices_same s d))
+
+pub returns-then-eq : goal.returns-then-eq
 returns-then-eq c =
     let s = c.args.s.now in
-    let d : same s dash ≡ c.eq.result = rw c.as_slice.ensures at (sym (c.eq.ensures ∙ slices_same s c.as_slice.result.now)) in
+    let d = is_dash s c.as_slice.result.now c.eq.result c.as_slice.ensures c.eq.ensures in
     sym (decoded_dash s (d ∙ c.if-eq.true))
 
 pub returns-then-is_empty : goal.returns-then-is_empty
-unfolding dash ascii
 returns-then-is_empty c =
     let s = c.args.s.now in
-    let d : same s dash ≡ c.eq.result = rw c.as_slice.ensures at (sym (c.eq.ensures ∙ slices_same s c.as_slice.result.now)) in
+    let d = is_dash s c.as_slice.result.now c.eq.result c.as_slice.ensures c.eq.ensures in
     sym (decoded-empty s (d ∙ c.if-eq.false) (eqb-true _ _ (sym c.if-is_empty.ensures)))
 
 pub returns-then-s-ne0 : goal.returns-then-s-ne0
-unfolding dash ascii
 returns-then-s-ne0 c =
     let s = c.args.s.now in
-    let d : same s dash ≡ c.eq.result = rw c.as_slice.ensures at (sym (c.eq.ensures ∙ slices_same s c.as_slice.result.now)) in
+    let d = is_dash s c.as_slice.result.now c.eq.result c.as_slice.ensures c.eq.ensures in
     sym (decoded-odd s (d ∙ c.if-eq.false) c.if-s-ne0.true)
 
 pub returns-then-not-is_hex_digit : goal.returns-then-not-is_hex_digit
-unfolding dash ascii
 returns-then-not-is_hex_digit c =
     let s = c.args.s.now in
-    let d : same s dash ≡ c.eq.result = rw c.as_slice.ensures at (sym (c.eq.ensures ∙ slices_same s c.as_slice.result.now)) in
+    let d = is_dash s c.as_slice.result.now c.eq.result c.as_slice.ensures c.eq.ensures in
     let e = sym c.is_hex_digit.ensures ∙ c.if-not-is_hex_digit.true in
     sym (decoded-other s (d ∙ c.if-eq.false) (c.loop-b.invariant ∙ digit-other s c.loop-b.b-index (omega arith) e))
 
@@ -48,9 +52,8 @@ loop-b-preserved c =
     c.loop-b.invariant ∙ digit-one _ c.loop-b.b-index (omega arith) e
 
 pub returns : goal.returns
-unfolding dash ascii
 returns c =
     let s = c.args.s.now in
-    let d : same s dash ≡ c.eq.result = rw c.as_slice.ensures at (sym (c.eq.ensures ∙ slices_same s c.as_slice.result.now)) in
+    let d = is_dash s c.as_slice.result.now c.eq.result c.as_slice.ensures c.eq.ensures in
     let n = eqb-false _ _ (sym c.if-is_empty.ensures) in
     sym (decoded-half s (d ∙ c.if-eq.false) (omega (arith, n)) c.if-s-ne0.false (c.loop-b.invariant ∙ digits_none s c.loop-b.b-index (omega arith)))

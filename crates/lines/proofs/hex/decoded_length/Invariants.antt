@@ -1,11 +1,9 @@
 -- `lines::hex::spelled_length` meets its contract: the bytes before i are digits, so those from i
 -- on decide.
 use mathlib.Core.Path.{◌≡◌}
-use mathlib.Core.Bool.{false}
-use Prim.Native.Nat.{◌-◌, ◌%◌, ◌≤◌, ◌<◌}
-use lib.ListN.{length, drop}
-use Rattle.lists.specs.Lists.{all, same}
-use Rattle.lines.specs.Hex.{dash, is_hex_digit}
+use lib.ListN.{drop}
+use Rattle.lists.specs.Lists.{all}
+use Rattle.lines.specs.Hex.{is_hex_digit}
 use Rattle.lines.proofs.hex.decoded_length.Given as goal
 
 abbrev pub invariant-loop-b : goal.invariant-loop-b

@@ -1,6 +1,6 @@
 -- `lines::hex::read_digest` meets its contract: the bytes so far and what the digits left encode
 -- stay the value, and what is left has the bytes that are no digits.
-use mathlib.Core.Path.{◌≡◌, refl, sym, ◌∙◌}
+use mathlib.Core.Path.{◌≡◌, sym, ◌∙◌}
 use Prim.Native.Nat.{◌+◌, ◌*◌}
 use native.Mathlib.Omega.{arith}
 use lib.ListN.{drop, length-set}
@@ -12,9 +12,6 @@ use Rattle.lines.proofs.hex.read_digest.Goals as goal
 
 pub returns-then-s-ne-DIGITS : goal.returns-then-s-ne-DIGITS
 returns-then-s-ne-DIGITS c = sym (digest_long c.args.s.now c.if-s-ne-DIGITS.true)
-
-pub loop-i-init : goal.loop-i-init
-loop-i-init c = (refl, refl, refl)
 
 pub returns-then-not-is_hex_digit : goal.returns-then-not-is_hex_digit
 returns-then-not-is_hex_digit c =
@@ -30,12 +27,6 @@ returns-then-not-is_hex_digit-2 c =
     let d = sym c.is_hex_digit.ensures ∙ c.if-not-is_hex_digit.false in
     let e = sym c.is_hex_digit-in-loop-i.ensures ∙ c.if-not-is_hex_digit-2.true in
     sym (digest_other s (c.loop-i.invariant.1 ∙ digit-other-second s (2 * i) (omega arith) d e))
-
-pub digit_value-requires : goal.digit_value-requires
-digit_value-requires c = sym c.is_hex_digit.ensures ∙ c.if-not-is_hex_digit.false
-
-pub digit_value-requires-in-loop-i : goal.digit_value-requires-in-loop-i
-digit_value-requires-in-loop-i c = sym c.is_hex_digit-in-loop-i.ensures ∙ c.if-not-is_hex_digit-2.false
 
 pub loop-i-preserved : goal.loop-i-preserved
 loop-i-preserved c =

@@ -2,7 +2,7 @@
 -- stay the value, and what is left has the bytes that are no digits.
 use mathlib.Core.Path.{◌≡◌}
 use mathlib.Core.List.{◌++◌}
-use Prim.Native.Nat.{◌-◌, ◌*◌, ◌≤◌}
+use Prim.Native.Nat.{◌*◌}
 use lib.ListN.{length, take, drop}
 use Rattle.lists.specs.Lists.{all}
 use Rattle.lines.specs.Hex.{is_hex_digit, unhex}

@@ -8,7 +8,7 @@ use lib.ListN.{length, drop, get_or}
 use Rattle.lists.specs.Lists.{Bytes}
 use Rattle.lines.specs.Line.{before, newline}
 use Rattle.lines.proofs.OffsetLaws.{span_more}
-use borrow.Author.Tests.{eqb-false, not-true}
+use borrow.Author.Tests.{eqb-false}
 use Rattle.lines.proofs.line.lacks_newline.Goals as goal
 
 -- one byte more
@@ -21,17 +21,7 @@ step s at k false h v e =
     let w = v refl in
     rw n (omega (arith, m, w))
 
-pub loop-k-init : goal.loop-k-init
-loop-k-init c =
-    let n : c.args.at + 0 ≡ c.args.at = omega arith in
-    λ e. rw n refl
-
 pub loop-k-preserved : goal.loop-k-preserved
 loop-k-preserved c =
     let a = c.args in
     step a.s.now a.at c.loop-k.k c.loop-k.hit (omega arith) c.loop-k.invariant
-
-pub returns : goal.returns
-returns c e =
-    let n : c.args.count ≡ c.loop-k.k = omega arith in
-    rw n (c.loop-k.invariant (not-true _ e))

@@ -1,9 +1,7 @@
 -- `lines::line::line_end` meets its contract: the offset passed and what stands before the newline
 -- from there on stay the answer.
-use mathlib.Core.Path.{◌∙◌}
 use Prim.Native.Nat.{ℕ, ◌-◌, ◌≤◌}
 use native.Mathlib.Omega.{arith}
-use lib.ListN.{length}
 use Rattle.lines.specs.Line.{newline}
 use Rattle.lines.proofs.OffsetLaws.{span-stop, span_more}
 use Rattle.lines.proofs.line.line_end.Goals as goal

@@ -1,6 +1,6 @@
 -- `lines::line::line_end` meets its contract: the offset passed and what stands before the newline from there on stay the answer.
 use mathlib.Core.Path.{◌≡◌}
-use Prim.Native.Nat.{◌+◌, ◌-◌, ◌≤◌}
+use Prim.Native.Nat.{◌+◌, ◌≤◌}
 use lib.ListN.{length, drop}
 use Rattle.lines.specs.Line.{before, newline}
 use Rattle.lines.proofs.line.line_end.Given as goal

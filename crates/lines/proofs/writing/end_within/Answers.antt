@@ -1,11 +1,9 @@
 -- `lines::writing::end_within` meets its contract: an offset beyond all numbers is beyond the room.
 use mathlib.Core.Path.{◌≡◌, sym, ◌∙◌, ap}
-use mathlib.Core.Option.{none}
 use native.Mathlib.Omega.{arith}
-use lib.Dec.{leb}
 use borrow.Author.Tests.{le-leb, lt-leb}
-use Prim.Native.Nat.{ℕ, ◌+◌, ◌<◌}
-use Rattle.lists.specs.Choice.{option_of, provided}
+use Prim.Native.Nat.{◌+◌}
+use Rattle.lists.specs.Choice.{option_of}
 use Rattle.lists.proofs.ChoiceLaws.{provided_true, provided_false}
 use Rattle.lines.proofs.writing.end_within.Goals as goal
 

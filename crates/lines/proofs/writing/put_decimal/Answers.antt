@@ -30,9 +30,6 @@ loop-rest-preserved c =
     let s = digits-stored n l.rest l.digits l.first l.invariant.0 l.invariant.3 (omega arith) in
     (omega (arith, length-set l.digits l.first (48 + l.rest % 10)), simp length-set l.invariant.1, l.invariant.2, rw k s)
 
-pub slice_bounds-put_bytes-end : goal.slice_bounds-put_bytes-end
-slice_bounds-put_bytes-end c = let l = c.loop-rest in omega (arith, length-set l.digits l.first (48 + l.rest))
-
 pub returns : goal.returns
 returns c =
     let a = c.args in

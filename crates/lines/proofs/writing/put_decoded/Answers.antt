@@ -1,12 +1,9 @@
 -- `lines::writing::put_decoded` meets its contract: the field's bytes are stored where there is room
 -- for them; where it encodes none, nothing is.
-use mathlib.Core.Path.{◌≡◌, sym, ap, ◌∙◌}
-use mathlib.Core.Option.{none, some}
-use native.Mathlib.Omega.{arith}
+use mathlib.Core.Path.{sym, ap, ◌∙◌}
 use Rattle.lists.specs.Choice.{option_of}
 use Rattle.lines.specs.Hex.{unhex, read_hex}
-use Rattle.lines.specs.Writing.{offset_after}
-use Rattle.lines.proofs.WritingLaws.{put_ends, put_stays, put_some, put_none}
+use Rattle.lines.proofs.WritingLaws.{room_ends, room_none, put_some, put_none}
 use Rattle.lines.proofs.HexLengthLaws.{decoded_was, decoded_not}
 use Rattle.lines.proofs.writing.put_decoded.Goals as goal
 
@@ -18,38 +15,27 @@ returns-in_err-count c =
     record { offset = ap option_of c.from_residual.ensures ∙ sym p; bytes = sym b }
 
 pub returns-in_err-end : goal.returns-in_err-end
-unfolding offset_after
 returns-in_err-end c =
     let a = c.args in
     let f = a.field.now in
     let (r, l) = decoded_was f c.in_ok-count.count (ap option_of (sym c.in_ok-count.was) ∙ c.decoded_length.ensures) in
     let (p, b) = put_some a.out.now a.at (read_hex f) (unhex f) r in
-    let e : none ≡ offset_after a.out.now a.at (unhex f) = rw l (ap option_of (sym c.in_err-end.was) ∙ c.end_within.ensures) in
-    record {
-      offset = ap option_of c.from_residual-in_err-end.ensures ∙ e ∙ sym p;
-      bytes = sym (b ∙ put_stays a.out.now a.at (unhex f) e);
-    }
+    let o = room_none a.out.now a.at (unhex f) _ l _ c.end_within.ensures c.in_err-end.was in
+    record { offset = ap option_of c.from_residual-in_err-end.ensures ∙ o.offset ∙ sym p; bytes = sym (b ∙ o.bytes) }
 
 pub store_decoded-requires : goal.store_decoded-requires
-unfolding offset_after
 store_decoded-requires c =
     let a = c.args in
     let f = a.field.now in
     let (r, l) = decoded_was f c.in_ok-count.count (ap option_of (sym c.in_ok-count.was) ∙ c.decoded_length.ensures) in
-    let (p, b) = put_some a.out.now a.at (read_hex f) (unhex f) r in
-    let e : some c.in_ok-end.end ≡ offset_after a.out.now a.at (unhex f) =
-    rw l (ap option_of (sym c.in_ok-end.was) ∙ c.end_within.ensures) in
-    let (n, m, w) = put_ends a.out.now a.at (unhex f) c.in_ok-end.end e in
-    record { decodes = r; room = m }
+    let o = room_ends a.out.now a.at (unhex f) _ l _ c.end_within.ensures _ c.in_ok-end.was in
+    record { decodes = r; room = o.fits }
 
 pub returns : goal.returns
-unfolding offset_after
 returns c =
     let a = c.args in
     let f = a.field.now in
     let (r, l) = decoded_was f c.in_ok-count.count (ap option_of (sym c.in_ok-count.was) ∙ c.decoded_length.ensures) in
+    let o = room_ends a.out.now a.at (unhex f) _ l _ c.end_within.ensures _ c.in_ok-end.was in
     let (p, b) = put_some a.out.now a.at (read_hex f) (unhex f) r in
-    let e : some c.in_ok-end.end ≡ offset_after a.out.now a.at (unhex f) =
-    rw l (ap option_of (sym c.in_ok-end.was) ∙ c.end_within.ensures) in
-    let (n, m, w) = put_ends a.out.now a.at (unhex f) c.in_ok-end.end e in
-    record { offset = e ∙ sym p; bytes = c.store_decoded.ensures ∙ sym (b ∙ w) }
+    record { offset = o.offset ∙ sym p; bytes = c.store_decoded.ensures ∙ sym (b ∙ o.bytes) }

@@ -1,7 +1,6 @@
 -- `lines::writing::put_hex` meets its contract: the digits are stored where there is room for two
 -- of each byte; the empty byte string is put as a dash.
 use mathlib.Core.Path.{◌≡◌, sym, ap, ◌∙◌}
-use mathlib.Core.Option.{none, some}
 use Prim.Native.Nat.{◌*◌, ◌<◌}
 use native.Mathlib.Omega.{arith}
 use lib.ListN.{length}
@@ -9,9 +8,8 @@ use borrow.Author.Tests.{eqb-true, eqb-false}
 use Rattle.lists.specs.Choice.{option_of}
 use Rattle.lists.specs.Lists.{Bytes, written}
 use Rattle.lines.specs.Hex.{hex_field}
-use Rattle.lines.specs.Writing.{offset_after}
 use Rattle.lines.proofs.HexLaws.{length_hex, hex_field_some}
-use Rattle.lines.proofs.WritingLaws.{put_ends, put_stays, hex_field_none}
+use Rattle.lines.proofs.WritingLaws.{room_ends, room_none, hex_field_none}
 use Rattle.lines.proofs.writing.put_hex.Goals as goal
 
 -- the field of a byte string that is not empty has two digits for each byte
@@ -24,34 +22,26 @@ returns-then-is_empty c =
     rw (hex_field_none c.args.s.now (eqb-true _ _ (sym c.if-is_empty.ensures))) (record { offset = b.offset; bytes = b.bytes })
 
 pub returns-in_err-end : goal.returns-in_err-end
-unfolding offset_after
 returns-in_err-end c =
     let a = c.args in
     let z = eqb-false _ _ (sym c.if-is_empty.ensures) in
     let l = length-field a.s.now (omega (arith, z)) in
-    let e : none ≡ offset_after a.out.now a.at (hex_field a.s.now) =
-    rw l (ap option_of (sym c.in_err-end.was) ∙ c.end_within.ensures) in
-    record { offset = ap option_of c.from_residual.ensures ∙ e; bytes = sym (put_stays a.out.now a.at (hex_field a.s.now) e) }
+    let o = room_none a.out.now a.at (hex_field a.s.now) _ l _ c.end_within.ensures c.in_err-end.was in
+    record { offset = ap option_of c.from_residual.ensures ∙ o.offset; bytes = sym o.bytes }
 
 pub store_hex-requires : goal.store_hex-requires
-unfolding offset_after
 store_hex-requires c =
     let a = c.args in
     let z = eqb-false _ _ (sym c.if-is_empty.ensures) in
     let l = length-field a.s.now (omega (arith, z)) in
-    let e : some c.in_ok-end.end ≡ offset_after a.out.now a.at (hex_field a.s.now) =
-    rw l (ap option_of (sym c.in_ok-end.was) ∙ c.end_within.ensures) in
-    let (n, f, w) = put_ends a.out.now a.at (hex_field a.s.now) c.in_ok-end.end e in
-    omega (arith, f, l)
+    let o = room_ends a.out.now a.at (hex_field a.s.now) _ l _ c.end_within.ensures _ c.in_ok-end.was in
+    omega (arith, o.fits, l)
 
 pub returns : goal.returns
-unfolding offset_after
 returns c =
     let a = c.args in
     let z = eqb-false _ _ (sym c.if-is_empty.ensures) in
     let l = length-field a.s.now (omega (arith, z)) in
-    let e : some c.in_ok-end.end ≡ offset_after a.out.now a.at (hex_field a.s.now) =
-    rw l (ap option_of (sym c.in_ok-end.was) ∙ c.end_within.ensures) in
-    let (n, f, w) = put_ends a.out.now a.at (hex_field a.s.now) c.in_ok-end.end e in
+    let o = room_ends a.out.now a.at (hex_field a.s.now) _ l _ c.end_within.ensures _ c.in_ok-end.was in
     let h = ap (written a.out.now a.at) (sym (hex_field_some a.s.now (omega (arith, z)))) in
-    record { offset = e; bytes = c.store_hex.ensures ∙ h ∙ sym w }
+    record { offset = o.offset; bytes = c.store_hex.ensures ∙ h ∙ sym o.bytes }

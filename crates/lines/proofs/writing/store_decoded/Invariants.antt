@@ -1,7 +1,7 @@
 -- `lines::writing::store_spelled` meets its contract: the bytes that the digits from 2i on encode,
 -- stored into what is there, make all bytes in their place.
 use mathlib.Core.Path.{◌≡◌}
-use Prim.Native.Nat.{◌+◌, ◌-◌, ◌*◌, ◌/◌, ◌≤◌}
+use Prim.Native.Nat.{◌+◌, ◌*◌}
 use lib.ListN.{length, drop}
 use lib.Seq.{sets}
 use Rattle.lists.specs.Lists.{written}

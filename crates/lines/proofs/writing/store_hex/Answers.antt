@@ -15,12 +15,6 @@ loop-i-init c =
     let a = c.args in
     (refl, sets_start a.out.now a.at (hex a.s.now) (omega (arith, length_hex a.s.now)))
 
-pub hex_digit-requires : goal.hex_digit-requires
-hex_digit-requires c = omega (arith, c.shared_slice_known-in-loop-i-1.given c.loop-i.i)
-
-pub bounds-out-at-in-loop-i : goal.bounds-out-at-in-loop-i
-bounds-out-at-in-loop-i c = simp length-set (omega arith)
-
 pub loop-i-preserved : goal.loop-i-preserved
 loop-i-preserved c =
     let a = c.args in

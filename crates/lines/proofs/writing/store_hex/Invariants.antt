@@ -1,7 +1,7 @@
 -- `lines::writing::store_hex` meets its contract: the digits of the bytes from i on, stored into
 -- what is there, make all digits in their place.
 use mathlib.Core.Path.{◌≡◌}
-use Prim.Native.Nat.{◌+◌, ◌-◌, ◌*◌, ◌≤◌}
+use Prim.Native.Nat.{◌+◌, ◌*◌}
 use lib.ListN.{length, drop}
 use lib.Seq.{sets}
 use Rattle.lists.specs.Lists.{written}
