@@ -33,7 +33,7 @@ use Rattle.inputs.specs.declared.vrf_outputs.FoundOutput.{FoundOutput}
 use Rattle.inputs.specs.VrfOutputs.{records_below, IsRecordOf}
 use Rattle.rules.specs.ResponseText.{read_step}
 use Rattle.inputs.specs.Response.{steps_in}
-use Rattle.inputs.proofs.VrfOutputLaws.{found_is, found_index, fewer_below}
+use Rattle.inputs.proofs.VrfOutputLaws.{found_none, found_some, fewer_below}
 use Rattle.checks.proofs.LineStepLaws.{no-line-end, some-line}
 use Rattle.checks.specs.declared.sections.NextStep.{NextStep}
 use Rattle.checks.specs.Sections.{StepLines, CommitmentAt, IsNextStep}
@@ -96,20 +96,17 @@ both a b s t h =
 
 -- ---- the offset of one commitment
 
-module _ (outputs : Bytes) (v offset : ℕ) (offsets : List ℕ) (r : FoundOutput) (f : IsRecordOf outputs v r) where
+module _ (outputs : Bytes) (v offset : ℕ) (offsets : List ℕ) where
   -- where an output is found, the offset at the number of its record becomes the commitment's
-  pub noted-found : r.found ≡ true → IsNoted outputs v offset offsets r.found (set offsets r.index offset)
-  noted-found t xs e = (sym has, λ _. ap (λ (j : ℕ). set offsets j offset) index, λ z. absurd (false≢true (sym z ∙ t)))
-    where
-      has : has_output xs v ≡ r.found
-      has = found_is outputs v r f xs e
-
-      index : r.index ≡ records_below xs v
-      index = ap (λ (r : FoundOutput). r.index) (f xs e) ∙ found_index xs (records_below xs v) v (has ∙ t)
+  pub noted_found : (x : FoundOutput) → IsRecordOf outputs v (Some x)
+      → IsNoted outputs v offset offsets true (set offsets x.index offset)
+  noted_found x f xs e =
+      let (has, _, index) = found_some outputs v x f xs e in
+      (sym has, λ _. ap (λ (j : ℕ). set offsets j offset) index, λ z. absurd (false≢true (sym z)))
 
   -- where none is, the table stays
-  pub noted-missing : r.found ≡ false → IsNoted outputs v offset offsets r.found offsets
-  noted-missing t xs e = (sym (found_is outputs v r f xs e), λ z. absurd (false≢true (sym t ∙ z)), λ _. refl)
+  pub noted_missing : IsRecordOf outputs v None → IsNoted outputs v offset offsets false offsets
+  noted_missing f xs e = (sym (found_none outputs v f xs e), λ z. absurd (false≢true z), λ _. refl)
 
 -- ---- the commitments of the steps read
 
