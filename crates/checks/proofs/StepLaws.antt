@@ -4,7 +4,7 @@
 use mathlib.Core.Path.{◌≡◌, refl, sym, ◌∙◌, ap, subst}
 use mathlib.Core.HLevel.{⊥_prop}
 use mathlib.Core.Logic.{◌⊎◌, inl, inr, ⊎_elim, ∥∥₁_elim}
-use mathlib.Core.Bool.{Bool, true, false, ◌&&◌, ◌||◌, not, beq, false≢true, and-true, and-false}
+use mathlib.Core.Bool.{Bool, true, false, ◌&&◌, not, false≢true, and-true, and-false}
 use mathlib.Core.List.{List, [], ◌∷◌, ◌++◌, append-nil, append_cancel_left, map-append}
 use mathlib.Core.List.Memᴰ
 use mathlib.Core.List.{Nodup, Nodup-nil, Nodup-cons, Nodup-append, Memᴰ}
@@ -19,7 +19,7 @@ use Rattle.std.specs.Prelude.{Some, None, Option as CodeOption}
 use Rattle.std.specs.Bool.{then_some}
 use Rattle.lists.specs.Choice.{is_some}
 use Rattle.lists.specs.Lists.{Bytes, all, same, rising, runs}
-use Rattle.lists.proofs.ChoiceLaws.{and_holds, holds_and, never_holds, or_holds, or_fails, provided_some}
+use Rattle.lists.proofs.ChoiceLaws.{and_holds, holds_and, never_holds, provided_some}
 use Rattle.lists.proofs.ListLaws.{all_at, all_with, all_without, any_at, mapped_at, same_true, equal_same}
 use Rattle.lists.proofs.ListLaws.{select_fewer, select_length}
 use Rattle.lists.proofs.RisingLaws.{rising_first, rising_tail}
@@ -61,38 +61,6 @@ record_within s xs v h e t =
     let b = le-ltb a.version v (omega (arith, eqb-true a.version v z)) in
     let f = select_fewer (λ (x : VrfOutput). ltb x.version v) (λ _. true) xs a (λ x _. refl) m b refl in
     omega (arith, f, select_length {A = VrfOutput} (λ _. true) xs, l)
-
--- ---- tests
-
--- a version is not another, or a test is not as another
-abbrev differs : ℕ → ℕ → Bool → Bool → Bool
-differs a b s t = not (eqb a b) || not (beq s t)
-
--- tests that are told apart differ
-tests_differ : (a b : Bool) → not (beq a b) ≡ true → a ≡ b → ⊥
-tests_differ true true e q = false≢true e
-tests_differ true false e q = false≢true (sym q)
-tests_differ false true e q = false≢true q
-tests_differ false false e q = false≢true e
-
--- those that are not are equal
-tests_agree : (a b : Bool) → not (beq a b) ≡ false → a ≡ b
-tests_agree true true e = refl
-tests_agree true false e = e
-tests_agree false true e = sym e
-tests_agree false false e = refl
-
--- then not both are equal
-pub not_both : (a b : ℕ) (s t : Bool) → differs a b s t ≡ true → a ≡ b → s ≡ t → ⊥
-not_both a b s t h e q =
-    ⊎_elim (λ p. eqb-false a b (not-true (eqb a b) p) e) (λ p. tests_differ s t p q)
-    (or_holds (not (eqb a b)) (not (beq s t)) h)
-
--- else they are
-pub both : (a b : ℕ) (s t : Bool) → differs a b s t ≡ false → (a ≡ b) × (s ≡ t)
-both a b s t h =
-    let (p, q) = or_fails (not (eqb a b)) (not (beq s t)) h in
-    (eqb-true a b (not-false (eqb a b) p), tests_agree s t q)
 
 -- ---- the offset of one commitment
 
