@@ -13,14 +13,13 @@ use Rattle.lists.specs.Lists.{Bytes}
 use Rattle.hash.specs.Bytes.{padded}
 use Rattle.hash.specs.Sha256.{digest_length}
 use Rattle.tree.specs.declared.walk_cursor.WalkCursor.{WalkCursor}
-use Rattle.tree.specs.declared.log_tree.Source.TheVariants.{Shown}
 use Rattle.tree.specs.declared.log_tree.Walked.{Walked}
 use Rattle.tree.specs.SearchTree.{power}
 use Rattle.tree.specs.LogTree.{is_shown, is_full, Walk, given, parent, walk, node_count, width_of}
 use Rattle.tree.specs.LogTree.{Known, value, full_values}
 use Rattle.tree.specs.LogText.{shown_in}
 use Rattle.tree.specs.LogHead.{block_length, positions}
-use Rattle.tree.specs.LogWalk.{range, position_of, cursor_before, past_node, Ready, SourceFacts, Tail, walk_on, end_on}
+use Rattle.tree.specs.LogWalk.{range, position_of, cursor_before, past_node, Ready, Tail, walk_on, end_on}
 use Rattle.tree.specs.LogWalk.{walked_by, walked_on, node_next, parent_by, compared_by, Filled, values_from}
 use Rattle.tree.proofs.WalkCaseLaws.{walks_over, walks_width}
 use Rattle.tree.proofs.WalkValueLaws.{full_values_one, full_values_both}
@@ -87,10 +86,6 @@ filled_then count a b c t u l f g s e h =
     g (s ++ t) (f s e h) x ∙ ap (padded block_length) (append_assoc s t u)
 
 -- ---- what the walk yields
-
--- where the last entries are a single one, which is shown, the walk takes that step
-pub spine_entry : (m n s w position : ℕ) → s + w ≡ n → w ≡ 1 → ltb position n ≡ true → SourceFacts (ltb position (s + w)) m (range s w) Shown
-spine_entry m n s w position e o p = (ap (ltb position) e ∙ p, o)
 
 module _ (vs : List Bytes) (text : Bytes) (ns : List Bytes) {m n s w : ℕ} {c : WalkCursor} (t : Tail n s) (z : w ≡ power (n - s)) (r : Ready text m s c) (h : m ≤ n) where
   -- whether something is shown in the last entries

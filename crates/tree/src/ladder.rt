@@ -1,9 +1,11 @@
 // The binary ladder of a version.
-ghost use Rattle.std.specs.Prelude.{◌≡◌, ◌-◌, ◌<◌, ◌≤◌, ◌^◌, length, take, drop};
+ghost use Rattle.std.specs.Prelude.{◌≡◌, ◌+◌, ◌-◌, ◌<◌, ◌≤◌, ◌^◌, length, take, drop, slice_set};
 ghost use Rattle.hash.specs.Bytes.{padded};
 ghost use Rattle.tree.specs.Ladder.{halve, ladder, ladder_within, ladder_capacity};
 
-// The versions in their order with zeros after them, and how many they are.
+// The versions in their order with zeros after them, and how many they are. The type stays beside
+// Frontier's, which has 64-bit entries: a generic struct holds no array of a type parameter, and the
+// project has no heap.
 #[derive(Clone, Copy)]
 pub struct Ladder {
     pub versions: [u32; Ladder::CAPACITY],
@@ -29,14 +31,23 @@ impl Ladder {
         }
         halved(version, climbed(version))
     }
+
+    // One version more.
+    fn push(&mut self, version: u32)
+        requires { self.old.length < ladder_capacity }
+        ensures { (self.new.versions ≡ slice_set self.old.versions self.old.length version)
+            × (self.new.length ≡ self.old.length + 1) }
+    {
+        self.versions[self.length] = version;
+        self.length += 1;
+    }
 }
 
 // The versions up to the first above the version asked for, which is `high`; `low` is the one
 // before it.
 #[derive(Clone, Copy)]
 struct Climb {
-    versions: [u32; Ladder::CAPACITY],
-    length: usize,
+    ladder: Ladder,
     low: u32,
     high: u32,
 }
@@ -44,53 +55,45 @@ struct Climb {
 // The climb of a ladder: 0, 1, 3, 7 and so on.
 fn climbed(version: u32) -> Climb
     requires { version < 2 ^ 32 - 1 }
-    ensures stored { result.versions ≡ padded ladder_capacity (take result.length (ladder version)) }
-    ensures left { drop result.length (ladder version) ≡ halve result.high version result.low result.high }
-    ensures bounds { (result.length ≤ length (ladder version)) × (result.low < result.high) }
+    ensures stored { result.ladder.versions ≡ padded ladder_capacity (take result.ladder.length (ladder version)) }
+    ensures left { drop result.ladder.length (ladder version) ≡ halve result.high version result.low result.high }
+    ensures bounds { (result.ladder.length ≤ length (ladder version)) × (result.low < result.high) }
 {
-    let mut versions = [0u32; Ladder::CAPACITY];
-    let mut length: usize = 0;
+    let mut ladder = Ladder {
+        versions: [0u32; Ladder::CAPACITY],
+        length: 0,
+    };
     let mut low: u32 = 0;
     let mut high: u32 = 0;
     while high <= version {
-        versions[length] = high;
-        length += 1;
+        ladder.push(high);
         low = high;
         high = 2 * high + 1;
     }
-    versions[length] = high;
-    length += 1;
-    Climb {
-        versions,
-        length,
-        low,
-        high,
-    }
+    ladder.push(high);
+    Climb { ladder, low, high }
 }
 
 // The whole ladder, from its climb: halving between `low` and `high` until they are neighbours.
 fn halved(version: u32, climb: Climb) -> Ladder
     requires version_bound { version < 2 ^ 32 - 1 }
-    requires versions_value { climb.versions ≡ padded ladder_capacity (take climb.length (ladder version)) }
-    requires version_value { drop climb.length (ladder version)
-        ≡ halve climb.high version climb.low climb.high }
-    requires length_in_bounds { (climb.length ≤ length (ladder version)) × (climb.low < climb.high) }
+    requires stored { climb.ladder.versions ≡ padded ladder_capacity (take climb.ladder.length (ladder version)) }
+    requires left { drop climb.ladder.length (ladder version) ≡ halve climb.high version climb.low climb.high }
+    requires bounds { (climb.ladder.length ≤ length (ladder version)) × (climb.low < climb.high) }
     ensures { (result.versions ≡ padded ladder_capacity (ladder version))
         × (result.length ≡ length (ladder version)) }
 {
-    let mut versions = climb.versions;
-    let mut length = climb.length;
+    let mut ladder = climb.ladder;
     let mut low = climb.low;
     let mut high = climb.high;
     while 1 < high - low {
         let middle = low + (high - low) / 2;
-        versions[length] = middle;
-        length += 1;
+        ladder.push(middle);
         if middle <= version {
             low = middle;
         } else {
             high = middle;
         }
     }
-    Ladder { versions, length }
+    ladder
 }

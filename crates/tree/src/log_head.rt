@@ -92,7 +92,7 @@ pub fn log_head(
             kept_size,
             kept,
         };
-        let top = spine(&log, tree_size, 0, cursor, values, 0);
+        let top = spine(&log, tree_size, 0, &cursor, values, 0);
         let root = top.value;
         return LogHead { root, met: top.met };
     }

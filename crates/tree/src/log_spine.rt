@@ -55,30 +55,27 @@ pub(crate) fn spine(
     log: &KnownLog<'_>,
     tree_size: u64,
     start: u64,
-    cursor: WalkCursor,
+    cursor: &WalkCursor,
     block: &mut [u8; LogHead::BLOCK],
     count: usize,
 ) -> Walked
-    requires tail { Tail tree_size start × Ready log.now.text.now log.now.kept_size start cursor
+    requires tail { Tail tree_size start × Ready log.now.text.now log.now.kept_size start cursor.now
         × (log.now.kept_size ≤ tree_size) }
     requires room { count + ones (tree_size - start) ≤ level_limit }
-    ensures value { result ≡ walked_on log.now.text.now (known_by log.now) (nodes_by log.now) cursor.node
+    ensures value { result ≡ walked_on log.now.text.now (known_by log.now) (nodes_by log.now) cursor.now.node
         (range start (tree_size - start)) }
     ensures filled { Filled count block.old block.new
-        (values_from tree_size (known_by log.now) (nodes_by log.now) start cursor.node) }
+        (values_from tree_size (known_by log.now) (nodes_by log.now) start cursor.now.node) }
 {
     let width = power(tree_size - start);
-    let shown = cursor.is_before(tree_size);
-    match edge_at(log.kept_size, tree_size, start, width, shown) {
+    match edge_at(
+        log.kept_size,
+        tree_size,
+        start,
+        width,
+        cursor.is_before(tree_size),
+    ) {
         Edge::Block => {
-            if width == 1 {
-                if shown {
-                    let entry = log.shown_entry(start, cursor);
-                    let value = entry.value;
-                    put_value(block, count, value);
-                    return entry;
-                }
-            }
             let whole = subtree(log, start, width, cursor);
             let value = whole.value;
             put_value(block, count, value);
@@ -96,7 +93,7 @@ pub(crate) fn spine(
             put_value(block, count, value);
             let next = start + width;
             let middle = left.cursor;
-            let right = spine(log, tree_size, next, middle, block, count + 1);
+            let right = spine(log, tree_size, next, &middle, block, count + 1);
             log.joined(start, width, left, tree_size - next, right)
         }
     }
@@ -116,8 +113,13 @@ pub(crate) fn spine_end(
         cursor.node (range start (tree_size - start)) }
 {
     let width = power(tree_size - start);
-    let shown = cursor.is_before(tree_size);
-    match edge_at(kept_size, tree_size, start, width, shown) {
+    match edge_at(
+        kept_size,
+        tree_size,
+        start,
+        width,
+        cursor.is_before(tree_size),
+    ) {
         Edge::Block => subtree_end(text, kept_size, start, width, cursor),
         Edge::Node => cursor.past_node(),
         Edge::Cut => {

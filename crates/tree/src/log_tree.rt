@@ -114,10 +114,11 @@ impl KnownLog<'_> {
         true
     }
 
-    // The next node.
-    pub(crate) fn next_node(&self, cursor: WalkCursor) -> Walked
-        requires { cursor.node ≤ 2 ^ level_limit }
-        ensures { result ≡ node_next (nodes_by self.now) cursor }
+    // The next node. This step and the next stay out of the frames of the walk's recursion.
+    #[inline(never)]
+    pub(crate) fn next_node(&self, cursor: &WalkCursor) -> Walked
+        requires { cursor.now.node ≤ 2 ^ level_limit }
+        ensures { result ≡ node_next (nodes_by self.now) cursor.now }
     {
         let value = node_at(self.nodes, cursor.node);
         Walked {
@@ -128,10 +129,11 @@ impl KnownLog<'_> {
     }
 
     // A shown entry, which the cursor is at.
-    pub(crate) fn shown_entry(&self, start: u64, cursor: WalkCursor) -> Walked
-        requires { Ready self.now.text.now self.now.kept_size start cursor × (start < 2 ^ level_limit)
-            × (position_of cursor.position < start + 1) }
-        ensures { result ≡ walked_by self.now.text.now (known_by self.now) [] (start + 1) cursor.node (shown start) }
+    #[inline(never)]
+    pub(crate) fn shown_entry(&self, start: u64, cursor: &WalkCursor) -> Walked
+        requires { Ready self.now.text.now self.now.kept_size start cursor.now × (start < 2 ^ level_limit)
+            × (position_of cursor.now.position < start + 1) }
+        ensures { result ≡ walked_by self.now.text.now (known_by self.now) [] (start + 1) cursor.now.node (shown start) }
     {
         let value = leaf_at(self.text, cursor.at + Layout::ENTRY);
         let met = self.is_met(start, 1, value);
@@ -170,9 +172,9 @@ impl KnownLog<'_> {
 }
 
 // The walk over a whole block.
-pub(crate) fn subtree(log: &KnownLog<'_>, start: u64, width: u64, cursor: WalkCursor) -> Walked
-    requires { Whole start width × Ready log.now.text.now log.now.kept_size start cursor }
-    ensures { result ≡ walked_on log.now.text.now (known_by log.now) (nodes_by log.now) cursor.node
+pub(crate) fn subtree(log: &KnownLog<'_>, start: u64, width: u64, cursor: &WalkCursor) -> Walked
+    requires { Whole start width × Ready log.now.text.now log.now.kept_size start cursor.now }
+    ensures { result ≡ walked_on log.now.text.now (known_by log.now) (nodes_by log.now) cursor.now.node
         (range start width) }
 {
     match source_at(log.kept_size, start, width, cursor.is_before(start + width)) {
@@ -180,7 +182,7 @@ pub(crate) fn subtree(log: &KnownLog<'_>, start: u64, width: u64, cursor: WalkCu
             let value = log.kept_value(start, width);
             Walked {
                 value,
-                cursor,
+                cursor: *cursor,
                 met: true,
             }
         }
@@ -190,7 +192,7 @@ pub(crate) fn subtree(log: &KnownLog<'_>, start: u64, width: u64, cursor: WalkCu
             let half = width / 2;
             let left = subtree(log, start, half, cursor);
             let middle = left.cursor;
-            let right = subtree(log, start + half, half, middle);
+            let right = subtree(log, start + half, half, &middle);
             log.joined(start, half, left, half, right)
         }
     }

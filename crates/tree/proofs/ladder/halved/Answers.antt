@@ -1,9 +1,7 @@
 -- `tree::ladder::halved` meets its contract: the versions stored so far are the first of the
 -- ladder, and what is left is the halving between `low` and `high`.
-use Prim.Native.Nat.{◌<◌}
 use mathlib.Core.Path.{refl}
 use native.Mathlib.Omega.{arith}
-use Rattle.tree.specs.Ladder.{ladder_capacity}
 use Rattle.tree.proofs.LadderFillLaws.{halving_room, halving_low, halving_high, halving_end}
 use Rattle.tree.proofs.ladder.halved.Goals as goal
 
@@ -13,9 +11,9 @@ loop-high-init c =
     record {
       fuel = c.args.climb.high;
       enough = omega arith;
-      order = p.length_in_bounds.1;
+      order = p.bounds.1;
       small = omega arith;
-      filling = record { stored = p.versions_value; left = p.version_value; within = p.length_in_bounds.0 };
+      filling = record { stored = p.stored; left = p.left; within = p.bounds.0 };
     }
 
 pub overflow_sub-high : goal.overflow_sub-high
@@ -27,26 +25,24 @@ overflow_sub-middle c = omega arith
 pub overflow_add-middle : goal.overflow_add-middle
 overflow_add-middle c = omega arith
 
-pub offset_bounds-versions-length : goal.offset_bounds-versions-length
-offset_bounds-versions-length c = omega (arith, (let room0 : (c.loop-high.length < ladder_capacity) = halving_room c.requires.version_bound c.loop-high.invariant c.loop-high-test.true in room0))
-
-pub bounds-versions-length : goal.bounds-versions-length
-bounds-versions-length c = omega (arith, (let room0 : (c.loop-high.length < ladder_capacity) = halving_room c.requires.version_bound c.loop-high.invariant c.loop-high-test.true in room0))
-
-pub overflow_add-length : goal.overflow_add-length
-overflow_add-length c = omega (arith, (let room0 : (c.loop-high.length < ladder_capacity) = halving_room c.requires.version_bound c.loop-high.invariant c.loop-high-test.true in room0))
+pub push-requires : goal.push-requires
+push-requires c = halving_room c.requires.version_bound c.loop-high.invariant c.loop-high-test.true
 
 pub loop-high-smaller-then-middle-version : goal.loop-high-smaller-then-middle-version
 loop-high-smaller-then-middle-version c = omega arith
 
 pub loop-high-preserved-then-middle-version : goal.loop-high-preserved-then-middle-version
-loop-high-preserved-then-middle-version c = halving_low c.requires.version_bound c.loop-high.invariant _ refl c.loop-high-test.true c.if-middle-version.true
+loop-high-preserved-then-middle-version c =
+    let (v, l) = c.push.ensures in
+    rw (v, l) (halving_low c.requires.version_bound c.loop-high.invariant _ refl c.loop-high-test.true c.if-middle-version.true)
 
 pub loop-high-smaller : goal.loop-high-smaller
 loop-high-smaller c = omega arith
 
 pub loop-high-preserved : goal.loop-high-preserved
-loop-high-preserved c = halving_high c.requires.version_bound c.loop-high.invariant _ refl c.loop-high-test.true c.if-middle-version.false
+loop-high-preserved c =
+    let (v, l) = c.push.ensures in
+    rw (v, l) (halving_high c.requires.version_bound c.loop-high.invariant _ refl c.loop-high-test.true c.if-middle-version.false)
 
 pub returns : goal.returns
 returns c = halving_end c.loop-high.invariant (omega arith)

@@ -5,7 +5,7 @@ use Rattle.tree.proofs.LadderFillLaws.{Halving}
 use Rattle.tree.proofs.ladder.halved.Given as goal
 
 abbrev pub invariant-loop-high : goal.invariant-loop-high
-invariant-loop-high l = Halving l.version l.versions l.length l.low l.high
+invariant-loop-high l = Halving l.version l.ladder.versions l.ladder.length l.low l.high
 
 abbrev pub decreases-loop-high : goal.decreases-loop-high
 decreases-loop-high l = l.high - l.low

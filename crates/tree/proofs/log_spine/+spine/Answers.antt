@@ -1,6 +1,6 @@
 -- `tree::log_spine::spine` meets its contract, by how many entries are left: each step yields what
 -- the walk does there, and puts the values of full subtrees one after the other.
-use mathlib.Core.Path.{sym, subst, ◌∙◌}
+use mathlib.Core.Path.{subst}
 use mathlib.Core.List.{[]}
 use native.Mathlib.Omega.{arith}
 use Rattle.tree.specs.declared.log_spine.Edge.TheVariants.{Block, Node, Cut}
@@ -9,9 +9,8 @@ use Rattle.tree.specs.LogHead.{known_in}
 use Rattle.tree.specs.LogWalk.{Filled}
 use Rattle.tree.proofs.DecisionLaws.{whole_some}
 use Rattle.tree.proofs.WalkedLaws.{walked-cursor}
-use Rattle.tree.proofs.WalkLaws.{block-entry, block-shown-entry}
 use Rattle.tree.proofs.TailLaws.{edge_told, tail-whole, tail-least, tail-ones, tail-behind, cut-halves}
-use Rattle.tree.proofs.SpineLaws.{filled_then, spine-ready, spine_entry, spine-block, spine-node}
+use Rattle.tree.proofs.SpineLaws.{filled_then, spine-ready, spine-block, spine-node}
 use Rattle.tree.proofs.SpineLaws.{spine-cut, spine-values}
 use Rattle.tree.proofs.log_spine.+spine.Goals as goal
 
@@ -24,38 +23,13 @@ power-width-requires t c = omega (arith, c.requires.tail.0.some)
 pub edge_at-requires : goal.edge_at-requires
 edge_at-requires t c = tail-least c.requires.tail.0 c.power-width.ensures
 
-pub shown_entry-entry-requires : goal.shown_entry-entry-requires
-shown_entry-entry-requires t c =
-    let text = c.args.log.now.text.now in
-    let ns = nodes_in c.args.log.now.nodes.now in
-    let p = c.requires in
-    let w = tail-whole c.requires.tail.0 c.power-width.ensures in
-    let f = spine_entry c.args.log.now.kept_size _ _ _ _ (edge_told _ _ _ _ Block c.in-Block.is c.is_before-shown.ensures c.edge_at.ensures) c.if-width-eq1.true (sym c.is_before-shown.ensures ∙ c.if-shown.true) in
-    let (b, l) = block-entry [] text ns w c.requires.tail.1 f in
-    (p.tail.1, b, l)
-
-pub put_value-requires : goal.put_value-requires
-put_value-requires t c =
-    omega (arith, tail-ones c.requires.tail.0 c.power-width.ensures, c.requires.room)
-
-pub returns-then-shown : goal.returns-then-shown
-unfolding known_in
-returns-then-shown t c =
-    let text = c.args.log.now.text.now in
-    let ns = nodes_in c.args.log.now.nodes.now in
-    let e = edge_told _ _ _ _ Block c.in-Block.is c.is_before-shown.ensures c.edge_at.ensures in
-    let w = tail-whole c.requires.tail.0 c.power-width.ensures in
-    let y = c.shown_entry-entry.ensures ∙ block-shown-entry _ text ns w c.requires.tail.1 (spine_entry c.args.log.now.kept_size _ _ _ _ e c.if-width-eq1.true (sym c.is_before-shown.ensures ∙ c.if-shown.true)) in
-    let (x, v) = spine-block _ text ns c.requires.tail.0 c.power-width.ensures c.requires.tail.1 c.requires.tail.2 _ e y in
-    record { value = x; filled = subst (Filled _ _ _) v c.put_value.ensures.1 }
-
 pub subtree-whole-requires : goal.subtree-whole-requires
 subtree-whole-requires t c =
     let p = c.requires in
     (tail-whole c.requires.tail.0 c.power-width.ensures, p.tail.1)
 
-pub put_value-requires-in-Block : goal.put_value-requires-in-Block
-put_value-requires-in-Block t c =
+pub put_value-requires : goal.put_value-requires
+put_value-requires t c =
     omega (arith, tail-ones c.requires.tail.0 c.power-width.ensures, c.requires.room)
 
 pub next_node-given-requires : goal.next_node-given-requires
@@ -86,7 +60,7 @@ pub spine-right-requires : goal.spine-right-requires
 unfolding known_in
 spine-right-requires t c =
     let text = c.args.log.now.text.now in
-    let f = edge_told _ _ _ _ Cut c.in-Cut.is c.is_before-shown.ensures c.edge_at.ensures in
+    let f = edge_told _ _ _ _ Cut c.in-Cut.is c.is_before.ensures c.edge_at.ensures in
     let p = c.requires in
     let w = whole_some (tail-whole c.requires.tail.0 c.power-width.ensures) in
     let r = spine-ready [] text [] c.requires.tail.0 c.power-width.ensures c.requires.tail.1 c.requires.tail.2 f.0 _ (walked-cursor _ _ _ _ _ _ _ c.subtree-left.ensures) in
@@ -97,23 +71,23 @@ overflow_sub-tree_size-in-Cut t c = omega (arith, tail-least c.requires.tail.0 c
 
 pub joined-requires : goal.joined-requires
 joined-requires t c =
-    let f = edge_told _ _ _ _ Cut c.in-Cut.is c.is_before-shown.ensures c.edge_at.ensures in
+    let f = edge_told _ _ _ _ Cut c.in-Cut.is c.is_before.ensures c.edge_at.ensures in
     cut-halves c.requires.tail.0 c.power-width.ensures f.0 _
 
-pub returns-after-width-eq1 : goal.returns-after-width-eq1
+pub returns-in-Block : goal.returns-in-Block
 unfolding known_in
-returns-after-width-eq1 t c =
+returns-in-Block t c =
     let text = c.args.log.now.text.now in
     let ns = nodes_in c.args.log.now.nodes.now in
-    let (x, v) = spine-block _ text ns c.requires.tail.0 c.power-width.ensures c.requires.tail.1 c.requires.tail.2 _ (edge_told _ _ _ _ Block c.in-Block.is c.is_before-shown.ensures c.edge_at.ensures) c.subtree-whole.ensures in
-    record { value = x; filled = subst (Filled _ _ _) v c.put_value-in-Block.ensures.1 }
+    let (x, v) = spine-block _ text ns c.requires.tail.0 c.power-width.ensures c.requires.tail.1 c.requires.tail.2 _ (edge_told _ _ _ _ Block c.in-Block.is c.is_before.ensures c.edge_at.ensures) c.subtree-whole.ensures in
+    record { value = x; filled = subst (Filled _ _ _) v c.put_value.ensures.1 }
 
 pub returns-in-Node : goal.returns-in-Node
 unfolding known_in
 returns-in-Node t c =
     let text = c.args.log.now.text.now in
     let ns = nodes_in c.args.log.now.nodes.now in
-    let f = edge_told _ _ _ _ Node c.in-Node.is c.is_before-shown.ensures c.edge_at.ensures in
+    let f = edge_told _ _ _ _ Node c.in-Node.is c.is_before.ensures c.edge_at.ensures in
     let (x, v) = spine-node _ text ns c.requires.tail.0 c.power-width.ensures c.requires.tail.1 c.requires.tail.2 _ f.0 f.1 f.2 c.next_node-given.ensures in
     record { value = x; filled = subst (Filled _ _ _) v c.put_value-in-Node.ensures.1 }
 
@@ -122,7 +96,7 @@ unfolding known_in
 returns-in-Cut t c =
     let text = c.args.log.now.text.now in
     let ns = nodes_in c.args.log.now.nodes.now in
-    let f = edge_told _ _ _ _ Cut c.in-Cut.is c.is_before-shown.ensures c.edge_at.ensures in
+    let f = edge_told _ _ _ _ Cut c.in-Cut.is c.is_before.ensures c.edge_at.ensures in
     let x = spine-cut _ text ns c.requires.tail.0 c.power-width.ensures c.requires.tail.1 c.requires.tail.2 f.0 _ _ _ f.1 c.subtree-left.ensures c.spine-right.ensures.value c.joined.ensures in
     let v = spine-values _ text ns c.requires.tail.0 c.power-width.ensures c.requires.tail.1 c.requires.tail.2 f.0 _ f.1 c.subtree-left.ensures in
     let p = c.put_value-in-Cut.ensures in

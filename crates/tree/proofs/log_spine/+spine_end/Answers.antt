@@ -37,7 +37,7 @@ pub spine_end-requires : goal.spine_end-requires
 unfolding known_in
 spine_end-requires t c =
     let text = c.args.text.now in
-    let f = edge_told _ _ _ _ Cut c.in-Cut.is c.is_before-shown.ensures c.edge_at.ensures in
+    let f = edge_told _ _ _ _ Cut c.in-Cut.is c.is_before.ensures c.edge_at.ensures in
     let w = whole_some (tail-whole c.requires.0 c.power-width.ensures) in
     let r = spine-ready [] text [] c.requires.0 c.power-width.ensures c.requires.1 c.requires.2 f.0 _ c.subtree_end-middle.ensures in
     (omega (arith, c.decreases, f.0, w), (tail-behind c.requires.0 c.power-width.ensures f.0, r, c.requires.2))
@@ -46,18 +46,18 @@ pub returns-in-Block : goal.returns-in-Block
 unfolding known_in
 returns-in-Block t c =
     let text = c.args.text.now in
-    spine-end-block text c.requires.0 c.power-width.ensures c.requires.1 c.requires.2 _ (edge_told _ _ _ _ Block c.in-Block.is c.is_before-shown.ensures c.edge_at.ensures) c.subtree_end.ensures
+    spine-end-block text c.requires.0 c.power-width.ensures c.requires.1 c.requires.2 _ (edge_told _ _ _ _ Block c.in-Block.is c.is_before.ensures c.edge_at.ensures) c.subtree_end.ensures
 
 pub returns-in-Node : goal.returns-in-Node
 unfolding known_in
 returns-in-Node t c =
     let text = c.args.text.now in
-    let f = edge_told _ _ _ _ Node c.in-Node.is c.is_before-shown.ensures c.edge_at.ensures in
+    let f = edge_told _ _ _ _ Node c.in-Node.is c.is_before.ensures c.edge_at.ensures in
     c.past_node.ensures ∙ spine-end-node text c.requires.0 c.power-width.ensures c.requires.1 c.requires.2 f.0 f.1 f.2
 
 pub returns-in-Cut : goal.returns-in-Cut
 unfolding known_in
 returns-in-Cut t c =
     let text = c.args.text.now in
-    let f = edge_told _ _ _ _ Cut c.in-Cut.is c.is_before-shown.ensures c.edge_at.ensures in
+    let f = edge_told _ _ _ _ Cut c.in-Cut.is c.is_before.ensures c.edge_at.ensures in
     spine-end-cut text c.requires.0 c.power-width.ensures c.requires.1 c.requires.2 f.0 _ _ f.1 c.subtree_end-middle.ensures c.spine_end.ensures

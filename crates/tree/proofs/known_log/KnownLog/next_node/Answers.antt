@@ -7,4 +7,4 @@ pub past_node-requires : goal.past_node-requires
 past_node-requires c = c.requires
 
 pub returns : goal.returns
-returns c = node_made (nodes_in c.args.self.now.nodes.now) c.args.cursor _ _ c.node_at-value.ensures c.past_node.ensures
+returns c = node_made (nodes_in c.args.self.now.nodes.now) c.args.cursor.now _ _ c.node_at-value.ensures c.past_node.ensures
