@@ -65,7 +65,8 @@ pub(crate) fn next_lookup(entries: &[u8], at: usize) -> Option<(usize, usize)>
 pub(crate) fn lookup_version(line: &[u8]) -> u32
     ensures { OfLookup line.now (λ (l : Lookup). l.version) result }
 {
-    match Cursor { at: Layout::LOOKUP }.number(line, u32::MAX as u64) {
+    let start = Cursor { at: Layout::LOOKUP };
+    match start.number(line, u32::MAX as u64) {
         Some((value, _)) => value as u32,
         None => 0,
     }
