@@ -76,5 +76,8 @@ pub(crate) fn lookup_version(line: &[u8]) -> u32
 pub(crate) fn is_included(line: &[u8]) -> bool
     ensures { OfLookup line.now (λ (l : Lookup). is_included l.result) result }
 {
-    line.len() != 0 && line[0] == Layout::IN_LETTER
+    if line.len() == 0 {
+        return false;
+    }
+    line[0] == Layout::IN_LETTER
 }

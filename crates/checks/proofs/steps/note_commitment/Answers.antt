@@ -5,6 +5,10 @@ use Rattle.inputs.proofs.VrfOutputLaws.{found_below}
 use Rattle.checks.proofs.StepLaws.{noted_found, noted_missing}
 use Rattle.checks.proofs.steps.note_commitment.Goals as goal
 
+pub offset_bounds-offsets-found : goal.offset_bounds-offsets-found
+offset_bounds-offsets-found c =
+    omega (arith, found_below c.args.outputs.now c.args.version _ c.in-Some.ensures.any, c.requires.outputs)
+
 pub bounds-offsets-found : goal.bounds-offsets-found
 bounds-offsets-found c =
     omega (arith, found_below c.args.outputs.now c.args.version _ c.in-Some.ensures.any, c.requires.outputs)
