@@ -23,7 +23,7 @@ pub fn put_bytes(out: &mut [u8], at: usize, s: &[u8]) -> Option<usize>
     Some(end)
 }
 
-// A number in decimal digits.
+// A number in decimal digits. The loop is by hand: how many digits there are shows only at its end.
 pub fn put_decimal(out: &mut [u8], at: usize, n: u64) -> Option<usize>
     ensures offset { option_of result ≡ offset_after out.old at (decimal n) }
     ensures bytes { out.new ≡ put_at out.old at (decimal n) }

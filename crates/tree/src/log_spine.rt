@@ -46,7 +46,8 @@ fn put_value(block: &mut [u8; LogHead::BLOCK], i: usize, value: [u8; 32])
     ensures { (length value ≡ digest_length)
         × Filled i block.old block.new value }
 {
-    block[32 * i..32 * i + 32].copy_from_slice(&value);
+    let at = LogHead::VALUE * i;
+    block[at..at + LogHead::VALUE].copy_from_slice(&value);
 }
 
 // The walk over the entries from start on up to tree_size. The values of the full subtrees of all

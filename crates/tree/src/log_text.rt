@@ -114,7 +114,8 @@ pub(crate) fn stored_at(block: &[u8; LogHead::BLOCK], i: usize) -> [u8; 32]
     ensures { result ≡ take 32 (drop (32 * i) block.now) }
 {
     let mut value = [0u8; 32];
-    value.copy_from_slice(&block[32 * i..32 * i + 32]);
+    let at = LogHead::VALUE * i;
+    value.copy_from_slice(&block[at..at + LogHead::VALUE]);
     value
 }
 

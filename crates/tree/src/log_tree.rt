@@ -30,11 +30,7 @@ fn is_full(kept_size: u64, start: u64, width: u64) -> bool
     ensures { result ≡ is_full kept_size (range start width) }
 {
     let number = start / width;
-    if kept_size / width == number + 1 {
-        number % 2 == 0
-    } else {
-        false
-    }
+    kept_size / width == number + 1 && number % 2 == 0
 }
 
 // The step at a whole block, in which something is shown or not.

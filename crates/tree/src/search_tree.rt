@@ -22,7 +22,8 @@ pub(crate) fn power(x: u64) -> u64
     1u64 << (63 - u64::leading_zeros(x))
 }
 
-// The entries of a frontier from left to right with zeros after them, and how many they are.
+// The entries of a frontier from left to right with zeros after them, and how many they are. The type
+// stays beside Ladder's, as is said there.
 #[derive(Clone, Copy)]
 pub struct Frontier {
     pub positions: [u64; Frontier::CAPACITY],
@@ -55,11 +56,7 @@ impl Frontier {
 pub fn is_right_ancestor(tree_size: u64, p: u64, x: u64) -> bool
     ensures { result ≡ any (eqb x) (Tree.right_ancestors tree_size p) }
 {
-    if x < tree_size {
-        next_right_ancestor(tree_size, p, x) == x
-    } else {
-        false
-    }
+    x < tree_size && next_right_ancestor(tree_size, p, x) == x
 }
 
 // The first entry from x on that is on the right path of p in a log of tree_size entries; tree_size
