@@ -1,7 +1,7 @@
 -- Laws of what every call reads first (specs/Calls.antt, 1 to 5): what it is given is read, one
 -- thing after the other, for each kind and room; and what the rules after it are tried on.
 use mathlib.Core.Path.{◌≡◌, refl, sym, ap, ◌∙◌}
-use mathlib.Core.Bool.{Bool, true, false}
+use mathlib.Core.Bool.{Bool, true, false, false≢true}
 use mathlib.Core.List.{List}
 use mathlib.Core.Option.{Option, none, some}
 use Prim.Native.Nat.{ℕ, ◌≤◌}
@@ -24,13 +24,13 @@ use Rattle.rules.specs.Calls.{inputs_within}
 use Rattle.rules.proofs.RefusalLaws.{valid_some}
 use Rattle.inputs.specs.declared.configuration.Configuration.{Configuration as ConfigurationBlock}
 use Rattle.inputs.specs.declared.response.Response.{Response}
-use Rattle.inputs.specs.declared.response.ReadResponse.TheVariants.{Read as ReadAs}
 use Rattle.inputs.specs.declared.state.State.{State as StateBlock}
 use Rattle.inputs.specs.Configuration.{configuration_in}
 use Rattle.inputs.specs.Response.{parts_in, Offsets}
 use Rattle.inputs.specs.State.{state_of, contents, log_in, room_is_zero}
 use Rattle.checks.specs.declared.readings.Call.{Call as CallBlock}
-use Rattle.std.specs.Prelude.{Ok, Err, Result}
+use Rattle.std.specs.Prelude.{Ok, Err, Result, Some, None, Option as CodeOption, is_ok}
+use Rattle.std.specs.Option.{ok_or}
 use Rattle.inputs.specs.declared.refusal.Refusal.{Refusal}
 use Rattle.inputs.specs.declared.refusal.Refusal.TheVariants.{Length, Configuration as NoConfiguration}
 use Rattle.inputs.specs.declared.refusal.Refusal.TheVariants.{State as NoState, VrfOutputs as NoOutputs, Lines as NoLines}
@@ -74,6 +74,26 @@ module _ (st : Option State) (i : Inputs) where
               → read_call st i ≡ passed (record { inputs = i; configuration = g; state = s; outputs = os; parts = p })
           unfolding read_call reading provided
           given-read p e = rw (l, eg, es, eo, e) refl
+
+-- ---- what is not there is refused
+
+-- where there is a value, it is answered
+pub ok_given : {A : Type 0} (o : CodeOption A) (e : Refusal) (x : A) → ok_or o e ≡ Ok x → o ≡ Some x
+ok_given (Some y) e x q = ap (λ (r : Result _ Refusal). ok_value y r) q
+  where
+    ok_value : {B : Type 0} → B → Result B Refusal → CodeOption B
+    ok_value d (Ok z) = Some z
+    ok_value d (Err z) = Some d
+ok_given None e x q = absurd (false≢true (ap is_ok q))
+
+-- and where there is none, the refusal
+pub err_given : {A : Type 0} (o : CodeOption A) (e d : Refusal) → ok_or o e ≡ Err d → (o ≡ None) × (d ≡ e)
+err_given (Some y) e d q = absurd (false≢true (sym (ap is_ok q)))
+err_given None e d q = (refl, sym (ap (err_value e) q))
+  where
+    err_value : {B : Type 0} → Refusal → Result B Refusal → Refusal
+    err_value d (Ok z) = d
+    err_value d (Err z) = z
 
 -- ---- by each call that is given it
 
@@ -152,7 +172,7 @@ module _ (limit : ℕ) (response configuration identifier : Bytes) (clock : ℕ)
                 given_broken st (inputs kind room) (lengths-same kind room ∙ sym l) read eg s es os eo e
 
             -- all others: the call was read
-            pub inputs_read : limit ≤ offset_bound → (r : Response) → Offsets response (ReadAs r)
+            pub inputs_read : limit ≤ offset_bound → (r : Response) → Offsets response (Some r)
                 → read_response response ≡ some (parts_in response r)
                 → Reads (Ok (record {
                   configuration = k;

@@ -74,8 +74,7 @@ valid_struct b z h =
 pub struct_checkable : (b : StateBlock) → Sized b
     → (text : Bytes) (k : CallBlock) (identifier outputs : Bytes)
     → Readable (state_of b) text k identifier outputs
-    → Checkable text k identifier b.label.bytes b.label.length b.map.positions b.map.versions
-    b.map.count outputs
+    → Checkable text k identifier b outputs
 struct_checkable b z text k identifier outputs h =
     let x = valid_struct b z h.valid in
     record {

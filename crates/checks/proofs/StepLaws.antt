@@ -4,7 +4,7 @@
 use mathlib.Core.Path.{◌≡◌, refl, sym, ◌∙◌, ap, subst}
 use mathlib.Core.HLevel.{⊥_prop}
 use mathlib.Core.Logic.{◌⊎◌, inl, inr, ⊎_elim, ∥∥₁_elim}
-use mathlib.Core.Bool.{Bool, true, false, ◌&&◌, ◌||◌, not, beq, false≢true, and-true, and-false}
+use mathlib.Core.Bool.{Bool, true, false, ◌&&◌, not, false≢true, and-true, and-false}
 use mathlib.Core.List.{List, [], ◌∷◌, ◌++◌, append-nil, append_cancel_left, map-append}
 use mathlib.Core.List.Memᴰ
 use mathlib.Core.List.{Nodup, Nodup-nil, Nodup-cons, Nodup-append, Memᴰ}
@@ -19,7 +19,7 @@ use Rattle.std.specs.Prelude.{Some, None, Option as CodeOption}
 use Rattle.std.specs.Bool.{then_some}
 use Rattle.lists.specs.Choice.{is_some}
 use Rattle.lists.specs.Lists.{Bytes, all, same, rising, runs}
-use Rattle.lists.proofs.ChoiceLaws.{and_holds, holds_and, never_holds, or_holds, or_fails, provided_some}
+use Rattle.lists.proofs.ChoiceLaws.{and_holds, holds_and, never_holds, provided_some}
 use Rattle.lists.proofs.ListLaws.{all_at, all_with, all_without, any_at, mapped_at, same_true, equal_same}
 use Rattle.lists.proofs.ListLaws.{select_fewer, select_length}
 use Rattle.lists.proofs.RisingLaws.{rising_first, rising_tail}
@@ -33,7 +33,7 @@ use Rattle.inputs.specs.declared.vrf_outputs.FoundOutput.{FoundOutput}
 use Rattle.inputs.specs.VrfOutputs.{records_below, IsRecordOf}
 use Rattle.rules.specs.ResponseText.{read_step}
 use Rattle.inputs.specs.Response.{steps_in}
-use Rattle.inputs.proofs.VrfOutputLaws.{found_is, found_index, fewer_below}
+use Rattle.inputs.proofs.VrfOutputLaws.{found_none, found_some, fewer_below}
 use Rattle.checks.proofs.LineStepLaws.{no-line-end, some-line}
 use Rattle.checks.specs.declared.sections.NextStep.{NextStep}
 use Rattle.checks.specs.Sections.{StepLines, CommitmentAt, IsNextStep}
@@ -62,54 +62,19 @@ record_within s xs v h e t =
     let f = select_fewer (λ (x : VrfOutput). ltb x.version v) (λ _. true) xs a (λ x _. refl) m b refl in
     omega (arith, f, select_length {A = VrfOutput} (λ _. true) xs, l)
 
--- ---- tests
-
--- a version is not another, or a test is not as another
-abbrev differs : ℕ → ℕ → Bool → Bool → Bool
-differs a b s t = not (eqb a b) || not (beq s t)
-
--- tests that are told apart differ
-tests_differ : (a b : Bool) → not (beq a b) ≡ true → a ≡ b → ⊥
-tests_differ true true e q = false≢true e
-tests_differ true false e q = false≢true (sym q)
-tests_differ false true e q = false≢true q
-tests_differ false false e q = false≢true e
-
--- those that are not are equal
-tests_agree : (a b : Bool) → not (beq a b) ≡ false → a ≡ b
-tests_agree true true e = refl
-tests_agree true false e = e
-tests_agree false true e = sym e
-tests_agree false false e = refl
-
--- then not both are equal
-pub not_both : (a b : ℕ) (s t : Bool) → differs a b s t ≡ true → a ≡ b → s ≡ t → ⊥
-not_both a b s t h e q =
-    ⊎_elim (λ p. eqb-false a b (not-true (eqb a b) p) e) (λ p. tests_differ s t p q)
-    (or_holds (not (eqb a b)) (not (beq s t)) h)
-
--- else they are
-pub both : (a b : ℕ) (s t : Bool) → differs a b s t ≡ false → (a ≡ b) × (s ≡ t)
-both a b s t h =
-    let (p, q) = or_fails (not (eqb a b)) (not (beq s t)) h in
-    (eqb-true a b (not-false (eqb a b) p), tests_agree s t q)
-
 -- ---- the offset of one commitment
 
-module _ (outputs : Bytes) (v offset : ℕ) (offsets : List ℕ) (r : FoundOutput) (f : IsRecordOf outputs v r) where
+module _ (outputs : Bytes) (v offset : ℕ) (offsets : List ℕ) where
   -- where an output is found, the offset at the number of its record becomes the commitment's
-  pub noted-found : r.found ≡ true → IsNoted outputs v offset offsets r.found (set offsets r.index offset)
-  noted-found t xs e = (sym has, λ _. ap (λ (j : ℕ). set offsets j offset) index, λ z. absurd (false≢true (sym z ∙ t)))
-    where
-      has : has_output xs v ≡ r.found
-      has = found_is outputs v r f xs e
-
-      index : r.index ≡ records_below xs v
-      index = ap (λ (r : FoundOutput). r.index) (f xs e) ∙ found_index xs (records_below xs v) v (has ∙ t)
+  pub noted_found : (x : FoundOutput) → IsRecordOf outputs v (Some x)
+      → IsNoted outputs v offset offsets true (set offsets x.index offset)
+  noted_found x f xs e =
+      let (has, _, index) = found_some outputs v x f xs e in
+      (sym has, λ _. ap (λ (j : ℕ). set offsets j offset) index, λ z. absurd (false≢true (sym z)))
 
   -- where none is, the table stays
-  pub noted-missing : r.found ≡ false → IsNoted outputs v offset offsets r.found offsets
-  noted-missing t xs e = (sym (found_is outputs v r f xs e), λ z. absurd (false≢true (sym t ∙ z)), λ _. refl)
+  pub noted_missing : IsRecordOf outputs v None → IsNoted outputs v offset offsets false offsets
+  noted_missing f xs e = (sym (found_none outputs v f xs e), λ z. absurd (false≢true z), λ _. refl)
 
 -- ---- the commitments of the steps read
 

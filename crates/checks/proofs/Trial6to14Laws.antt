@@ -23,6 +23,7 @@ use Rattle.rules.proofs.RefusalLaws.{NoneApplies}
 use Rattle.rules.proofs.AcceptedLaws.{requested-was, size-was}
 use Rattle.inputs.specs.declared.response_lines.Kind.{Kind as KindBlock}
 use Rattle.inputs.specs.declared.response_lines.Kind.TheVariants.{Search, Monitor}
+use Rattle.inputs.specs.declared.state.State.{State as StateBlock}
 use Rattle.inputs.specs.State.{map_of}
 use Rattle.inputs.specs.Response.{parts_in}
 use Rattle.inputs.proofs.PairLaws.{map_versions}
@@ -154,21 +155,30 @@ target_fits text k read c p e = go k.response.kind refl
         (version_possible text k.response c p e q, o, v)
     go Monitor q = tt
 
-module _ {text : Bytes} {k : CallBlock} {identifier label : Bytes} {size : ℕ} {positions versions' : List ℕ}
-    {pairs : ℕ} {outputs : Bytes}
-    (x : Checkable text k identifier label size positions versions' pairs outputs)
+module _ {text : Bytes} {k : CallBlock} {identifier : Bytes} {b : StateBlock} {outputs : Bytes}
+    (x : Checkable text k identifier b outputs)
   where
+    -- the label, and the pairs
+    abbrev label : Bytes
+    label = take b.label.length b.label.bytes
+
+    abbrev positions : List ℕ
+    positions = take b.map.count b.map.positions
+
+    abbrev versions' : List ℕ
+    versions' = take b.map.count b.map.versions
+
     -- the label is not too long
-    pub label-fits : length (take size label) ≤ label_limit
-    label-fits = omega (arith, x.label_fits, length-take-le size label x.label_within)
+    pub label-fits : length label ≤ label_limit
+    label-fits = omega (arith, x.label_fits, length-take-le b.label.length b.label.bytes x.label_within)
 
     -- a response to which none of 6 to 8 applies can be tried further
     possible : (c : Call) → c.parts ≡ parts_in text k.response → c.state.log.size ≡ k.kept_size
-        → NoneApplies rules6to8 c → Shapeable text k (take pairs positions) (take pairs versions') outputs
+        → NoneApplies rules6to8 c → Shapeable text k positions versions' outputs
     unfolding parts_in
-    possible c p s (_, (b, (d, _))) =
+    possible c p s (_, (grown, (d, _))) =
         let n : c.parts.tree_size ≡ k.response.tree_size = ap (λ (y : Parts). y.tree_size) p in
-        let (u, v, w) = size-was c b in
+        let (u, v, w) = size-was c grown in
         record {
           triable =
               record {
@@ -184,20 +194,19 @@ module _ {text : Bytes} {k : CallBlock} {identifier label : Bytes} {size : ℕ} 
         }
 
     module _ (asked : CodeOption KindBlock) (n : ℕ)
-        (h : IsNumber6to8 asked text k identifier (take size label) (take pairs versions') n)
+        (h : IsNumber6to8 asked text k identifier label versions' n)
       where
         -- what comes of 6 to 13
         abbrev Whole : Result Tried Refusal → Type 0
         Whole r =
-            Is6to13Tried asked text k identifier (take size label) (take pairs positions) (take pairs versions')
-            outputs r
+            Is6to13Tried asked text k identifier b outputs r
 
         -- the number is that of a call with these parts and this state
         number-told : (c : Call) → c.parts ≡ parts_in text k.response
             → c.state.log.size ≡ k.kept_size → c.inputs.kind ≡ asked_kind asked
             → c.inputs.identifier ≡ identifier
-            → c.state.label ≡ take size label
-            → c.state.monitoring_map ≡ map_of (take pairs positions) (take pairs versions')
+            → c.state.label ≡ label
+            → c.state.monitoring_map ≡ map_of positions versions'
             → n ≡ number_tried rules6to8 c
         number-told c p s q i l m = h c p s q i l (ap versions m ∙ map_versions _ _ x.pairs.alike)
 
@@ -210,7 +219,7 @@ module _ {text : Bytes} {k : CallBlock} {identifier label : Bytes} {size : ℕ} 
         module _ (w : n ≡ 0) where
           -- what is left of 6 to 13 are 9 to 13
           pub first-passed : (r : Result Tried Refusal)
-              → Is9to13Tried text k (take size label) (take pairs positions) (take pairs versions') outputs r
+              → Is9to13Tried text k label positions versions' outputs r
               → Whole r
           first-passed r g c i q d l m =
               let told = number-told c i.parts i.size q d l m in
@@ -247,16 +256,16 @@ module _ {text : Bytes} {k : CallBlock} {identifier label : Bytes} {size : ℕ} 
                     };
                 state =
                     record {
-                      label = take size label;
+                      label = label;
                       log = record { size = k.kept_size; timestamp = k.kept_timestamp; values = [] };
-                      monitoring_map = map_of (take pairs positions) (take pairs versions');
+                      monitoring_map = map_of positions versions';
                     };
                 outputs = [];
                 parts = parts_in text k.response;
               }
 
           -- the response can be tried further
-          pub first-possible : Shapeable text k (take pairs positions) (take pairs versions') outputs
+          pub first-possible : Shapeable text k positions versions' outputs
           unfolding blank
           first-possible =
               let told = number-told blank refl refl refl refl refl refl in
@@ -266,14 +275,13 @@ module _ {text : Bytes} {k : CallBlock} {identifier label : Bytes} {size : ℕ} 
 
     module _ (asked : CodeOption KindBlock) (c : Call) (i : IsCall c k text outputs)
         (q : c.inputs.kind ≡ asked_kind asked) (d : c.inputs.identifier ≡ identifier)
-        (l : c.state.label ≡ take size label)
-        (m : c.state.monitoring_map ≡ map_of (take pairs positions) (take pairs versions'))
+        (l : c.state.label ≡ label)
+        (m : c.state.monitoring_map ≡ map_of positions versions')
       where
         -- what 6 to 13 say
         abbrev SixTo13 : Result Tried Refusal → Type 0
         SixTo13 r =
-            Is6to13Tried asked text k identifier (take size label) (take pairs positions)
-            (take pairs versions') outputs r
+            Is6to13Tried asked text k identifier b outputs r
 
         -- 6 to 14 are those of the two parts
         checks-parts : number_tried (rules6to13 ++ rules14) c ≡ number_tried checks c

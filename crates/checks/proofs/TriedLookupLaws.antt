@@ -11,9 +11,9 @@ use native.Mathlib.Omega.{arith}
 use lib.Dec.{eqb, ltb}
 use lib.ListN.{length, take, drop, get_or}
 use borrow.Author.Tests.{eq-eqb, ne_eqb, eqb-true, lt-ltb, le-ltb}
-use Rattle.lists.specs.Choice.{choose}
+use Rattle.lists.specs.Choice.{choose, is_some}
 use Rattle.lists.specs.Lists.{Bytes, all, first, same}
-use Rattle.lists.proofs.ChoiceLaws.{choose_true, choose_false}
+use Rattle.lists.proofs.ChoiceLaws.{choose_true, choose_false, given_first}
 use Rattle.lists.proofs.ListLaws.{all_cons, all_at, first_here, first_later}
 use Rattle.lines.specs.Layout.{value_digits}
 use Rattle.tree.specs.LogText.{value_in}
@@ -31,8 +31,8 @@ use Rattle.rules.proofs.KindLaws.{search-rules, monitoring-rules}
 use Rattle.inputs.specs.declared.response_lines.Kind.{Kind}
 use Rattle.inputs.specs.declared.response_lines.Kind.TheVariants.{Search, Monitor}
 use Rattle.inputs.specs.declared.vrf_outputs.FoundOutput.{FoundOutput}
+use Rattle.std.specs.Prelude.{Some, None, Option as CodeOption, is_some as is_found, unwrap_or}
 use Rattle.inputs.specs.VrfOutputs.{found_output, record_of, records_below, IsRecordOf}
-use Rattle.inputs.proofs.VrfOutputLaws.{found_output_lem, found_index}
 use Rattle.checks.specs.declared.sought.Sought.{Sought}
 use Rattle.checks.specs.Sections.{CommitmentAt, read_lookup, OfLookup}
 use Rattle.checks.specs.Steps.{versions_of, CommitmentsBy}
@@ -175,25 +175,48 @@ tried_passes : (c : Call) (root : Bytes) (l : Lookup) → (kind_rules c).untried
 unfolding lookup_passes
 tried_passes c root l e = sym (choose_false ((kind_rules c).untried l) (λ _. true) (λ _. lookup_holds c root l) e)
 
+-- a version with an output has a record, and the record that is found holds the output
+record_told : (xs : List VrfOutput) (v i : ℕ) → has_output xs v ≡ true → (r : CodeOption FoundOutput)
+    → r ≡ found_output i (record_of xs v)
+    → (f : FoundOutput) × (r ≡ Some f) × (f.output ≡ output_of xs v) × (f.index ≡ i)
+unfolding output_of record_of has_output found_output Option-elim is_some
+record_told xs v i h r e = go (record_of xs v) (given_first (λ (x : VrfOutput). eqb x.version v) xs ∙ h) e
+  where
+    go : (o : Option VrfOutput) → is_some o ≡ true → r ≡ found_output i o
+        → (f : FoundOutput) × (r ≡ Some f) × (f.output ≡ Option-elim o [] (λ x. x.output)) × (f.index ≡ i)
+    go none n e = absurd (false≢true n)
+    go (some x) n e = (record { index = i; output = x.output }, e, refl, refl)
+
+-- what is found of the version of a lookup line that is one of the steps
+module _ (line root : Bytes) (s : Sought) (v : ℕ) (version_told : OfLookup line (λ (l : Lookup). l.version) v) where
+  record-there : (r : CodeOption FoundOutput) → IsRecordOf s.outputs.now v r → (c : Call) (l : Lookup)
+      → TriedWith c s → read_lookup line ≡ some l → IsStep c l
+      → (f : FoundOutput) × (r ≡ Some f) × (f.output ≡ output_of c.outputs l.version)
+      × (f.index ≡ records_below c.outputs l.version)
+  record-there r told c l w q m =
+      let u = l.version in
+      let xs = c.outputs in
+      record_told xs u (records_below xs u) (all_at (has_output xs) (step_versions c.parts) u w.there m) r
+      (subst (λ (x : ℕ). IsRecordOf s.outputs.now x r) (version_told l q) told xs w.outputs)
+
+  -- it cannot be missing
+  pub passes-missing : IsRecordOf s.outputs.now v None → (r : Bool) → Passes s line root r
+  passes-missing told r c l w q m =
+      let (f, e, _, _) = record-there None told c l w q m in absurd (false≢true (ap is_found e))
+
 -- one of which its version, the record found for it, and whether it is included are told
 module _ (line root : Bytes) (s : Sought) (v : ℕ) (found : FoundOutput)
     (there : Bool)
-    (version_told : OfLookup line (λ (l : Lookup). l.version) v) (output_told : IsRecordOf s.outputs.now v found)
+    (version_told : OfLookup line (λ (l : Lookup). l.version) v) (output_told : IsRecordOf s.outputs.now v (Some found))
     (there_told : OfLookup line (λ (l : Lookup). is_included l.result) there) where
   -- the record is that of the version
-  found-told : (c : Call) (l : Lookup) → TriedWith c s → read_lookup line ≡ some l
-      → IsStep c l
+  found-told : (c : Call) (l : Lookup) → TriedWith c s → read_lookup line ≡ some l → IsStep c l
       → (found.output ≡ output_of c.outputs l.version)
       × (found.index ≡ records_below c.outputs l.version)
   found-told c l w q m =
-      let u = l.version in
-      let xs = c.outputs in
-      let has = all_at (has_output xs) (step_versions c.parts) u w.there m in
-      let is : found ≡ found_output (records_below xs u) (record_of xs u) =
-      subst (λ (x : ℕ). IsRecordOf s.outputs.now x found) (version_told l q) output_told xs w.outputs in (
-        ap (λ (x : FoundOutput). x.output) is ∙ found_output_lem xs (records_below xs u) u has,
-        ap (λ (x : FoundOutput). x.index) is ∙ found_index xs (records_below xs u) u has,
-      )
+      let (f, e, o, i) = record-there line root s v version_told (Some found) output_told c l w q m in
+      let is : found ≡ f = ap (λ (x : CodeOption FoundOutput). unwrap_or x f) e in
+      (ap (λ (x : FoundOutput). x.output) is ∙ o, ap (λ (x : FoundOutput). x.index) is ∙ i)
 
   -- one that can be tried, with a commitment that is the version's where it is included, passes
   -- where it reaches the root

@@ -44,7 +44,6 @@ use Rattle.inputs.specs.declared.response_lines.Kind.{Kind as KindBlock}
 use Rattle.inputs.specs.declared.response_lines.Kind.TheVariants.{Search, Monitor}
 use Rattle.inputs.specs.declared.response_lines.Target.{Target as TargetBlock}
 use Rattle.inputs.specs.declared.response.Response.{Response}
-use Rattle.inputs.specs.declared.response.ReadResponse.TheVariants.{Read as ReadAs}
 use Rattle.inputs.specs.Response.{parts_in, Offsets}
 use Rattle.checks.specs.declared.call.Accepted.{Accepted}
 use Rattle.checks.specs.declared.call.Found.{Found}
@@ -176,7 +175,7 @@ are_lengths_fit limit response configuration signed outputs identifier =
 pub record Readable (st : Option State) (text : Bytes) (k : CallBlock)
     (identifier' outputs' : Bytes) : Type 0 where
   pub valid : is_some (valid_state st) ≡ true
-  pub offsets : Offsets text (ReadAs k.response)
+  pub offsets : Offsets text (Some k.response)
   pub read : read_response text ≡ some (parts_in text k.response)
   pub short : length text ≤ offset_bound
   pub identifier : length identifier' ≡ identifier_length
@@ -289,7 +288,7 @@ TargetFits Monitor text t = Unit {0}
 
 -- what is known of a response that was read, to which 8 does not apply, and of the outputs
 pub record Triable (text : Bytes) (k : CallBlock) (outputs' : Bytes) : Type 0 where
-  pub offsets : Offsets text (ReadAs k.response)
+  pub offsets : Offsets text (Some k.response)
   pub short : length text ≤ offset_bound
   pub outputs : length outputs' ≤ vrf_outputs_limit
   pub target : TargetFits k.response.kind text k.response.target
@@ -387,27 +386,26 @@ Is14Tried text k t kept r block =
 
 -- ---- 1 to 14
 
--- the arrays of a valid state with their lengths
-pub record Checkable (text : Bytes) (k : CallBlock) (identifier' label' : Bytes) (length' : ℕ)
-    (positions versions' : List ℕ)
-    (pairs' : ℕ) (outputs' : Bytes) : Type 0 where
-  pub offsets : Offsets text (ReadAs k.response)
+-- what is known of a call that was read, and of a valid state
+pub record Checkable (text : Bytes) (k : CallBlock) (identifier' : Bytes) (b : StateBlock)
+    (outputs' : Bytes) : Type 0 where
+  pub offsets : Offsets text (Some k.response)
   pub read : read_response text ≡ some (parts_in text k.response)
   pub short : length text ≤ offset_bound
   pub identifier : length identifier' ≡ identifier_length
   pub outputs : length outputs' ≤ vrf_outputs_limit
-  pub label_within : length' ≤ length label'
-  pub label_fits : length' ≤ label_limit
-  pub positions_within : pairs' ≤ length positions
-  pub versions_within : pairs' ≤ length versions'
-  pub pairs : ArePairs (take pairs' positions) (take pairs' versions')
+  pub label_within : b.label.length ≤ length b.label.bytes
+  pub label_fits : b.label.length ≤ label_limit
+  pub positions_within : b.map.count ≤ length b.map.positions
+  pub versions_within : b.map.count ≤ length b.map.versions
+  pub pairs : ArePairs (take b.map.count b.map.positions) (take b.map.count b.map.versions)
 
-abbrev pub Is6to13Tried : CodeOption KindBlock → Bytes → CallBlock → Bytes → Bytes → List ℕ → List ℕ → Bytes
+abbrev pub Is6to13Tried : CodeOption KindBlock → Bytes → CallBlock → Bytes → StateBlock → Bytes
     → Result Tried Refusal → Type 0
-Is6to13Tried asked text k identifier label ps vs outputs r =
+Is6to13Tried asked text k identifier b outputs r =
     (c : Call) → IsCall c k text outputs → c.inputs.kind ≡ asked_kind asked
-    → c.inputs.identifier ≡ identifier
-    → c.state.label ≡ label → c.state.monitoring_map ≡ map_of ps vs
+    → c.inputs.identifier ≡ identifier → c.state.label ≡ take b.label.length b.label.bytes
+    → c.state.monitoring_map ≡ map_of (take b.map.count b.map.positions) (take b.map.count b.map.versions)
     → Tells r rules6to13 c (Passed c k)
 
 -- the first of 1 to 14 that applies, or the call and what comes of it, whatever room there is for the
@@ -451,7 +449,7 @@ pub record Accepting (c : Call) (text : Bytes) (k : CallBlock) (b : StateBlock) 
     (room : ℕ) : Type 0 where
   pub parts : c.parts ≡ parts_in text k.response
   pub read : read_response text ≡ some (parts_in text k.response)
-  pub offsets : Offsets text (ReadAs k.response)
+  pub offsets : Offsets text (Some k.response)
   pub state : state_of b ≡ some c.state
   pub leaves : Leaves c k r block
   pub is_room : c.inputs.room ≡ room

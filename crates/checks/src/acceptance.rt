@@ -16,7 +16,7 @@ use crate::trial::Checked;
 use inputs::refusal::Refusal;
 use inputs::response_lines::Kind;
 use inputs::state::{KeptLog, MonitoringMap, State};
-use lines::writing::{Put, put_decoded};
+use lines::writing::put_decoded;
 use tree::log_head::LogHead;
 
 // 16, or acceptance: the log as the response shows it, the new map, and the value that a search
@@ -47,7 +47,12 @@ pub(crate) fn accepted(
     ) else {
         return Err(Refusal::Room);
     };
-    let found = put_found(response.kind, version, response.target.value.of(text), output)?;
+    let found = put_found(
+        response.kind,
+        version,
+        response.target.value.of(text),
+        output,
+    )?;
     Ok(Accepted {
         state: State {
             label: state.label,
@@ -95,8 +100,8 @@ fn put_found(
 {
     match kind {
         Kind::Search => match put_decoded(output, 0, field) {
-            Put::Next(length) => Ok(Some(Found { version, length })),
-            Put::Unchanged => Err(Refusal::Room),
+            Some(length) => Ok(Some(Found { version, length })),
+            None => Err(Refusal::Room),
         },
         Kind::Monitor => Ok(None),
     }

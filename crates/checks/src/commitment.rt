@@ -6,7 +6,7 @@ ghost use Rattle.inputs.specs.ResponseLines.{decoded};
 
 use hash::hmac::{finish, start};
 use inputs::response_lines::Target;
-use lines::writing::{Put, put_decoded};
+use lines::writing::put_decoded;
 
 // The key of both suites (001, 15.1).
 const KEY: [u8; 16] = [
@@ -25,10 +25,7 @@ pub(crate) fn commitment(opening: &[u8], label: &[u8], value: &[u8]) -> [u8; 32]
     let mut opened = [0u8; Target::OPENING];
     let mut shown = [0u8; Target::VALUE];
     put_decoded(&mut opened, 0, opening);
-    let length = match put_decoded(&mut shown, 0, value) {
-        Put::Next(stop) => stop,
-        Put::Unchanged => 0,
-    };
+    let length = put_decoded(&mut shown, 0, value).unwrap_or(0);
     committed(opened, label, &shown[..length])
 }
 
@@ -39,8 +36,7 @@ fn committed(opening: [u8; Target::OPENING], label: &[u8], value: &[u8]) -> [u8;
     ensures { result ≡ commitment_to opening label.now value.now }
 {
     let head = [label.len() as u8];
-    let size = value.len();
-    let mid = [0, 0, (size / 256) as u8, (size % 256) as u8];
+    let mid = (value.len() as u32).to_be_bytes();
     let text = start(&KEY)
         .update(&opening)
         .update(&head)

@@ -9,11 +9,10 @@ ghost use Rattle.checks.specs.Lookups.{leads_to, leaf_reaches, reaches, Passes};
 use crate::sought::Sought;
 use inputs::response_lines::Kind;
 use inputs::vrf_outputs::find_output;
-use lines::cursor::{Cursor, NextNumber};
+use lines::cursor::Cursor;
 use lines::layout::Layout;
-use lines::part::equal;
 use tree::log_text::value_at;
-use tree::prefix_tree::{Terminal, TerminalKind, lookup_root, terminal_fits};
+use tree::prefix_tree::{Terminal, lookup_root, terminal_fits};
 
 // Whether a lookup line, of a version that is included or not, reaches a prefix root, from what it
 // is tried with. In a search there is no commitment with which one that is included above the
@@ -29,7 +28,9 @@ pub(crate) fn lookup_passes(
     requires included { OfLookup line.now (λ (l : Lookup). is_included l.result) included }
     ensures { Passes sought.entry line.now root result }
 {
-    let found = find_output(sought.outputs, version);
+    let Some(found) = find_output(sought.outputs, version) else {
+        return false;
+    };
     let output = found.output;
     let index = found.index;
     let committed = sought.commitment;
@@ -55,10 +56,8 @@ pub(crate) fn lookup_passes(
 fn lookup_reaches(line: &[u8], output: [u8; 32], commitment: [u8; 32], root: [u8; 32]) -> bool
     ensures { OfLookup line.now (reaches output commitment root) result }
 {
-    let NextNumber::Read { value: _, next } = Cursor { at: Layout::LOOKUP }.number(
-        line,
-        u32::MAX as u64,
-    ) else {
+    let start = Cursor { at: Layout::LOOKUP };
+    let Some((_, next)) = start.number(line, u32::MAX as u64) else {
         return false;
     };
     let at = next.at;
@@ -67,28 +66,10 @@ fn lookup_reaches(line: &[u8], output: [u8; 32], commitment: [u8; 32], root: [u8
     }
     let rest = &line[at..];
     if line[0] == Layout::IN_LETTER {
-        return leads_to(
-            output,
-            Terminal {
-                kind: TerminalKind::SearchedLeaf,
-                output,
-                commitment,
-            },
-            rest,
-            root,
-        );
+        return leads_to(output, Terminal::SearchedLeaf { commitment }, rest, root);
     }
     if line[1] == Layout::NO_LETTER {
-        return leads_to(
-            output,
-            Terminal {
-                kind: TerminalKind::Empty,
-                output,
-                commitment,
-            },
-            rest,
-            root,
-        );
+        return leads_to(output, Terminal::Empty, rest, root);
     }
     leaf_reaches(rest, output, root)
 }
@@ -101,18 +82,11 @@ fn leaf_reaches(rest: &[u8], output: [u8; 32], root: [u8; 32]) -> bool
     if rest.len() < 2 * Layout::DIGITS + 2 {
         return false;
     }
-    let other = value_at(rest, 0);
-    let commitment = value_at(rest, Layout::DIGITS + 1);
-    leads_to(
-        output,
-        Terminal {
-            kind: TerminalKind::OtherLeaf,
-            output: other,
-            commitment,
-        },
-        &rest[2 * Layout::DIGITS + 2..],
-        root,
-    )
+    let leaf = Terminal::OtherLeaf {
+        output: value_at(rest, 0),
+        commitment: value_at(rest, Layout::DIGITS + 1),
+    };
+    leads_to(output, leaf, &rest[2 * Layout::DIGITS + 2..], root)
 }
 
 // Whether what stands at a lookup's place fits its siblings, and leads to the root.
@@ -122,6 +96,5 @@ fn leads_to(output: [u8; 32], terminal: Terminal, siblings: &[u8], root: [u8; 32
     if !terminal_fits(output, terminal, siblings.len() / Layout::DIGITS) {
         return false;
     }
-    let reached = lookup_root(output, terminal, siblings);
-    equal(&reached, &root)
+    lookup_root(output, terminal, siblings) == root
 }

@@ -3,9 +3,9 @@ ghost use Rattle.std.specs.Prelude.{◌≤◌};
 ghost use Rattle.checks.specs.Calls.{offset_bound, IsReadCall};
 
 use crate::request::lengths_fit;
-use inputs::configuration::{Configuration, ReadConfiguration, read_configuration};
+use inputs::configuration::{Configuration, read_configuration};
 use inputs::refusal::Refusal;
-use inputs::response::{ReadResponse, Response, read_response};
+use inputs::response::{Response, read_response};
 use inputs::vrf_outputs::outputs_rise;
 
 // A call as read: the configuration and the response, the clock, and the size and time that the
@@ -41,21 +41,17 @@ pub(crate) fn read_call(
     if !lengths_fit(limit, response, configuration, signed, outputs, identifier) {
         return Err(Refusal::Length);
     }
-    let ReadConfiguration::Read(settings) = read_configuration(configuration) else {
-        return Err(Refusal::Configuration);
-    };
+    let settings = read_configuration(configuration).ok_or(Refusal::Configuration)?;
     if !valid {
         return Err(Refusal::State);
     }
     if !outputs_rise(outputs) {
         return Err(Refusal::VrfOutputs);
     }
-    let ReadResponse::Read(r) = read_response(response) else {
-        return Err(Refusal::Lines);
-    };
+    let response = read_response(response).ok_or(Refusal::Lines)?;
     Ok(Call {
         configuration: settings,
-        response: r,
+        response,
         clock,
         kept_size,
         kept_timestamp,

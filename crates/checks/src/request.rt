@@ -15,8 +15,7 @@ use inputs::refusal::Refusal;
 use inputs::response::Response;
 use inputs::response_lines::{Kind, KtLine};
 use inputs::state::State;
-use lines::part::equal;
-use lines::writing::{Put, put_decoded};
+use lines::writing::put_decoded;
 use tree::log_head::LogHead;
 
 // Whether no input is too long, a response being limited to so many bytes, and the identifier has
@@ -78,7 +77,13 @@ pub(crate) fn try_6_to_8(
 }
 
 // Whether a response is of the kind asked for, with the identifier sent and the label.
-fn is_requested(asked: Option<Kind>, text: &[u8], r: Response, identifier: &[u8], label: &[u8]) -> bool
+fn is_requested(
+    asked: Option<Kind>,
+    text: &[u8],
+    r: Response,
+    identifier: &[u8],
+    label: &[u8],
+) -> bool
     requires fields { Fields text.now r }
     requires identifier { length identifier.now ≤ label_limit }
     requires label { length label.now ≤ label_limit }
@@ -149,7 +154,7 @@ fn decodes(field: &[u8], bytes: &[u8]) -> bool
 {
     let mut room = [0u8; State::LABEL];
     match put_decoded(&mut room, 0, field) {
-        Put::Next(stop) => equal(&room[..stop], bytes),
-        Put::Unchanged => false,
+        Some(stop) => &room[..stop] == bytes,
+        None => false,
     }
 }

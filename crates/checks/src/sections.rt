@@ -6,7 +6,7 @@ ghost use Rattle.inputs.specs.Response.{loose_in};
 ghost use Rattle.checks.specs.Sections.{StepLines, EntryLines, IsNextStep, IsNextEntry, IsNextLookup};
 ghost use Rattle.checks.specs.Sections.{OfLookup};
 
-use lines::cursor::{Cursor, NextLine, NextNumber};
+use lines::cursor::Cursor;
 use lines::layout::Layout;
 
 // A step: its version, whether it has a commitment, and the offset of its digits; the offset of the
@@ -25,16 +25,9 @@ pub(crate) fn next_step(steps: &[u8], at: usize) -> Option<NextStep>
     requires within { at ≤ length steps.now }
     ensures { IsNextStep steps.now at result }
 {
-    let NextLine::Ended { stop, next } = Cursor { at }.line(steps) else {
-        return None;
-    };
+    let (stop, next) = Cursor { at }.line(steps)?;
     let line = &steps[at..stop];
-    let NextNumber::Read { value, next: field } = Cursor { at: Layout::STEP }.number(
-        line,
-        u32::MAX as u64,
-    ) else {
-        return None;
-    };
+    let (value, field) = Cursor { at: Layout::STEP }.number(line, u32::MAX as u64)?;
     Some(NextStep {
         version: value as u32,
         committed: line.len() == field.at + Layout::DIGITS,
@@ -50,11 +43,8 @@ pub(crate) fn next_entry(entries: &[u8], at: usize) -> Option<usize>
     requires within { at ≤ length entries.now }
     ensures { IsNextEntry entries.now at result }
 {
-    let start = Cursor { at };
-    match start.line(entries) {
-        NextLine::Ended { stop: _, next } => Some(next.at),
-        NextLine::Unread => None,
-    }
+    let (_, next) = Cursor { at }.line(entries)?;
+    Some(next.at)
 }
 
 // Where the line of the lookup at an offset stops, and the offset of the next line, if a lookup
@@ -64,17 +54,11 @@ pub(crate) fn next_lookup(entries: &[u8], at: usize) -> Option<(usize, usize)>
     requires within { at ≤ length entries.now }
     ensures { IsNextLookup entries.now at result }
 {
-    if entries.len() <= at {
+    if entries.len() <= at || entries[at] == Layout::ENTRY_LETTER {
         return None;
     }
-    if entries[at] == Layout::ENTRY_LETTER {
-        return None;
-    }
-    let start = Cursor { at };
-    match start.line(entries) {
-        NextLine::Ended { stop, next } => Some((stop, next.at)),
-        NextLine::Unread => None,
-    }
+    let (stop, next) = Cursor { at }.line(entries)?;
+    Some((stop, next.at))
 }
 
 // The version of a lookup line.
@@ -83,8 +67,8 @@ pub(crate) fn lookup_version(line: &[u8]) -> u32
 {
     let start = Cursor { at: Layout::LOOKUP };
     match start.number(line, u32::MAX as u64) {
-        NextNumber::Read { value, next: _ } => value as u32,
-        NextNumber::Unread => 0,
+        Some((value, _)) => value as u32,
+        None => 0,
     }
 }
 

@@ -52,7 +52,13 @@ pub fn signed_text(
         &mut values,
     )?;
     let tree_size = passed.call.response.tree_size;
-    place_tree_head(buffer, offset, configuration, tree_size, passed.checked.root)
+    place_tree_head(
+        buffer,
+        offset,
+        configuration,
+        tree_size,
+        passed.checked.root,
+    )
 }
 
 // The kind of call that a number asks for: 0 for a search, 1 for monitoring.

@@ -58,10 +58,11 @@ fn note_commitment(
     ensures { IsNoted outputs.now version offset offsets.old result
         offsets.new }
 {
-    let found = find_output(outputs, version);
-    let index = found.index;
-    if found.found {
-        offsets[index] = offset as u32;
+    match find_output(outputs, version) {
+        Some(found) => {
+            offsets[found.index] = offset as u32;
+            true
+        }
+        None => false,
     }
-    found.found
 }

@@ -1,6 +1,6 @@
 // Refusals 1 to 14 in the order of trial (paper 01, Sixteen numbers).
 // The walk (14) is called by itself, so that nothing of 6 to 13 lies on the stack below it.
-ghost use Rattle.std.specs.Prelude.{◌≡◌, ◌≤◌, length, take};
+ghost use Rattle.std.specs.Prelude.{◌≤◌, length};
 ghost use Rattle.rules.specs.Limits.{label_limit};
 ghost use Rattle.inputs.proofs.StateBlockLaws.{Sized};
 ghost use Rattle.checks.specs.Calls.{Is1to14Tried, Checkable, Is6to13Tried, Shapeable, Is9to13Tried, Is14Tried};
@@ -79,58 +79,28 @@ pub(crate) fn try_1_to_14(
         outputs,
         signed,
     )?;
-    let tried = try_6_to_13(
-        asked,
-        response,
-        call,
-        identifier,
-        &state.label.bytes,
-        state.label.length,
-        &state.map.positions,
-        &state.map.versions,
-        state.map.count,
-        outputs,
-    )?;
+    let tried = try_6_to_13(asked, response, call, identifier, state, outputs)?;
     let checked = try_14(response, call, tried, &state.log.values, values)?;
     Ok(Passed { call, checked })
 }
 
-// Tries 6 to 13. The label and the pairs of the state are the first bytes and numbers of the arrays
-// lent.
+// Tries 6 to 13 on a call that was read.
 fn try_6_to_13(
     asked: Option<Kind>,
     text: &[u8],
     call: Call,
     identifier: &[u8],
-    label: &[u8],
-    length: usize,
-    positions: &[u64],
-    versions: &[u32],
-    pairs: usize,
+    state: &State,
     outputs: &[u8],
 ) -> Result<Tried, Refusal>
-    requires { Checkable text.now call identifier.now label.now length positions.now
-        versions.now pairs outputs.now }
-    ensures { Is6to13Tried asked text.now call identifier.now
-        (take length label.now) (take pairs positions.now)
-        (take pairs versions.now) outputs.now result }
+    requires { Checkable text.now call identifier.now state.now outputs.now }
+    ensures { Is6to13Tried asked text.now call identifier.now state.now outputs.now result }
 {
-    try_6_to_8(
-        asked,
-        text,
-        call,
-        identifier,
-        &label[..length],
-        &versions[..pairs],
-    )?;
-    try_9_to_13(
-        text,
-        call,
-        &label[..length],
-        &positions[..pairs],
-        &versions[..pairs],
-        outputs,
-    )
+    let label = &state.label.bytes[..state.label.length];
+    let positions = &state.map.positions[..state.map.count];
+    let versions = &state.map.versions[..state.map.count];
+    try_6_to_8(asked, text, call, identifier, label, versions)?;
+    try_9_to_13(text, call, label, positions, versions, outputs)
 }
 
 // Tries 14 on a call to which none of 6 to 13 applies. The values of the full subtrees go into the
@@ -181,7 +151,10 @@ fn try_9_to_13(
     let mut commitments = [0u32; Commitments::RECORDS];
     let timestamp = try_9_to_11(text, call, positions, versions, outputs, &mut commitments)?;
     let position = try_12_and_13(text, call, label, outputs, &commitments)?;
-    Ok(Tried { position, timestamp })
+    Ok(Tried {
+        position,
+        timestamp,
+    })
 }
 
 // Tries 9 to 11. The offsets of the commitments go into the table lent, by the records of their

@@ -2,9 +2,9 @@
 -- which they are read.
 use mathlib.Core.Path.{◌≡◌, refl}
 use mathlib.Core.Bool.{true, false}
-use mathlib.Core.List.{[]}
 use mathlib.Core.Option.{Option, none, some, bind}
-use Prim.Native.Nat.{ℕ, ◌+◌, ◌≤◌, ◌<◌}
+use Prim.Native.Nat.{min, ℕ, ◌+◌, ◌≤◌, ◌<◌}
+use native.Mathlib.Decide.{dec_lt}
 use native.Mathlib.Omega.{arith}
 use lib.Dec.{ltb}
 use lib.ListN.{length, drop}
@@ -12,9 +12,11 @@ use borrow.Author.Tests.{lt-ltb, le-ltb, le-leb, lt-leb}
 use Rattle.lists.specs.Choice.{provided, ◌>>◌}
 use Rattle.lists.specs.Lists.{Bytes, same}
 use Rattle.lists.proofs.ChoiceLaws.{provided_true}
-use Rattle.lines.specs.Line.{newline, before}
+use Rattle.lines.specs.Line.{newline, tab, before}
 use Rattle.lines.specs.Cursor.{line_at, field_at, read_at, word_at}
-use Rattle.lines.proofs.OffsetLaws.{at_end}
+use Rattle.lists.proofs.SameLaws.{slices_same}
+use borrow.Author.Tests.{not-true, not-false}
+use Rattle.lines.proofs.OffsetLaws.{at_end, before_at}
 
 -- ---- the line at an offset
 
@@ -31,10 +33,14 @@ module _ (s : Bytes) (at stop : ℕ) (e : stop ≡ at + length (before newline (
 
 -- ---- the field at an offset
 
--- beyond the end of a line the field is empty
-pub field_beyond : (l : Bytes) (at : ℕ) → length l < at → field_at l at ≡ []
-unfolding field_at before
-field_beyond l at h = rw (at_end l at (omega arith)) refl
+-- an offset beyond the end is taken back to it: nothing is there either
+pub field_within : (l : Bytes) (at i : ℕ) → i ≡ min at (length l) → before tab (drop i l) ≡ field_at l at
+unfolding field_at
+field_within l at i e = go (dec_lt (length l) at)
+  where
+    go : Dec (length l < at) → before tab (drop i l) ≡ before tab (drop at l)
+    go (yes h) = rw (at_end l i (omega arith), at_end l at (omega arith)) refl
+    go (no h) = let q : i ≡ at = omega arith in rw q refl
 
 module _ {A : Type 0} (read : Bytes → Option A) (l : Bytes) (at : ℕ) where
   -- beyond the end of a line nothing is read
@@ -73,3 +79,8 @@ module _ (w l : Bytes) (at : ℕ) where
       → word_at w l at ≡ some (at + length f + 1)
   unfolding word_at
   word_same f e h d = rw (read_some (one_word w) l at f e h tt (provided_true (same f w) tt d)) refl
+
+-- what the code at a cursor is proved by
+pub ruleset at_cursor = (line-ended, line-open, field_within, before_at, read-beyond, read_none, read_some)
+
+pub ruleset words = (word-beyond, word-other, word_same, slices_same, not-true, not-false)

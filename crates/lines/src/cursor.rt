@@ -1,5 +1,5 @@
 // Reading on from a cursor: lines of a text, fields of a line (paper 01, Response lines).
-ghost use Rattle.std.specs.Prelude.{◌≡◌};
+ghost use Rattle.std.specs.Prelude.{◌≡◌, ◌<◌, ◌≤◌, ◌+◌, length, MatchOption};
 ghost use Rattle.lines.specs.Number.{read_number};
 ghost use Rattle.lines.specs.Hex.{decoded_length};
 ghost use Rattle.lines.specs.Cursor.{left_at, line_at, past, field_at, read_at, word_at};
@@ -18,6 +18,7 @@ pub struct Cursor {
 
 impl Cursor {
     // How many bytes of a text are left from here on.
+    #[tactic(auto, unfolding(crate::specs::Cursor::left_at))]
     pub fn left(self, text: &[u8]) -> usize
         ensures { result ≡ left_at text.now self.at }
     {
@@ -25,6 +26,7 @@ impl Cursor {
     }
 
     // The line that begins here in a text, by the offset of the newline that ends it.
+    #[tactic(auto, using(crate::proofs::CursorLaws::at_cursor))]
     pub fn line(self, text: &[u8]) -> Option<(usize, Cursor)>
         ensures { read_of result ≡ line_at text.now self.at }
     {
@@ -36,6 +38,7 @@ impl Cursor {
     }
 
     // The offset after a line that was read here; this one, where no newline ended it.
+    #[tactic(auto, unfolding(crate::specs::Cursor::past))]
     pub fn past(self, line: Option<(usize, Cursor)>) -> usize
         ensures { result ≡ past (read_of line) self.at }
     {
@@ -46,63 +49,59 @@ impl Cursor {
     }
 
     // The field that begins here in a line: the part of the line that it fills.
+    #[tactic(auto, using(crate::proofs::CursorLaws::at_cursor))]
     pub fn field(self, line: &[u8]) -> &[u8]
         ensures { result.now ≡ field_at line.now self.at }
     {
+        let start = self.at.min(line.len());
+        let stop = span(line, start, b'\t');
+        &line[start..stop]
+    }
+
+    // The field that begins here in a line and the cursor after it; none begins beyond the line.
+    fn next_field(self, line: &[u8]) -> Option<(&[u8], Cursor)>
+        ensures { MatchOption result (length line.now < self.at) (λ r. (self.at ≤ length line.now)
+            × (r.0.now ≡ field_at line.now self.at) × (r.1.at ≡ self.at + length r.0.now + 1)) }
+    {
         if line.len() < self.at {
-            return &line[0..0];
+            return None;
         }
-        let stop = span(line, self.at, b'\t');
-        &line[self.at..stop]
+        let f = self.field(line);
+        Some((
+            f,
+            Cursor {
+                at: self.at + f.len() + 1,
+            },
+        ))
     }
 
     // The field that begins here in a line, as a word.
+    #[tactic(auto, using(crate::proofs::CursorLaws::words))]
     pub fn word(self, line: &[u8], word: &[u8]) -> Option<Cursor>
         ensures { next_of result ≡ word_at word.now line.now self.at }
     {
-        if line.len() < self.at {
-            return None;
-        }
-        let f = self.field(line);
+        let (f, next) = self.next_field(line)?;
         if f != word {
             return None;
         }
-        Some(Cursor {
-            at: self.at + f.len() + 1,
-        })
+        Some(next)
     }
 
     // The same as a decimal number not above a bound.
+    #[tactic(auto, using(crate::proofs::CursorLaws::at_cursor))]
     pub fn number(self, line: &[u8], bound: u64) -> Option<(u64, Cursor)>
         ensures { read_of result ≡ read_at (read_number bound) line.now self.at }
     {
-        if line.len() < self.at {
-            return None;
-        }
-        let f = self.field(line);
-        let value = read_number(f, bound)?;
-        Some((
-            value,
-            Cursor {
-                at: self.at + f.len() + 1,
-            },
-        ))
+        let (f, next) = self.next_field(line)?;
+        Some((read_number(f, bound)?, next))
     }
 
     // The same as a byte string in hex.
+    #[tactic(auto, using(crate::proofs::CursorLaws::at_cursor))]
     pub fn bytes(self, line: &[u8]) -> Option<(usize, Cursor)>
         ensures { read_of result ≡ read_at decoded_length line.now self.at }
     {
-        if line.len() < self.at {
-            return None;
-        }
-        let f = self.field(line);
-        let length = decoded_length(f)?;
-        Some((
-            length,
-            Cursor {
-                at: self.at + f.len() + 1,
-            },
-        ))
+        let (f, next) = self.next_field(line)?;
+        Some((decoded_length(f)?, next))
     }
 }

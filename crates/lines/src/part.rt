@@ -3,7 +3,7 @@ ghost use Rattle.std.specs.Prelude.{◌≡◌};
 ghost use Rattle.lists.specs.Lists.{same};
 ghost use Rattle.lines.specs.Readings.{part_of};
 
-// A part of a text, by the offsets where it starts and stops.
+// A part of a text, by the offsets where it starts and stops; unlike a `Range` it is `Copy`.
 #[derive(Clone, Copy)]
 pub struct Part {
     pub start: usize,
@@ -12,20 +12,12 @@ pub struct Part {
 
 impl Part {
     // The bytes of the part, as far as the text reaches.
+    #[tactic(auto, using(crate::proofs::PartLaws::part_within))]
     pub fn of(self, text: &[u8]) -> &[u8]
         ensures { result.now ≡ part_of text.now self }
     {
-        let start = self.start;
-        let stop = self.stop;
-        if text.len() < start {
-            return &text[0..0];
-        }
-        if stop < start {
-            return &text[0..0];
-        }
-        if text.len() < stop {
-            return &text[start..];
-        }
+        let stop = self.stop.min(text.len());
+        let start = self.start.min(stop);
         &text[start..stop]
     }
 }

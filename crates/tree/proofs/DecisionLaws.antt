@@ -1,7 +1,7 @@
 -- Laws of what the walk decides at a whole block (src/log_tree.rt): full or not, holding a full
 -- subtree or not, and where its kept value stands.
 use mathlib.Core.Path.{◌≡◌, refl, sym, ap, ap₂, ◌∙◌, subst}
-use mathlib.Core.Logic.{inl, inr}
+use mathlib.Core.Logic.{inr}
 use mathlib.Core.Bool.{Bool, true, false, ◌&&◌, ◌||◌}
 use Prim.Native.Nat.{ℕ, suc, ◌+◌, ◌*◌, ◌/◌, ◌%◌, ◌^◌, ◌≤◌, ◌<◌}
 use native.Mathlib.Nat.{pow-succ', mod-lt}
@@ -18,7 +18,7 @@ use Rattle.hash.specs.Sha256.{digest_length}
 use Rattle.tree.specs.declared.log_tree.Source.{Source}
 use Rattle.tree.specs.declared.log_tree.Source.TheVariants.{Given, Parent}
 use Rattle.tree.specs.LogTree.{Range, full_subtrees, is_full, holds_full, value_among, kept_value, zeros}
-use Rattle.tree.specs.LogHead.{level_limit, known_in}
+use Rattle.tree.specs.LogHead.{known_in}
 use Rattle.tree.specs.LogWalk.{range, Whole, Halves, even, uneven, SourceFacts}
 use Rattle.tree.proofs.DigitLaws.{halved}
 use Rattle.tree.proofs.RunLaws.{runs-at}
@@ -105,10 +105,6 @@ module _ (m s w : ℕ) (h : Whole s w) where
 
   -- ---- the step that it takes, something being shown in it or not
 
-  -- more entries of which one is shown split
-  pub step-parent : {b : Bool} → b ≡ true → (w ≡ 1 → ⊥) → SourceFacts b m (range s w) Parent
-  step-parent e d = (omega (arith, whole_some h, d), inl e)
-
   -- those after the m entries are given
   pub step_after : {b : Bool} → b ≡ false → is_full m (range s w) ≡ false → m ≤ s → SourceFacts b m (range s w) Given
   step_after e f l = (e, f, holds_test ∙ rw (f, le-ltb s m l) refl)
@@ -132,7 +128,3 @@ halves_even m start half rest (uneven l f) q = absurd (omega arith)
 pub halves_uneven : (m start half rest : ℕ) → Halves m start half rest → (rest ≡ half → ⊥) → is_full m (range start (half + rest)) ≡ false
 halves_uneven m start half rest (even e h) q = absurd (q e)
 halves_uneven m start half rest (uneven l f) q = f
-
--- either way they are no more than a log may have
-pub halves_small : (m start half rest : ℕ) → Halves m start half rest → rest ≡ half → half + rest ≤ 2 ^ level_limit
-halves_small m start half rest h q = let w = halves_even m start half rest h q in omega (arith, w.small)

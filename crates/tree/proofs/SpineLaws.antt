@@ -153,10 +153,6 @@ module _ (vs : List Bytes) (text : Bytes) (ns : List Bytes) {m n s w : ℕ} {c :
 -- ---- where it ends
 
 module _ (text : Bytes) {m n s w : ℕ} {c : WalkCursor} (t : Tail n s) (z : w ≡ power (n - s)) (r : Ready text m s c) (h : m ≤ n) where
-  -- where they are that full subtree it ends after it
-  pub spine-end-block : (a : WalkCursor) → s + w ≡ n → a ≡ end_on text (known m [] (shown_in text)) c.node (range s w) → a ≡ end_on text (known m [] (shown_in text)) c.node (range s (n - s))
-  spine-end-block a e ea = let d : w ≡ n - s = omega arith in ea ∙ ap (λ (j : ℕ). end_on text (known m [] (shown_in text)) c.node (range s j)) d
-
   -- where they are the next node it has passed one node more
   pub spine-end-node : s + w < n → ltb (position_of c.position) n ≡ false → m ≤ s → past_node c ≡ end_on text (known m [] (shown_in text)) c.node (range s (n - s))
   unfolding node_next

@@ -25,11 +25,15 @@ impl LogHead {
     // The entries of the largest log.
     pub const LARGEST_SIZE: u64 = 1 << LogHead::LEVELS;
 
-    // The bytes of as many values.
-    pub const BLOCK: usize = 32 * LogHead::LEVELS as usize;
+    // The bytes of a value.
+    pub const VALUE: usize = 32;
+
+    // The bytes of as many values as there are levels.
+    pub const BLOCK: usize = LogHead::VALUE * LogHead::LEVELS as usize;
 }
 
 // Whether the shown positions rise and are below the size.
+// A loop over offsets: an iterator over entry lines would need a contract of its own, no plainer.
 fn rising_below(text: &[u8], tree_size: u64) -> bool
     ensures { result ≡ rising_below tree_size (positions (shown_in text.now)) }
 {

@@ -46,11 +46,13 @@ fn put_value(block: &mut [u8; LogHead::BLOCK], i: usize, value: [u8; 32])
     ensures { (length value ≡ digest_length)
         × Filled i block.old block.new value }
 {
-    block[32 * i..32 * i + 32].copy_from_slice(&value);
+    let at = LogHead::VALUE * i;
+    block[at..at + LogHead::VALUE].copy_from_slice(&value);
 }
 
 // The walk over the entries from start on up to tree_size. The values of the full subtrees of all
 // entries that are among them go into a block, after so many others.
+// A block with a count beside it: the project has no heap.
 pub(crate) fn spine(
     log: &KnownLog<'_>,
     tree_size: u64,
@@ -100,6 +102,7 @@ pub(crate) fn spine(
 }
 
 // The same walk for where it ends alone.
+// Beside spine, for the reason given at subtree_end.
 pub(crate) fn spine_end(
     text: &[u8],
     kept_size: u64,

@@ -25,16 +25,13 @@ pub enum Source {
 
 // Whether a whole block is a full subtree of kept_size entries: the last one of its width, and the
 // left one of its pair.
+// Start and width stay numbers: Whole has their level, which the invariant of a struct would hide.
 fn is_full(kept_size: u64, start: u64, width: u64) -> bool
     requires { Whole start width }
     ensures { result ≡ is_full kept_size (range start width) }
 {
     let number = start / width;
-    if kept_size / width == number + 1 {
-        number % 2 == 0
-    } else {
-        false
-    }
+    kept_size / width == number + 1 && number % 2 == 0
 }
 
 // The step at a whole block, in which something is shown or not.
@@ -87,7 +84,7 @@ impl KnownLog<'_> {
     {
         stored_at(
             self.kept,
-            u64::count_ones(self.kept_size / (2 * width)) as usize,
+            (self.kept_size / (2 * width)).count_ones() as usize,
         )
     }
 
@@ -199,6 +196,7 @@ pub(crate) fn subtree(log: &KnownLog<'_>, start: u64, width: u64, cursor: &WalkC
 }
 
 // The same walk for where it ends alone.
+// Beside subtree: a trait of what a walk yields would need a contract for each step, no plainer.
 pub(crate) fn subtree_end(
     text: &[u8],
     kept_size: u64,

@@ -1,10 +1,10 @@
 -- `checks::request::decodes` meets its contract: what the field encodes stands at the front of the
 -- room, or is none or longer than the bytes.
-use mathlib.Core.Path.{◌≡◌, sym, ◌∙◌, ap}
+use mathlib.Core.Path.{◌≡◌, sym, ◌∙◌}
 use native.Mathlib.Omega.{arith}
 use lib.ListN.{length}
+use Rattle.lists.proofs.SameLaws.{slices_same}
 use Rattle.hash.proofs.BytesLaws.{part_count}
-use Rattle.lines.specs.Readings.{put_of}
 use Rattle.rules.specs.Limits.{label_limit}
 use Rattle.checks.proofs.RequestLaws.{put-within, decoded-put, decoded_unput}
 use borrow.Author.Rules.{rules}
@@ -13,15 +13,12 @@ use Rattle.checks.proofs.request.decodes.Goals as goal
 pub slice_bounds-room-end : goal.slice_bounds-room-end
 slice_bounds-room-end c =
     let e : length c.put_decoded.new.out ≡ label_limit = search rules in
-    omega (arith, put-within label_limit _ _ (sym c.put_decoded.ensures.offset ∙ ap put_of c.in-Next.is))
+    omega (arith, put-within label_limit _ _ (sym c.in-Some.ensures.offset))
 
-pub slice_bounds-equal-end : goal.slice_bounds-equal-end
-slice_bounds-equal-end c =
-    let e : length c.put_decoded.new.out ≡ label_limit = search rules in
-    part_count _ _ (omega (arith, put-within label_limit _ _ (sym c.put_decoded.ensures.offset ∙ ap put_of c.in-Next.is)))
+pub returns-in-Some : goal.returns-in-Some
+returns-in-Some c =
+    c.eq.ensures ∙ slices_same _ _
+    ∙ decoded-put label_limit _ _ _ _ (sym c.in-Some.ensures.offset) c.put_decoded.ensures.bytes
 
-pub returns-in-Next : goal.returns-in-Next
-returns-in-Next c = c.equal.ensures ∙ decoded-put label_limit _ _ _ _ (sym c.put_decoded.ensures.offset ∙ ap put_of c.in-Next.is) c.put_decoded.ensures.bytes
-
-pub returns-in-Unchanged : goal.returns-in-Unchanged
-returns-in-Unchanged c = decoded_unput label_limit _ _ c.requires (sym c.put_decoded.ensures.offset ∙ ap put_of c.in-Unchanged.is)
+pub returns-in-None : goal.returns-in-None
+returns-in-None c = decoded_unput label_limit _ _ c.requires (sym c.in-None.ensures.offset)

@@ -1,30 +1,20 @@
 -- `checks::steps::note_commitment` meets its contract: the number of a record that is found is
 -- within the table.
-use Prim.Native.Nat.{◌<◌}
 use native.Mathlib.Omega.{arith}
 use Rattle.inputs.proofs.VrfOutputLaws.{found_below}
-use Rattle.checks.specs.Steps.{records_capacity}
-use Rattle.checks.proofs.StepLaws.{noted-found, noted-missing}
+use Rattle.checks.proofs.StepLaws.{noted_found, noted_missing}
 use Rattle.checks.proofs.steps.note_commitment.Goals as goal
 
-pub offset_bounds-offsets-index : goal.offset_bounds-offsets-index
-offset_bounds-offsets-index c =
-    omega (
-      arith,
-      (let within0 : (c.find_output-found.result.index < records_capacity) = let f0 = c.find_output-found in
-          found_below _ _ records_capacity _ (omega arith) (omega (arith, c.requires.outputs)) f0.ensures.any in within0),
-    )
+pub offset_bounds-offsets-found : goal.offset_bounds-offsets-found
+offset_bounds-offsets-found c =
+    omega (arith, found_below c.args.outputs.now c.args.version _ c.in-Some.ensures.any, c.requires.outputs)
 
-pub bounds-offsets-index : goal.bounds-offsets-index
-bounds-offsets-index c =
-    omega (
-      arith,
-      (let within0 : (c.find_output-found.result.index < records_capacity) = let f0 = c.find_output-found in
-          found_below _ _ records_capacity _ (omega arith) (omega (arith, c.requires.outputs)) f0.ensures.any in within0),
-    )
+pub bounds-offsets-found : goal.bounds-offsets-found
+bounds-offsets-found c =
+    omega (arith, found_below c.args.outputs.now c.args.version _ c.in-Some.ensures.any, c.requires.outputs)
 
-pub returns-then-found : goal.returns-then-found
-returns-then-found c = noted-found _ _ _ _ _ c.find_output-found.ensures.rising c.if-found.true
+pub returns-in-Some : goal.returns-in-Some
+returns-in-Some c = noted_found _ _ _ _ _ c.in-Some.ensures.rising
 
-pub returns-else-found : goal.returns-else-found
-returns-else-found c = noted-missing _ _ _ _ _ c.find_output-found.ensures.rising c.if-found.false
+pub returns-in-None : goal.returns-in-None
+returns-in-None c = noted_missing _ _ _ _ c.in-None.ensures.rising

@@ -9,25 +9,10 @@ use Rattle.inputs.specs.Refusal.{number_in}
 use Rattle.checks.proofs.Trial6to14Laws.{label-fits, first-refused, first-passed, first-possible}
 use Rattle.checks.proofs.trial.try_6_to_13.Goals as goal
 
-pub slice_bounds-try_6_to_8-end : goal.slice_bounds-try_6_to_8-end
-slice_bounds-try_6_to_8-end c = sym (length-take-le _ _ c.requires.label_within)
-
-pub slice_bounds-try_6_to_8-end-2 : goal.slice_bounds-try_6_to_8-end-2
-slice_bounds-try_6_to_8-end-2 c = sym (length-take-le _ _ c.requires.versions_within)
-
 pub try_6_to_8-requires : goal.try_6_to_8-requires
 try_6_to_8-requires c =
     let P = c.requires in
     record { fields = P.offsets.0; identifier = omega (arith, P.identifier); label = label-fits P }
-
-pub slice_bounds-try_9_to_13-end : goal.slice_bounds-try_9_to_13-end
-slice_bounds-try_9_to_13-end c = sym (length-take-le _ _ c.requires.label_within)
-
-pub slice_bounds-try_9_to_13-end-2 : goal.slice_bounds-try_9_to_13-end-2
-slice_bounds-try_9_to_13-end-2 c = sym (length-take-le _ _ c.requires.positions_within)
-
-pub slice_bounds-try_9_to_13-end-3 : goal.slice_bounds-try_9_to_13-end-3
-slice_bounds-try_9_to_13-end-3 c = sym (length-take-le _ _ c.requires.versions_within)
 
 pub returns-in_err-try_6_to_8 : goal.returns-in_err-try_6_to_8
 returns-in_err-try_6_to_8 c =

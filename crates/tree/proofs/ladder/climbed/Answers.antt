@@ -17,9 +17,6 @@ overflow_mul-high c = omega (arith, climbing_next_fits c.requires c.loop-high.in
 pub overflow_add-high : goal.overflow_add-high
 overflow_add-high c = omega (arith, climbing_next_fits c.requires c.loop-high.invariant c.loop-high-test.true)
 
-pub loop-high-smaller : goal.loop-high-smaller
-loop-high-smaller c = omega arith
-
 pub loop-high-preserved : goal.loop-high-preserved
 loop-high-preserved c = let (v, l) = c.push.ensures in rw (v, l) (climbing_next c.requires c.loop-high.invariant c.loop-high-test.true)
 

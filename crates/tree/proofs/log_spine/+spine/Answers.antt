@@ -14,12 +14,6 @@ use Rattle.tree.proofs.SpineLaws.{filled_then, spine-ready, spine-block, spine-n
 use Rattle.tree.proofs.SpineLaws.{spine-cut, spine-values}
 use Rattle.tree.proofs.log_spine.+spine.Goals as goal
 
-pub overflow_sub-tree_size : goal.overflow_sub-tree_size
-overflow_sub-tree_size t c = omega (arith, c.requires.tail.0.some)
-
-pub power-width-requires : goal.power-width-requires
-power-width-requires t c = omega (arith, c.requires.tail.0.some)
-
 pub edge_at-requires : goal.edge_at-requires
 edge_at-requires t c = tail-least c.requires.tail.0 c.power-width.ensures
 
@@ -31,11 +25,6 @@ subtree-whole-requires t c =
 pub put_value-requires : goal.put_value-requires
 put_value-requires t c =
     omega (arith, tail-ones c.requires.tail.0 c.power-width.ensures, c.requires.room)
-
-pub next_node-given-requires : goal.next_node-given-requires
-next_node-given-requires t c =
-    let p = c.requires.tail in
-    omega (arith, p.0.small, p.0.some, p.1.taken)
 
 pub put_value-requires-in-Node : goal.put_value-requires-in-Node
 put_value-requires-in-Node t c =
@@ -50,12 +39,6 @@ pub put_value-requires-in-Cut : goal.put_value-requires-in-Cut
 put_value-requires-in-Cut t c =
     omega (arith, tail-ones c.requires.tail.0 c.power-width.ensures, c.requires.room)
 
-pub overflow_add-next : goal.overflow_add-next
-overflow_add-next t c = omega (arith, tail-least c.requires.tail.0 c.power-width.ensures, c.requires.tail.0.small)
-
-pub overflow_add-count : goal.overflow_add-count
-overflow_add-count t c = omega (arith, c.requires.room)
-
 pub spine-right-requires : goal.spine-right-requires
 unfolding known_in
 spine-right-requires t c =
@@ -65,9 +48,6 @@ spine-right-requires t c =
     let w = whole_some (tail-whole c.requires.tail.0 c.power-width.ensures) in
     let r = spine-ready [] text [] c.requires.tail.0 c.power-width.ensures c.requires.tail.1 c.requires.tail.2 f.0 _ (walked-cursor _ _ _ _ _ _ _ c.subtree-left.ensures) in
     (omega (arith, c.decreases, f.0, w), ((tail-behind c.requires.tail.0 c.power-width.ensures f.0, r, p.tail.2), omega (arith, tail-ones c.requires.tail.0 c.power-width.ensures, p.room)))
-
-pub overflow_sub-tree_size-in-Cut : goal.overflow_sub-tree_size-in-Cut
-overflow_sub-tree_size-in-Cut t c = omega (arith, tail-least c.requires.tail.0 c.power-width.ensures)
 
 pub joined-requires : goal.joined-requires
 joined-requires t c =

@@ -1,11 +1,8 @@
 -- `tree::log_text::entry_from` meets its contract: from where the loop stands the same entry line
 -- is the first as from the start on.
-use mathlib.Core.Path.{refl, sym, ap, ◌∙◌}
+use mathlib.Core.Path.{sym, ap, ◌∙◌}
 use Rattle.tree.proofs.EntryLineLaws.{first_offset, first_here, first_later, first-end}
 use Rattle.tree.proofs.log_text.entry_from.Goals as goal
-
-pub loop-at-init : goal.loop-at-init
-loop-at-init c = refl
 
 pub returns-then-text-at-eq-ENTRY_LETTER : goal.returns-then-text-at-eq-ENTRY_LETTER
 returns-then-text-at-eq-ENTRY_LETTER c =

@@ -1,41 +1,19 @@
 -- `tree::log_tree::subtree` meets its contract, by its width: each step yields what the walk does
 -- there, a parent from what its halves yield.
 use mathlib.Core.Path.{◌∙◌}
-use mathlib.Core.List.{[]}
 use native.Mathlib.Omega.{arith}
 use Rattle.tree.specs.declared.log_tree.Source.TheVariants.{Retained, Given, Shown, Parent}
 use Rattle.tree.specs.LogText.{nodes_in}
 use Rattle.tree.specs.LogHead.{known_in}
 use Rattle.tree.proofs.DecisionLaws.{step_told}
 use Rattle.tree.proofs.WalkLaws.{whole-left, whole-right, whole-halves, ready-right, block-retained}
-use Rattle.tree.proofs.WalkLaws.{block-given, block-entry, block-shown-entry, block-parent}
+use Rattle.tree.proofs.WalkLaws.{block-given, block-shown-entry, block-parent}
 use Rattle.tree.proofs.log_tree.+subtree.Goals as goal
-
-pub source_at-requires : goal.source_at-requires
-source_at-requires t c = c.requires.0
-
-pub kept_value-value-requires : goal.kept_value-value-requires
-kept_value-value-requires t c =
-    let f = step_told _ _ Retained c.in-Retained.is c.is_before.ensures c.source_at.ensures in
-    (c.requires.0, f.1)
-
-pub next_node-requires : goal.next_node-requires
-next_node-requires t c = omega (arith, c.requires.0.small, c.requires.1.taken)
-
-pub shown_entry-requires : goal.shown_entry-requires
-shown_entry-requires t c =
-    let text = c.args.log.now.text.now in
-    let ns = nodes_in c.args.log.now.nodes.now in
-    let (b, l) = block-entry [] text ns c.requires.0 c.requires.1 (step_told _ _ Shown c.in-Shown.is c.is_before.ensures c.source_at.ensures) in
-    (c.requires.1, b, l)
 
 pub subtree-left-requires : goal.subtree-left-requires
 subtree-left-requires t c =
     let f = step_told _ _ Parent c.in-Parent.is c.is_before.ensures c.source_at.ensures in
     (omega (arith, c.decreases, f.0), (whole-left c.requires.0 f.0, c.requires.1))
-
-pub overflow_add-start : goal.overflow_add-start
-overflow_add-start t c = omega (arith, c.requires.0.small)
 
 pub subtree-right-requires : goal.subtree-right-requires
 unfolding known_in

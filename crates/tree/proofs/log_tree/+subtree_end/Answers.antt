@@ -10,12 +10,6 @@ use Rattle.tree.proofs.WalkLaws.{entry-room, whole-left, whole-right, block-entr
 use Rattle.tree.proofs.EndLaws.{ready-half, end-retained, end-given, end_shown, end-parent}
 use Rattle.tree.proofs.log_tree.+subtree_end.Goals as goal
 
-pub source_at-requires : goal.source_at-requires
-source_at-requires t c = c.requires.0
-
-pub past_node-requires : goal.past_node-requires
-past_node-requires t c = omega (arith, c.requires.0.small, c.requires.1.taken)
-
 pub past_entry-requires : goal.past_entry-requires
 past_entry-requires t c =
     let text = c.args.text.now in
@@ -26,9 +20,6 @@ pub subtree_end-middle-requires : goal.subtree_end-middle-requires
 subtree_end-middle-requires t c =
     let f = step_told _ _ Parent c.in-Parent.is c.is_before.ensures c.source_at.ensures in
     (omega (arith, c.decreases, f.0), (whole-left c.requires.0 f.0, c.requires.1))
-
-pub overflow_add-start : goal.overflow_add-start
-overflow_add-start t c = omega (arith, c.requires.0.small)
 
 pub subtree_end-requires : goal.subtree_end-requires
 unfolding known_in

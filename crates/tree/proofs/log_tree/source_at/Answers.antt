@@ -1,10 +1,7 @@
 -- `tree::log_tree::source_at` meets its contract: each answer by what its tests say of the block.
 use mathlib.Core.Path.{sym, ◌∙◌}
-use Rattle.tree.proofs.DecisionLaws.{step-parent, step_after, step-before, step-within}
+use Rattle.tree.proofs.DecisionLaws.{step_after, step-before, step-within}
 use Rattle.tree.proofs.log_tree.source_at.Goals as goal
-
-pub returns-else-width-eq1 : goal.returns-else-width-eq1
-returns-else-width-eq1 c = step-parent c.args.kept_size _ _ c.requires c.if-shown.true c.if-width-eq1.false
 
 pub returns-then-kept_size-start : goal.returns-then-kept_size-start
 returns-then-kept_size-start c = step_after _ _ _ c.requires c.if-shown.false (sym c.is_full.ensures ∙ c.if-is_full.false) c.if-kept_size-start.true

@@ -3,6 +3,7 @@
 use mathlib.Core.Path.{sym, ap, ◌∙◌}
 use Prim.Native.Nat.{ℕ}
 use lib.Dec.{eqb}
+use borrow.Author.Tests.{le-ltb}
 use Rattle.tree.specs.SearchTree.{right_ancestors}
 use Rattle.tree.proofs.AncestorLaws.{right_ancestors_rising}
 use Rattle.tree.proofs.NextLaws.{listed_next, listed_none}
@@ -18,4 +19,5 @@ returns-then-x-tree_size c =
 pub returns-else-x-tree_size : goal.returns-else-x-tree_size
 returns-else-x-tree_size c =
     let a = c.args in
-    sym (listed_none a.tree_size (right_ancestors a.tree_size a.p) a.x (path_within a.tree_size a.p) c.if-x-tree_size.false)
+    le-ltb a.x a.tree_size c.if-x-tree_size.false
+    ∙ sym (listed_none a.tree_size (right_ancestors a.tree_size a.p) a.x (path_within a.tree_size a.p) c.if-x-tree_size.false)

@@ -9,9 +9,6 @@ use Rattle.tree.proofs.search_tree.root.Goals as goal
 pub returns-then-tree_size-eq0 : goal.returns-then-tree_size-eq0
 returns-then-tree_size-eq0 c = root_empty c.args.tree_size c.if-tree_size-eq0.true
 
-pub power-requires : goal.power-requires
-power-requires c = omega arith
-
 pub overflow_sub-result : goal.overflow_sub-result
 overflow_sub-result c =
     let (k, e, _, _) = power_at c.args.tree_size (omega arith) in

@@ -5,12 +5,6 @@ use Rattle.tree.specs.LogHead.{known_in}
 use Rattle.tree.proofs.WalkedLaws.{agrees_full, agrees-none}
 use Rattle.tree.proofs.known_log.KnownLog.is_met.Goals as goal
 
-pub is_full-requires : goal.is_full-requires
-is_full-requires c = c.requires
-
-pub kept_value-v-requires : goal.kept_value-v-requires
-kept_value-v-requires c = (c.requires, sym c.is_full.ensures ∙ c.if-is_full.true)
-
 pub returns-then-is_full : goal.returns-then-is_full
 unfolding known_in
 returns-then-is_full c = c.eq.ensures ∙ slices_same _ _ ∙ agrees_full _ _ _ (sym c.is_full.ensures ∙ c.if-is_full.true) _ c.kept_value-v.ensures

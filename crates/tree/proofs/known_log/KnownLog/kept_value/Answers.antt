@@ -3,14 +3,8 @@
 use mathlib.Core.Path.{◌∙◌}
 use native.Mathlib.Omega.{arith}
 use Rattle.tree.specs.LogHead.{level_limit}
-use Rattle.tree.proofs.DecisionLaws.{whole_some, kept-room, kept-is}
+use Rattle.tree.proofs.DecisionLaws.{kept-room, kept-is}
 use Rattle.tree.proofs.known_log.KnownLog.kept_value.Goals as goal
-
-pub overflow_mul-width : goal.overflow_mul-width
-overflow_mul-width c = omega (arith, c.requires.0.small)
-
-pub nonzero_div-self : goal.nonzero_div-self
-nonzero_div-self c = omega (arith, whole_some c.requires.0)
 
 pub stored_at-requires : goal.stored_at-requires
 stored_at-requires c = kept-room _ _ _ c.requires.0 level_limit (omega arith) c.args.self.now.kept_bound c.requires.1

@@ -3,8 +3,5 @@ use Rattle.tree.specs.LogText.{nodes_in}
 use Rattle.tree.proofs.WalkedLaws.{node_made}
 use Rattle.tree.proofs.known_log.KnownLog.next_node.Goals as goal
 
-pub past_node-requires : goal.past_node-requires
-past_node-requires c = c.requires
-
 pub returns : goal.returns
 returns c = node_made (nodes_in c.args.self.now.nodes.now) c.args.cursor.now _ _ c.node_at-value.ensures c.past_node.ensures
