@@ -4,7 +4,7 @@ ghost use Rattle.hash.specs.Hasher as Hasher·;
 
 use crate::block::{HashValue, compress};
 use crate::bytes::buffer_of;
-use crate::sha256::{blocks, finish, initial};
+use crate::sha256::{compress_all, finish, initial};
 
 // The hash value after the whole blocks of what has come, the bytes after them with zeros after,
 // and how many bytes have come, modulo 2^64.
@@ -68,7 +68,7 @@ fn after_blocks(v: HashValue, s: &[u8], count: u64) -> Hasher
     ensures { result ≡ Hasher·.taken v s.now count }
 {
     let (whole, rest) = s.as_chunks::<64>();
-    let value = blocks(v, whole);
+    let value = compress_all(v, whole);
     let block = buffer_of(&[rest]);
     Hasher {
         value,

@@ -25,14 +25,10 @@ pub(crate) fn initial() -> HashValue
 }
 
 // The hash value after some blocks.
-pub(crate) fn blocks(v: HashValue, blocks: &[[u8; 64]]) -> HashValue
+pub(crate) fn compress_all(v: HashValue, blocks: &[[u8; 64]]) -> HashValue
     ensures { result ≡ fold compressed v blocks.now }
 {
-    let mut x = v;
-    for block in blocks {
-        x = compress(x, block);
-    }
-    x
+    blocks.iter().fold(v, |x, block| compress(x, block))
 }
 
 // The last bytes of a message of `total` bytes, fewer than a block, with the padding after them
@@ -62,9 +58,9 @@ pub(crate) fn finish(v: HashValue, total: u64, rest: &[u8]) -> [u8; 32]
     let b = ending(rest, total);
     let (last, _) = b.as_chunks::<64>();
     if rest.len() < 56 {
-        digest_of(blocks(v, &last[..1]))
+        digest_of(compress_all(v, &last[..1]))
     } else {
-        digest_of(blocks(v, last))
+        digest_of(compress_all(v, last))
     }
 }
 
@@ -73,7 +69,7 @@ pub fn digest(message: &[u8]) -> [u8; 32]
     ensures { result ≡ Sha256.sha256 message.now }
 {
     let (whole, rest) = message.as_chunks::<64>();
-    finish(blocks(initial(), whole), message.len() as u64, rest)
+    finish(compress_all(initial(), whole), message.len() as u64, rest)
 }
 
 fn digest_of(v: HashValue) -> [u8; 32]

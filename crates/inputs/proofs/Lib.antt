@@ -16,3 +16,5 @@ pub mod ResponseLaws
 pub mod ResponseFieldLaws
 pub mod ResponseSectionLaws
 pub mod ResponseBodyLaws
+pub mod TextLineLaws
+pub mod MatchLaws

@@ -1,5 +1,5 @@
--- Laws of reading a response from its offsets (specs/ResponseHeader.antt): the line at an offset,
--- and the lines before the sections, one after the other.
+-- Laws of reading a response from its offsets (specs/ResponseHeader.antt): the lines before the
+-- sections, one after the other.
 use mathlib.Core.Path.{◌≡◌, refl, sym, ◌∙◌, ap, ap₂}
 use mathlib.Core.List.{List, [], ◌∷◌}
 use mathlib.Core.Option.{Option, none, some, bind, map, some-injective, none-ne-some}
@@ -15,81 +15,9 @@ use Rattle.lines.proofs.SectionLaws.{LineHere, line_here, line_none}
 use Rattle.rules.specs.Response.{Kind, search, monitor, Finding, searched, monitored, Parts}
 use Rattle.rules.specs.ResponseText.{kt_form, head_form, target_form, read_body, read_rest, read_parts}
 use Rattle.rules.specs.ResponseText.{read_response}
-use Rattle.inputs.specs.ResponseHeader.{read_kt, read_from, read_finding}
-
--- ---- the line at an offset
-
--- a value with the offset, or with the lines, after what it was read from
-abbrev pub followed_by : {A B : Type 0} → B → A → A × B
-followed_by rest a = (a, rest)
-
--- the lines from an offset on, after a value
-abbrev lines_from : {A : Type 0} → Bytes → A × ℕ → A × List Bytes
-lines_from s (a, next) = (a, ended_lines (drop next s))
-
--- what a reader makes of the first of some lines, and the lines after it
-unfoldable first : {A : Type 0} → (Bytes → Option A) → List Bytes → Option (A × List Bytes)
-first read [] = none
-first read (l ∷ ls) = map (followed_by ls) (read l)
-
-module _ {A : Type 0} (read : Bytes → Option A) (s : Bytes) (at : ℕ) where
-  -- where no line stands, none is read
-  pub from-open : line_at s at ≡ none → read_from read s at ≡ none
-  unfolding read_from bind
-  from-open e = rw e refl
-
-  -- a line that stands there is read
-  pub from-line : (stop next : ℕ) → line_at s at ≡ some (stop, next) → read_from read s at ≡ map (followed_by next) (read (take (stop - at) (drop at s)))
-  unfolding read_from bind
-  from-line stop next e = rw e (go (read (take (stop - at) (drop at s))))
-    where
-      go : (o : Option A) → bind o (λ (a : A). some (followed_by next a)) ≡ map (followed_by next) o
-      go none = refl
-      go (some a) = refl
-
-  -- where it reads, the offset after it is the next
-  pub from_some : (stop next : ℕ) (a : A) → line_at s at ≡ some (stop, next) → read (take (stop - at) (drop at s)) ≡ some a → read_from read s at ≡ some (a, next)
-  from_some stop next a e q = from-line stop next e ∙ ap (map (followed_by next)) q
-
-  -- where it does not, nothing is read
-  pub from_none : (stop next : ℕ) → line_at s at ≡ some (stop, next) → read (take (stop - at) (drop at s)) ≡ none → read_from read s at ≡ none
-  from_none stop next e q = from-line stop next e ∙ ap (map (followed_by next)) q
-
-  -- it is the first of the ended lines from there on
-  from_first : first read (ended_lines (drop at s)) ≡ map (lines_from s) (read_from read s at)
-  unfolding first
-  from_first = go (line_at s at) refl
-    where
-      step : (o : Option A) (next : ℕ) → map (followed_by (ended_lines (drop next s))) o ≡ map (lines_from s) (map (followed_by next) o)
-      step none next = refl
-      step (some a) next = refl
-
-      go : (o : Option (ℕ × ℕ)) → line_at s at ≡ o → first read (ended_lines (drop at s)) ≡ map (lines_from s) (read_from read s at)
-      go none e = rw ((line_none s at e).0, from-open e) refl
-      go (some (stop, next)) e = rw ((line_here s at stop next e).lines, from-line stop next e) (step (read (take (stop - at) (drop at s))) next)
-
-  -- what was read there is a line that reads, and the offset after it is the next
-  pub record ReadHere (a : A) (next : ℕ) : Type 0 where
-    pub stop : ℕ
-    pub here : LineHere s at stop next
-    pub reads : read (take (stop - at) (drop at s)) ≡ some a
-
-  pub from-was : (a : A) (next : ℕ) → read_from read s at ≡ some (a, next) → ReadHere a next
-  from-was a next e = go (line_at s at) refl
-    where
-      go : (o : Option (ℕ × ℕ)) → line_at s at ≡ o → ReadHere a next
-      go none q = absurd (none-ne-some (a, next) (sym (from-open q) ∙ e))
-      go (some (stop, after)) q =
-          let (b, r, p) = map_some (followed_by after) (read (take (stop - at) (drop at s))) (a, next) (sym (from-line stop after q) ∙ e) in
-          let v : b ≡ a = ap (λ (x : A × ℕ). x.0) p in
-          let n : after ≡ next = ap (λ (x : A × ℕ). x.1) p in
-          record { stop = stop; here = rw (← n) (line_here s at stop after q); reads = r ∙ ap some v }
-
--- what is open from an offset on is open after the line that was read there, and the offset after
--- it is within the text
-from_rest : {A : Type 0} (read : Bytes → Option A) (s : Bytes) (at : ℕ) (a : A) (next : ℕ) → read_from read s at ≡ some (a, next)
-    → (open_rest (drop at s) ≡ open_rest (drop next s)) × (next ≤ length s)
-from_rest read s at a next e = let h = (from-was read s at a next e).here in (h.rest, omega (arith, h.within, h.next_is))
+use Rattle.inputs.specs.TextLine.{read_from}
+use Rattle.inputs.specs.ResponseHeader.{read_kt, read_finding}
+use Rattle.inputs.proofs.TextLineLaws.{followed_by, lines_from, first, from_first, from_rest}
 
 -- ---- the lines before the sections
 

@@ -6,29 +6,32 @@ use mathlib.Core.List.{List, [], ◌∷◌}
 use mathlib.Core.Option.{Option, none, some, bind, map}
 use Prim.Native.Nat.{ℕ, ◌-◌, ◌≤◌, ◌<◌}
 use native.Mathlib.Omega.{arith}
-use lib.Dec.{ltb}
+use lib.Dec.{leb, ltb}
 use lib.ListN.{length}
 use Rattle.lists.specs.Choice.{provided, is_some, or_else}
 use Rattle.lists.specs.Lists.{Bytes}
 use Rattle.lists.proofs.ChoiceLaws.{none_given, given_or_else, bind_some, given_provided, given_bind}
 use Rattle.lines.specs.Number.{ascii, read_number}
 use Rattle.lines.specs.Hex.{decoded_length}
-use Rattle.lines.specs.Field.{Field, number, bytes, read_field, read_fields}
+use Rattle.lines.specs.Field.{Field, number, bytes, exactly, up_to, read_field, read_fields}
 use Rattle.lines.specs.Line.{Read, read_line}
 use Rattle.lines.specs.Cursor.{field_at, fields_from, read_at, word_at}
 use Rattle.lines.specs.Readings.{part_of}
+use Rattle.std.specs.Prelude.{MatchOption, Some, None, Option as CodeOption}
+use Rattle.std.specs.Bool.{then_some}
 use Rattle.lines.specs.declared.part.Part.{Part}
 use Rattle.lines.proofs.FormLaws.{word_form, word_on, word-off, line_on, line-off, field-on, field_off}
 use Rattle.lines.proofs.FormLaws.{field-given, with_rest, here-read, read-form, words-over, read-ended}
 use Rattle.lines.proofs.FormLaws.{read-number-on, bytes_fit, bytes-unfit}
 use Rattle.lines.proofs.NumberLaws.{decimal_read}
 use Rattle.rules.specs.Response.{Kind, search}
+use Rattle.rules.specs.Limits.{number_bound, version_bound, opening_length, value_limit}
+use Rattle.rules.specs.ResponseText.{version_field, head_form, target_form}
 use Rattle.rules.specs.ResponseText.{kind_word, kt_form, read_kind_line}
 use Rattle.rules.specs.ResponseText.{step_form, entry_form, in_form, no_form, nl_form, node_form, read_step}
 use Rattle.rules.specs.ResponseText.{read_entry_line, read_in, read_no, read_nl, read_node}
-use Rattle.inputs.specs.ResponseLines.{number_after, decoded, last_bytes_of, Decodes, StandsIn}
-use Rattle.inputs.specs.declared.response_lines.LastBytes.{LastBytes}
-use Rattle.inputs.specs.declared.response_lines.LastBytes.TheVariants.{Read as Last, Unread as NoLast}
+use Rattle.inputs.specs.ResponseLines.{number_after, decoded, head_of, last_bytes_of, last_parts_of, Decodes}
+use Rattle.inputs.specs.ResponseLines.{StandsIn}
 
 -- ---- forms, parts and kinds
 
@@ -67,9 +70,27 @@ module _ (l : Bytes) where
         let (at, p, q) = bind_some (word_at w l 0) (read_at (read_number bound) l) (v, next) e in
         ap is_some (line_on l w (number bound ∷ fs) at p) ∙ field-given l (number bound) fs at v next (read-number-on l bound at ∙ q)
 
+  -- a `head` line is its word and a number
+  pub head-alone : (v next : ℕ) → number_after (ascii "head") number_bound l ≡ some (v, next)
+      → read_line head_form l ≡ head_of (then_some (ltb (length l) next) v)
+  unfolding bind provided
+  head-alone v next e = number-on (ascii "head") number_bound [] v next e ∙ ap (with_rest (number number_bound) [] v) (read-ended l next) ∙ go (ltb (length l) next)
+    where
+      go : (t : Bool) → with_rest (number number_bound) [] v (provided t tt) ≡ head_of (then_some t v)
+      go true = refl
+      go false = refl
+
+  -- a `target` line is its word, a version and two parts
+  pub target-parts : (v next : ℕ) → number_after (ascii "target") version_bound l ≡ some (v, next)
+      → (r : CodeOption (Part × Part)) → last_parts_of l r ≡ read_fields (exactly opening_length ∷ up_to value_limit ∷ []) (fields_from l next)
+      → read_line target_form l ≡ with_rest version_field (exactly opening_length ∷ up_to value_limit ∷ []) v (last_parts_of l r)
+  target-parts v next e r h =
+      let rest = exactly opening_length ∷ up_to value_limit ∷ [] in
+      number-on (ascii "target") version_bound rest v next e ∙ ap (with_rest version_field rest v) (sym h)
+
   -- the number after a word is not above its bound
-  pub number_bound : (w : Bytes) (bound v next : ℕ) → number_after w bound l ≡ some (v, next) → v ≤ bound
-  number_bound w bound v next e =
+  pub number-below : (w : Bytes) (bound v next : ℕ) → number_after w bound l ≡ some (v, next) → v ≤ bound
+  number-below w bound v next e =
       let (at, p, q) = bind_some (word_at w l 0) (read_at (read_number bound) l) (v, next) e in
       (decimal_read bound (field_at l at) v (here-read l (read_number bound) at v next q).1).1
 
@@ -116,13 +137,31 @@ module _ (l : Bytes) where
 
   -- ---- the last field
 
-  module _ (fits : ℕ → Bool) (at : ℕ) (r : LastBytes) (e : (fits : ℕ → Bool) → last_bytes_of l fits r ≡ read_fields (bytes fits ∷ []) (fields_from l at)) where
+  -- two byte strings are the last where the first is read, and then the last
+  pub first-part : (at wanted : ℕ) (b : Bytes) (next : ℕ) → read_at (read_field (exactly wanted)) l at ≡ some (b, next)
+      → (r : CodeOption (ℕ × Part)) (longest : ℕ)
+      → ((fits : ℕ → Bool) → last_bytes_of l fits r ≡ read_fields (bytes fits ∷ []) (fields_from l next))
+      → read_fields (exactly wanted ∷ up_to longest ∷ []) (fields_from l at)
+      ≡ with_rest (exactly wanted) (up_to longest ∷ []) b (last_bytes_of l (λ (n : ℕ). leb n longest) r)
+  first-part at wanted b next e r longest h =
+      field-on l (exactly wanted) (up_to longest ∷ []) at b next e ∙ ap (with_rest (exactly wanted) (up_to longest ∷ []) b) (sym (h (λ (n : ℕ). leb n longest)))
+
+  module _ (fits : ℕ → Bool) (at : ℕ) (r : CodeOption (ℕ × Part)) (e : (fits : ℕ → Bool) → last_bytes_of l fits r ≡ read_fields (bytes fits ∷ []) (fields_from l at)) where
     -- a last byte string is given if its length fits
-    pub last-given : (n : ℕ) (p : Part) → r ≡ Last n p → is_some (read_fields (bytes fits ∷ []) (fields_from l at)) ≡ fits n
-    last-given n p i = ap is_some (sym (e fits)) ∙ ap (λ (x : LastBytes). is_some (last_bytes_of l fits x)) i ∙ given_provided (fits n) (decoded (part_of l p), tt)
+    pub last-given : (n : ℕ) (p : Part) → r ≡ Some (n, p) → is_some (read_fields (bytes fits ∷ []) (fields_from l at)) ≡ fits n
+    last-given n p i = ap is_some (sym (e fits)) ∙ ap (λ (x : CodeOption (ℕ × Part)). is_some (last_bytes_of l fits x)) i ∙ given_provided (fits n) (decoded (part_of l p), tt)
+
+    -- so it is where a judgement of it says so
+    pub last-judged : (b : Bool) (P : ℕ × Part → Type 0) → MatchOption r (b ≡ false) P → ((n : ℕ) (p : Part) → P (n, p) → b ≡ fits n)
+        → b ≡ is_some (read_fields (bytes fits ∷ []) (fields_from l at))
+    last-judged b P m h = go r refl m
+      where
+        go : (o : CodeOption (ℕ × Part)) → r ≡ o → MatchOption o (b ≡ false) P → b ≡ is_some (read_fields (bytes fits ∷ []) (fields_from l at))
+        go None i q = q ∙ sym (none_given (read_fields (bytes fits ∷ []) (fields_from l at)) (sym (e fits) ∙ ap (last_bytes_of l fits) i))
+        go (Some (n, p)) i q = h n p q ∙ sym (last-given n p i)
 
     -- none is given where there is none
-    pub last-missing : r ≡ NoLast → is_some (read_fields (bytes fits ∷ []) (fields_from l at)) ≡ false
+    pub last-missing : r ≡ None → is_some (read_fields (bytes fits ∷ []) (fields_from l at)) ≡ false
     last-missing i = none_given (read_fields (bytes fits ∷ []) (fields_from l at)) (sym (e fits) ∙ ap (last_bytes_of l fits) i)
 
   -- ---- a first line

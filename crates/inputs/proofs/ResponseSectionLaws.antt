@@ -9,6 +9,7 @@ use native.Mathlib.Omega.{arith}
 use lib.Dec.{ltb}
 use lib.ListN.{length, length-append, take, drop}
 use borrow.Author.Tests.{lt-ltb}
+use Rattle.std.specs.Bool.{then_some}
 use Rattle.lists.specs.Choice.{is_some, or_else}
 use Rattle.lists.specs.Lists.{Bytes}
 use Rattle.lists.proofs.ChoiceLaws.{map_some, given_some, given_none}
@@ -24,23 +25,19 @@ use Rattle.rules.specs.ResponseText.{entry_form, Item, entry_item, lookup_item, 
 use Rattle.rules.specs.ResponseText.{read_entry_line, read_item, grouped}
 use Rattle.inputs.specs.declared.response.Sort.{Sort}
 use Rattle.inputs.specs.declared.response.Sort.TheVariants.{Steps, Entries, Nodes, Ends}
-use Rattle.inputs.specs.declared.response.Role.{Role}
-use Rattle.inputs.specs.declared.response.RoleFrom.{RoleFrom}
-use Rattle.inputs.specs.ResponseHeader.{read_from}
+use Rattle.inputs.specs.declared.response.Role.TheVariants.{Begins, Continues}
+use Rattle.inputs.specs.TextLine.{read_from}
 use Rattle.inputs.specs.Response.{loose_in}
-use Rattle.inputs.specs.ResponseSections.{Element, read_element, begins_element, read_role, role_of}
-use Rattle.inputs.specs.ResponseSections.{role_from_of, count_of, SectionOf}
-use Rattle.inputs.proofs.ResponseLaws.{followed_by, from-line, from_some, ReadHere, from-was}
+use Rattle.inputs.specs.ResponseSections.{Element, read_element, begins_element, read_role, role_of, count_of, SectionOf}
+use Rattle.inputs.proofs.TextLineLaws.{from_some, ReadHere, from-was}
 
 -- ---- one line
 
--- a line that reads begins something, where every such line does
-pub line_begins : {A : Type 0} (o : Option A) → is_some o ≡ true → map (λ _. true) o ≡ some true
-line_begins o e = let (a, q) = given_some o e in rw q refl
-
--- a line that does not read stands outside
-pub line_outside : {A B : Type 0} (f : A → B) (o : Option A) → is_some o ≡ false → map f o ≡ none
-line_outside f o e = rw (given_none o e) refl
+-- a line begins something where it reads, if every such line does
+pub line-begins : {A : Type 0} (t : Bool) (o : Option A) → t ≡ is_some o → role_of (then_some t Begins) ≡ map (λ _. true) o
+unfolding is_some
+line-begins t none e = rw e refl
+line-begins t (some a) e = rw e refl
 
 -- an entry line as an item
 abbrev entry : ReadForm entry_form → Option Item
@@ -62,28 +59,18 @@ module _ (l : Bytes) where
       go (some x) e = refl
 
   module _ (n : is_some (read_entry_line l) ≡ false) where
-    -- a lookup line continues one
-    pub lookup-continues : is_some (read_lookup l) ≡ true → read_role Entries l ≡ some false
-    unfolding read_item or_else
-    lookup-continues e = let (x, q) = given_some (read_lookup l) e in rw (given_none (read_entry_line l) n, q) refl
-
-    -- every other line is neither
-    pub other-outside : is_some (read_lookup l) ≡ false → read_role Entries l ≡ none
-    unfolding read_item or_else
-    other-outside e = rw (given_none (read_entry_line l) n, given_none (read_lookup l) e) refl
+    -- a lookup line continues one, and every other line is neither
+    pub line-continues : (t : Bool) → t ≡ is_some (read_lookup l) → role_of (then_some t Continues) ≡ read_role Entries l
+    unfolding read_item or_else is_some
+    line-continues t e = rw (given_none (read_entry_line l) n) (go (read_lookup l) e)
+      where
+        go : (o : Option Lookup) → t ≡ is_some o → role_of (then_some t Continues) ≡ map (begins_element Entries) (map lookup_item o)
+        go none e = rw e refl
+        go (some x) e = rw e refl
 
 -- ---- the line at an offset
 
--- a role that was told, with the offset after the line
-pub role_told : (r : RoleFrom) (k : Role) → r.role ≡ k → role_from_of r ≡ map (followed_by r.next) (role_of k)
-role_told r k e = ap (λ (i : Role). map (followed_by r.next) (role_of i)) e
-
 module _ (sort : Sort) (s : Bytes) (at : ℕ) where
-  -- the role of the line there
-  pub role-line : (stop next : ℕ) (k : Role) → line_at s at ≡ some (stop, next) → role_of k ≡ read_role sort (take (stop - at) (drop at s))
-      → map (followed_by next) (role_of k) ≡ read_from (read_role sort) s at
-  role-line stop next k e q = ap (map (followed_by next)) q ∙ sym (from-line (read_role sort) s at stop next e)
-
   -- a role is that of a line that reads
   role-was : (b : Bool) (next : ℕ) → read_from (read_role sort) s at ≡ some (b, next)
       → (x : Element sort) × ReadHere (read_element sort) s at x next × (begins_element sort x ≡ b)

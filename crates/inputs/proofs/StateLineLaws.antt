@@ -1,9 +1,9 @@
 -- Laws of the single lines of a state's text, read field by field (specs/StateReader.antt): one law
 -- for each way in which a reading ends.
-use mathlib.Core.Path.{◌≡◌, refl, ◌∙◌, ap}
+use mathlib.Core.Path.{◌≡◌, refl, sym, ◌∙◌, ap}
 use mathlib.Core.Bool.{true}
 use mathlib.Core.List.{List, [], ◌∷◌}
-use mathlib.Core.Option.{Option, none, some, bind}
+use mathlib.Core.Option.{Option, none, some, bind, map, some-injective, none-ne-some}
 use Prim.Native.Nat.{ℕ, ◌-◌, ◌≤◌, ◌<◌}
 use native.Mathlib.Omega.{arith}
 use lib.Dec.{leb}
@@ -17,7 +17,6 @@ use Rattle.lines.specs.Hex.{read_hex, decoded_length}
 use Rattle.lines.specs.Field.{Field, number, exactly, up_to, Value, Values, read_field, read_fields}
 use Rattle.lines.specs.Line.{read_line}
 use Rattle.lines.specs.Cursor.{field_at, fields_from, read_at, word_at}
-use Rattle.lines.specs.Readings.{as_digest, digest_in}
 use Rattle.lines.specs.Writing.{put_any}
 use Rattle.lines.proofs.NumberLaws.{decimal_read}
 use Rattle.lines.proofs.CursorLaws.{read-beyond, read_some}
@@ -25,8 +24,9 @@ use Rattle.lines.proofs.FormLaws.{with_rest, here-read, read-not, read-ended, re
 use Rattle.lines.proofs.FormLaws.{bytes-unfit, bytes-none, line_on, line-off, field-on, field_off}
 use Rattle.rules.specs.Limits.{label_limit, hash_length, number_bound, version_bound}
 use Rattle.rules.specs.StateText.{size_form, keep_form, pair_form, read_keep, read_pair}
+use Rattle.inputs.specs.declared.state.Label.{Label}
 use Rattle.inputs.specs.State.{label_block}
-use Rattle.inputs.specs.StateReader.{labelled, as_size}
+use Rattle.inputs.specs.StateReader.{label_read, size_read}
 use Rattle.inputs.proofs.FrontLaws.{put_first}
 
 -- ---- the last field
@@ -65,10 +65,10 @@ module _ (f : Field) (l : Bytes) (at : ℕ) (h : at ≤ length l) where
 -- ---- the `size` line
 
 -- its fields from the time on, and from the label on
-abbrev time_fields : List Field
+abbrev pub time_fields : List Field
 time_fields = number number_bound ∷ up_to label_limit ∷ []
 
-abbrev label_fields : List Field
+abbrev pub label_fields : List Field
 label_fields = up_to label_limit ∷ []
 
 module _ (l : Bytes) where
@@ -95,43 +95,47 @@ module _ (l : Bytes) where
 
       -- what it says is said once the label is read where the time ends
       pub size-labelled : (t d : ℕ) → read_at (read_number number_bound) l b ≡ some (t, d)
-          → as_size (read_line size_form l) ≡ labelled m t (read_fields label_fields (fields_from l d))
-      unfolding bind as_size labelled
-      size-labelled t d e =
-          rw (size-then, field-on l (number number_bound) label_fields b t d (read-number-on l number_bound b ∙ e))
-          (go (read_fields label_fields (fields_from l d)))
-        where
-          go : (o : Option (Values label_fields))
-              → as_size (with_rest (number number_bound) time_fields m (with_rest (number number_bound) label_fields t o)) ≡ labelled m t o
-          go none = refl
-          go (some vs) = refl
+          → read_line size_form l ≡ with_rest (number number_bound) time_fields m (with_rest (number number_bound) label_fields t (read_fields label_fields (fields_from l d)))
+      unfolding bind
+      size-labelled t d e = rw (size-then, field-on l (number number_bound) label_fields b t d (read-number-on l number_bound b ∙ e)) refl
+
+-- where no label is read, the line says nothing
+pub size-unlabelled : (m t : ℕ) (o : Option (Values label_fields)) → none ≡ map label_read o
+    → none ≡ map size_read (with_rest (number number_bound) time_fields m (with_rest (number number_bound) label_fields t o))
+unfolding bind
+size-unlabelled m t none e = refl
+size-unlabelled m t (some vs) e = absurd (none-ne-some (label_read vs) e)
+
+-- where one is, it is said with the size and the time
+pub size-whole : (m t : ℕ) (o : Option (Values label_fields)) (x : Label) → some x ≡ map label_read o
+    → some (record { size = m; timestamp = t; label = x })
+    ≡ map size_read (with_rest (number number_bound) time_fields m (with_rest (number number_bound) label_fields t o))
+unfolding bind
+size-whole m t none x e = absurd (none-ne-some x (sym e))
+size-whole m t (some vs) x e = ap (λ (y : Label). some (record { size = m; timestamp = t; label = y })) (some-injective x (label_read vs) e)
 
 -- ---- its label
 
-module _ (l : Bytes) (at m t : ℕ) where
-  -- where the field encodes nothing, nothing is said
-  pub label-none : read_at decoded_length l at ≡ none → as_size none ≡ labelled m t (read_fields label_fields (fields_from l at))
-  unfolding as_size labelled
-  label-none e = rw (field_off l (up_to label_limit) [] at (bytes-none l (λ (n : ℕ). leb n label_limit) at e)) refl
+module _ (l : Bytes) (at : ℕ) where
+  -- where the field encodes nothing, there is none
+  pub label-none : read_at decoded_length l at ≡ none → read_fields label_fields (fields_from l at) ≡ none
+  label-none e = field_off l (up_to label_limit) [] at (bytes-none l (λ (n : ℕ). leb n label_limit) at e)
 
   module _ (n next : ℕ) (e : read_at decoded_length l at ≡ some (n, next)) where
     -- nor where the label is too long
-    pub label-long : label_limit < n → as_size none ≡ labelled m t (read_fields label_fields (fields_from l at))
-    unfolding as_size labelled
-    label-long h =
-        rw (field_off l (up_to label_limit) [] at (bytes-unfit l (λ (k : ℕ). leb k label_limit) at n next e (lt-leb n label_limit h))) refl
+    pub label-long : label_limit < n → read_fields label_fields (fields_from l at) ≡ none
+    label-long h = field_off l (up_to label_limit) [] at (bytes-unfit l (λ (k : ℕ). leb k label_limit) at n next e (lt-leb n label_limit h))
 
     -- nor where another field follows
-    pub label-more : n ≤ label_limit → next ≤ length l → as_size none ≡ labelled m t (read_fields label_fields (fields_from l at))
-    unfolding as_size labelled
+    pub label-more : n ≤ label_limit → next ≤ length l → read_fields label_fields (fields_from l at) ≡ none
     label-more h w =
         let (b, r, k, f) = bytes_fit l (λ (k : ℕ). leb k label_limit) at n next e (le-leb n label_limit h) in
-        rw (last_more l at (up_to label_limit) b next f w) refl
+        last_more l at (up_to label_limit) b next f w
 
     -- else the label is what the field encodes, with zeros after it
     pub label-read : (s d : Bytes) → n ≤ label_limit → length l < next → s ≡ field_at l at → d ≡ put_any (replicate label_limit 0) 0 (read_hex s)
-        → record { found = true; size = m; timestamp = t; label = record { bytes = d; length = n } } ≡ labelled m t (read_fields label_fields (fields_from l at))
-    unfolding labelled label_block
+        → some (record { bytes = d; length = n }) ≡ map label_read (read_fields label_fields (fields_from l at))
+    unfolding label_block
     label-read s d h w es ed =
         let (b, r, k, f) = bytes_fit l (λ (k : ℕ). leb k label_limit) at n next e (le-leb n label_limit h) in
         let p : d ≡ padded label_limit b = ed ∙ put_first label_limit (read_hex s) b (ap read_hex es ∙ r) (omega arith) in
@@ -161,12 +165,11 @@ module _ (l : Bytes) where
     keep-more s e h w = rw (keep-form ∙ ends-not (exactly hash_length) l a h (rw (← e) w)) refl
 
     -- else its value is what the field encodes
-    pub keep-read : (s : Bytes) → s ≡ field_at l a → a ≤ length l → length l - a ≤ length s → digest_in s ≡ as_digest (read_keep l)
-    unfolding read_keep bind digest_in
-    keep-read s e h w =
-        rw (keep-form ∙ ends-line (exactly hash_length) l a h (rw (← e) w), ← e) (go (read_field (exactly hash_length) s))
+    pub keep-read : (s : Bytes) → s ≡ field_at l a → a ≤ length l → length l - a ≤ length s → read_field (exactly hash_length) s ≡ read_keep l
+    unfolding read_keep bind
+    keep-read s e h w = rw (keep-form ∙ ends-line (exactly hash_length) l a h (rw (← e) w), ← e) (go (read_field (exactly hash_length) s))
       where
-        go : (o : Option Bytes) → as_digest o ≡ as_digest (bind (bind o (λ (v : Bytes). some (v, tt))) (λ (x : Bytes × Unit {0}). some x.0))
+        go : (o : Option Bytes) → o ≡ bind (bind o (λ (v : Bytes). some (v, tt))) (λ (x : Bytes × Unit {0}). some x.0)
         go none = refl
         go (some v) = refl
 

@@ -3,22 +3,22 @@
 use mathlib.Core.Path.{◌≡◌, refl, sym, ◌∙◌, ap}
 use mathlib.Core.Bool.{Bool, true, false, false≢true}
 use mathlib.Core.List.{List, [], ◌∷◌, flatten, Memᴰ}
-use mathlib.Core.Option.{Option, none, some, Option-elim, bind}
+use mathlib.Core.Option.{Option, none, some, Option-elim, bind, map, some-injective, none-ne-some}
 use Prim.Native.Nat.{ℕ, ◌-◌, ◌≤◌, ◌<◌}
 use native.Mathlib.Omega.{arith}
 use lib.Dec.{eqb, leb}
 use lib.Count.{ones}
 use lib.ListN.{length, take, drop, length-map}
 use borrow.Author.Tests.{le-leb, lt-leb}
-use Rattle.lists.specs.Choice.{provided, ◌>>◌, is_some}
+use Rattle.std.specs.Bool.{then_some}
+use Rattle.lists.specs.Choice.{provided, ◌>>◌, is_some, option_of}
 use Rattle.lists.specs.Lists.{Bytes, same}
 use Rattle.lists.proofs.ChoiceLaws.{provided_then, test_then, test_none, choose_true, choose_false}
 use Rattle.lists.proofs.ListLaws.{none_left, same_true}
 use Rattle.hash.specs.Bytes.{padded}
 use Rattle.lines.specs.Line.{Read, ended_lines, open_rest, read_lines, read_line, leading}
-use Rattle.lines.specs.Cursor.{line_at}
 use Rattle.lines.proofs.LineLaws.{leading-each}
-use Rattle.lines.proofs.SectionLaws.{LineHere, line_none, line_end, line_more}
+use Rattle.lines.proofs.SectionLaws.{line_end, line_more}
 use Rattle.tree.specs.LogHead.{level_limit}
 use Rattle.rules.specs.Limits.{label_limit, hash_length, map_limit, values_block_length, state_text_limit}
 use Rattle.rules.specs.State.{MapEntry, State, positions, versions, is_valid, empty_state, NumberedState}
@@ -33,9 +33,11 @@ use Rattle.inputs.specs.declared.state_reader.SizeLine.{SizeLine}
 use Rattle.inputs.specs.declared.state_reader.Keeps.{Keeps}
 use Rattle.inputs.specs.declared.state_reader.Pairs.{Pairs}
 use Rattle.inputs.specs.State.{log_block, map_block, block_of, room_is_zero, state_of, numbered_block}
-use Rattle.inputs.specs.StateReader.{labelled, as_size, KeepsFrom, PairsFrom, ReadAs, gathered, if_valid}
+use Rattle.inputs.specs.TextLine.{read_from}
+use Rattle.inputs.specs.StateReader.{size_read, KeepsFrom, PairsFrom, ReadAs, gathered, if_valid}
 use Rattle.inputs.specs.StateReader.{read_after_size, refused_by, or_refused}
 use Rattle.inputs.proofs.StateBlockLaws.{block_contents, block_stands}
+use Rattle.inputs.proofs.TextLineLaws.{followed_by, lines_from, first, from_first, from-was}
 use Rattle.inputs.proofs.FrontLaws.{front-whole}
 use Rattle.inputs.proofs.StateRunLaws.{keep_length}
 
@@ -62,17 +64,12 @@ block_test st f = go (is_valid st) refl
 
 -- ---- what was read, as a state
 
--- where no state was read, it is refused
-pub none_refused : (o : Option State) → o ≡ none → refused_by 3 ≡ or_refused o
-unfolding or_refused Option-elim
-none_refused o e = rw e refl
-
--- a state that is not valid is refused
-refused_not : (st : State) → (is_valid st ≡ true → ⊥) → refused_by 3 ≡ or_refused (if_valid st)
-unfolding or_refused if_valid ◌>>◌ Option-elim
-refused_not st h = go (is_valid st) h
+-- a state that is not valid gives none
+not_valid : (st : State) → (is_valid st ≡ true → ⊥) → none ≡ map block_of (if_valid st)
+unfolding if_valid ◌>>◌
+not_valid st h = go (is_valid st) h
   where
-    go : (t : Bool) → (t ≡ true → ⊥) → refused_by 3 ≡ Option-elim (t >> some st) (refused_by 3) (λ (x : State). record { number = 0; state = x })
+    go : (t : Bool) → (t ≡ true → ⊥) → none ≡ map block_of (t >> some st)
     go true h = absurd (h refl)
     go false h = refl
 
@@ -86,17 +83,17 @@ block_read first keeps pairs =
     }
 
 module _ (first : SizeLine) (keeps : Keeps) (pairs : Pairs) (st : State) (g : ReadAs first keeps pairs st) where
-  -- with another number of values than the size tells it is refused
-  pub refused-count : (keeps.count ≡ ones first.size → ⊥) → refused_by 3 ≡ or_refused (if_valid st)
-  refused-count h = refused_not st (λ e. h (g.value_count ∙ (valid_was st e).values_count ∙ full_length st.log.size ∙ ap ones (sym g.size)))
+  -- with another number of values than the size tells it is not valid
+  pub invalid-count : (keeps.count ≡ ones first.size → ⊥) → none ≡ map block_of (if_valid st)
+  invalid-count h = not_valid st (λ e. h (g.value_count ∙ (valid_was st e).values_count ∙ full_length st.log.size ∙ ap ones (sym g.size)))
 
-  -- with too many values too
-  pub refused-values : level_limit < keeps.count → refused_by 3 ≡ or_refused (if_valid st)
-  refused-values h = refused_not st (λ e. let n = g.value_count in let w = values_few st (valid_was st e) in omega arith)
+  -- with too many values neither
+  pub invalid-values : level_limit < keeps.count → none ≡ map block_of (if_valid st)
+  invalid-values h = not_valid st (λ e. let n = g.value_count in let w = values_few st (valid_was st e) in omega arith)
 
-  -- and with too many pairs
-  pub refused-pairs : map_limit < pairs.map.count → refused_by 3 ≡ or_refused (if_valid st)
-  refused-pairs h = refused_not st (λ e. let n = g.pair_count in let w = (valid_was st e).map_fits in omega arith)
+  -- nor with too many pairs
+  pub invalid-pairs : map_limit < pairs.map.count → none ≡ map block_of (if_valid st)
+  invalid-pairs h = not_valid st (λ e. let n = g.pair_count in let w = (valid_was st e).map_fits in omega arith)
 
   module _ (count : keeps.count ≡ ones first.size) (few : keeps.count ≤ level_limit) (room : pairs.map.count ≤ map_limit) where
     -- else what was read fills the struct of the state
@@ -117,15 +114,15 @@ module _ (first : SizeLine) (keeps : Keeps) (pairs : Pairs) (st : State) (g : Re
     valid-read : is_some (valid_state (state_of (block_read first keeps pairs))) ≡ is_valid st
     valid-read = rw block-read (block_test st (record { value_count = sym g.value_count ∙ count ∙ ap ones g.size; value_length = g.value_length }))
 
-    -- then it is the state that was read
-    pub accepted : is_some (valid_state (state_of (block_read first keeps pairs))) ≡ true
-        → record { number = 0; state = block_read first keeps pairs } ≡ numbered_block (or_refused (if_valid st))
-    unfolding numbered_block or_refused if_valid ◌>>◌ Option-elim
-    accepted e = rw (sym valid-read ∙ e, block-read) refl
-
-    -- and is refused where it is not
-    pub refused-invalid : is_some (valid_state (state_of (block_read first keeps pairs))) ≡ false → refused_by 3 ≡ or_refused (if_valid st)
-    refused-invalid e = refused_not st (λ v. false≢true (sym e ∙ valid-read ∙ v))
+    -- where it is, it is the state that was read
+    pub state-tested : (t : Bool) → t ≡ is_some (valid_state (state_of (block_read first keeps pairs)))
+        → option_of (then_some t (block_read first keeps pairs)) ≡ map block_of (if_valid st)
+    unfolding if_valid ◌>>◌
+    state-tested t e = rw (e ∙ valid-read, block-read) (go (is_valid st))
+      where
+        go : (v : Bool) → option_of (then_some v (block_of st)) ≡ map block_of (v >> some st)
+        go true = refl
+        go false = refl
 
 -- ---- the text after the `size` line
 
@@ -155,13 +152,12 @@ module _ (s : Bytes) (from : ℕ) (keeps : Keeps) (pairs : Pairs) (k : KeepsFrom
   after-all h = let (e, o) = line_end s pairs.next h in after-pairs ∙ rw (e, o) refl
 
   -- which stands for a state
-  pub after_read : (first : SizeLine) → first ≡ as_size (some x) → ReadAs first keeps pairs (gathered x k.taken p.taken)
-  unfolding as_size labelled
+  pub after_read : (first : SizeLine) → size_read x ≡ first → ReadAs first keeps pairs (gathered x k.taken p.taken)
   after_read first e =
       record {
-        label = ap (λ (f : SizeLine). f.label) e;
-        size = ap (λ (f : SizeLine). f.size) e;
-        timestamp = ap (λ (f : SizeLine). f.timestamp) e;
+        label = ap (λ (f : SizeLine). f.label) (sym e);
+        size = ap (λ (f : SizeLine). f.size) (sym e);
+        timestamp = ap (λ (f : SizeLine). f.timestamp) (sym e);
         value_count = k.counted;
         values = k.stored;
         value_length = λ v m. leading-each read_keep (λ (w : Bytes). length w ≡ hash_length) keep_length (ended_lines (drop from s)) v (rw k.lines m);
@@ -171,11 +167,6 @@ module _ (s : Bytes) (from : ℕ) (keeps : Keeps) (pairs : Pairs) (k : KeepsFrom
       }
 
 -- ---- the text
-
--- the state to begin with, for the empty label
-pub new_empty : (numbered_block (new_state [])).state ≡ block_of (empty_state [])
-unfolding numbered_block new_state
-new_empty = ap (λ (n : NumberedState). block_of n.state) (choose_true (leb 0 label_limit) _ _ (le-leb 0 label_limit (omega arith)))
 
 -- one that is too long is refused
 pub text_long : (s : Bytes) → state_text_limit < length s → refused_by 1 ≡ read_state_text s
@@ -187,31 +178,27 @@ pub text_read : (s : Bytes) → length s ≤ state_text_limit → read_state_tex
 unfolding read_state_text or_refused
 text_read s h = choose_true (leb (length s) state_text_limit) _ _ (le-leb _ _ h)
 
--- without a line there is no state
-pub text_no_line : (s : Bytes) → line_at s 0 ≡ none → read_state s ≡ none
-unfolding read_state read_lines read_state_lines bind provided
-text_no_line s e = rw (line_none s 0 e).0 (go (same (open_rest s) []))
+-- a state that was read is given
+pub state_given : (o : Option State) (b : StateBlock) → some b ≡ map block_of o → record { number = 0; state = b } ≡ numbered_block (or_refused o)
+unfolding numbered_block or_refused Option-elim
+state_given none b e = absurd (none-ne-some b (sym e))
+state_given (some st) b e = rw (some-injective b (block_of st) e) refl
+
+-- where none was read, it is refused
+pub state_missing : (o : Option State) → none ≡ map block_of o → numbered_block (refused_by 3) ≡ numbered_block (or_refused o)
+unfolding or_refused Option-elim
+state_missing none e = refl
+state_missing (some st) e = absurd (none-ne-some (block_of st) e)
+
+-- lines of which the first is no `size` line say no state
+lines_not : (ls : List Bytes) → first (read_line size_form) ls ≡ none → read_state_lines ls ≡ none
+unfolding read_state_lines first bind
+lines_not [] e = refl
+lines_not (l ∷ ls) e = go (read_line size_form l) refl e
   where
-    go : (t : Bool) → bind (provided t []) (λ (ls : List Bytes). bind (read_state_lines ls) (λ (st : State). is_valid st >> some st)) ≡ none
-    go true = refl
-    go false = refl
-
--- where a size was found, a `size` line was read
-size_some : (o : Option (Read size_form)) → (as_size o).found ≡ true → (x : Read size_form) × (o ≡ some x)
-unfolding as_size labelled
-size_some none e = absurd (false≢true e)
-size_some (some x) e = (x, refl)
-
--- where none was found, none was read
-size_none : (o : Option (Read size_form)) → (as_size o).found ≡ false → o ≡ none
-unfolding as_size labelled
-size_none none e = refl
-size_none (some x) e = absurd (false≢true (sym e))
-
--- after a first line that is no `size` line there is none
-lines_not : (l : Bytes) (ls : List Bytes) → read_line size_form l ≡ none → read_state_lines (l ∷ ls) ≡ none
-unfolding read_state_lines bind
-lines_not l ls e = rw e refl
+    go : (o : Option (Read size_form)) → read_line size_form l ≡ o → map (followed_by ls) o ≡ none → read_state_lines (l ∷ ls) ≡ none
+    go none q i = rw q refl
+    go (some x) q i = absurd (none-ne-some (x, ls) (sym i))
 
 -- after one that is, the lines that follow are read
 lines_after : (l : Bytes) (ls : List Bytes) (x : Read size_form) → read_line size_form l ≡ some x
@@ -221,26 +208,25 @@ lines_after : (l : Bytes) (ls : List Bytes) (x : Read size_form) → read_line s
 unfolding read_state_lines bind
 lines_after l ls x e = rw e (test_then (eqb (length (leading read_pair (leading read_keep ls).1).1) 0) _ if_valid)
 
-module _ (s : Bytes) (stop next : ℕ) (h : LineHere s 0 stop next) where
-  -- a text is read as its first line and the others, if nothing stands after the last
-  text-lines : read_state s ≡ (same (open_rest (drop next s)) [] >> bind (read_state_lines (take (stop - 0) (drop 0 s) ∷ ended_lines (drop next s))) if_valid)
+module _ (s : Bytes) where
+  -- a text is read as its lines, if nothing stands after the last
+  text-lines : read_state s ≡ (same (open_rest s) [] >> bind (read_state_lines (ended_lines s)) if_valid)
   unfolding read_state read_lines if_valid
-  text-lines = provided_then (same (open_rest s) []) (ended_lines s) _ ∙ rw (h.lines, h.rest) refl
+  text-lines = provided_then (same (open_rest s) []) (ended_lines s) _
 
-  module _ (first : SizeLine) (e : first ≡ as_size (read_line size_form (take (stop - 0) (drop 0 s)))) where
-    -- a first line that says no size gives no state
-    pub text-no-size : first.found ≡ false → read_state s ≡ none
-    unfolding bind
-    text-no-size f =
-        let n = size_none (read_line size_form (take (stop - 0) (drop 0 s))) (sym (ap (λ (d : SizeLine). d.found) e) ∙ f) in
-        text-lines ∙ rw (lines_not (take (stop - 0) (drop 0 s)) (ended_lines (drop next s)) n) (test_none (same (open_rest (drop next s)) []))
+  -- without a `size` line at its start it says no state
+  pub text-none : read_from (read_line size_form) s 0 ≡ none → read_state s ≡ none
+  unfolding bind
+  text-none e =
+      let n = lines_not (ended_lines s) (from_first (read_line size_form) s 0 ∙ ap (map (lines_from s)) e) in
+      text-lines ∙ rw n (test_none (same (open_rest s) []))
 
-    -- one that does gives a state with the text after it
-    pub text-size : first.found ≡ true → (x : Read size_form) × (first ≡ as_size (some x)) × (read_state s ≡ read_after_size x (drop next s))
-    unfolding read_after_size read_lines
-    text-size f =
-        let l = take (stop - 0) (drop 0 s) in
-        let (x, r) = size_some (read_line size_form l) (sym (ap (λ (d : SizeLine). d.found) e) ∙ f) in
-        let t = same (open_rest (drop next s)) [] in
-        let a = lines_after l (ended_lines (drop next s)) x r in
-        (x, e ∙ ap as_size r, text-lines ∙ ap (λ (o : Option State). t >> o) a ∙ sym (provided_then t (ended_lines (drop next s)) _))
+  -- with one it says a state with the text after it
+  pub text-some : (x : Read size_form) (next : ℕ) → read_from (read_line size_form) s 0 ≡ some (x, next) → read_state s ≡ read_after_size x (drop next s)
+  unfolding read_after_size read_lines
+  text-some x next e =
+      let h = from-was (read_line size_form) s 0 x next e in
+      let l = take (h.stop - 0) (drop 0 s) in
+      let t = same (open_rest (drop next s)) [] in
+      let a = lines_after l (ended_lines (drop next s)) x h.reads in
+      text-lines ∙ rw (h.here.lines, h.here.rest) (ap (λ (o : Option State). t >> o) a ∙ sym (provided_then t (ended_lines (drop next s)) _))

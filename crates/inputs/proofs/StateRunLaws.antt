@@ -15,8 +15,6 @@ use Rattle.lists.specs.Lists.{Bytes}
 use Rattle.lists.proofs.ChoiceLaws.{bind_some}
 use Rattle.lines.specs.Line.{Read, ended_lines, open_rest, read_line, leading}
 use Rattle.lines.specs.Cursor.{line_at}
-use Rattle.lines.specs.declared.hex.Digest.{Digest}
-use Rattle.lines.specs.Readings.{as_digest}
 use Rattle.lines.specs.Writing.{put_at}
 use Rattle.lines.proofs.LineLaws.{line_read, leading_end, leading-none, leading-some}
 use Rattle.lines.proofs.SectionLaws.{LineHere, line_none, line_end}
@@ -24,7 +22,10 @@ use Rattle.tree.specs.LogHead.{level_limit}
 use Rattle.rules.specs.Limits.{hash_length, map_limit, values_block_length}
 use Rattle.rules.specs.State.{MapEntry, positions, versions}
 use Rattle.rules.specs.StateText.{keep_form, read_keep, read_pair}
-use Rattle.inputs.specs.StateReader.{front, KeepsFrom, PairsFrom}
+use Rattle.inputs.specs.declared.state.MonitoringMap.{MonitoringMap}
+use Rattle.inputs.specs.TextLine.{read_from}
+use Rattle.inputs.specs.StateReader.{front, with_pair, KeepsFrom, PairsFrom}
+use Rattle.inputs.proofs.TextLineLaws.{from-was, none-leads}
 use Rattle.inputs.proofs.FrontLaws.{front-nil, length_front, front-set, front-put}
 
 -- ---- leading lines
@@ -34,10 +35,6 @@ module _ {A : Type 0} (read : Bytes → Option A) (s : Bytes) where
   pub record Led (from at : ℕ) (xs : List A) : Type 0 where
     pub lines : leading read (ended_lines (drop from s)) ≡ (xs ++ (leading read (ended_lines (drop at s))).0, (leading read (ended_lines (drop at s))).1)
     pub rest : open_rest (drop from s) ≡ open_rest (drop at s)
-
-  -- at an offset none leads
-  abbrev pub NoneLeads : ℕ → Type 0
-  NoneLeads at = leading read (ended_lines (drop at s)) ≡ ([], ended_lines (drop at s))
 
   -- none stand from an offset to itself
   led-start : (from : ℕ) → Led from from []
@@ -53,39 +50,11 @@ module _ {A : Type 0} (read : Bytes → Option A) (s : Bytes) where
           rest = c.rest ∙ h.rest;
         }
 
-    -- one that is not read does not lead
-    pub none_other : read (take (stop - at) (drop at s)) ≡ none → NoneLeads at
-    none_other e = rw h.lines (leading-none read (take (stop - at) (drop at s)) (ended_lines (drop next s)) e)
-
-  -- without a line none leads
-  none-empty : (at : ℕ) → ended_lines (drop at s) ≡ [] → NoneLeads at
-  none-empty at e = rw e (leading_end read)
-
-  -- so where no newline follows
-  pub none_open : (at : ℕ) → line_at s at ≡ none → NoneLeads at
-  none_open at e = none-empty at (line_none s at e).0
-
-  -- and at the end
-  pub none_end : (at : ℕ) → length s ≤ at → NoneLeads at
-  none_end at h = none-empty at (line_end s at h).0
-
   -- where none leads, the lines before were all that lead
-  led-stop : (from at : ℕ) (xs : List A) → Led from at xs → NoneLeads at → leading read (ended_lines (drop from s)) ≡ (xs, ended_lines (drop at s))
-  led-stop from at xs c e = c.lines ∙ rw (e, append-nil xs) refl
+  led-stop : (from at : ℕ) (xs : List A) → Led from at xs → read_from read s at ≡ none → leading read (ended_lines (drop from s)) ≡ (xs, ended_lines (drop at s))
+  led-stop from at xs c e = c.lines ∙ rw (none-leads read s at e, append-nil xs) refl
 
 -- ---- the `keep` lines
-
--- where a value was found, it was read
-found_some : (o : Option Bytes) → (as_digest o).found ≡ true → o ≡ some (as_digest o).value
-unfolding as_digest
-found_some none e = absurd (false≢true e)
-found_some (some v) e = refl
-
--- where none was found, none was read
-found_none : (o : Option Bytes) → (as_digest o).found ≡ false → o ≡ none
-unfolding as_digest
-found_none none e = refl
-found_none (some v) e = absurd (false≢true (sym e))
 
 -- a value of a `keep` line has 32 bytes
 pub keep_length : (l v : Bytes) → read_keep l ≡ some v → length v ≡ hash_length
@@ -123,37 +92,29 @@ module _ (s : Bytes) (from : ℕ) where
     keeps-block = ap length k.stored ∙ length_front values_block_length (flatten k.taken)
 
     -- a line with a value is one more
-    pub keeps-next : (stop next : ℕ) (d : Digest) → LineHere s at stop next → d ≡ as_digest (read_keep (take (stop - at) (drop at s))) → d.found ≡ true
-        → KeepsTo s from next (count + 1) (put_at values (hash_length * count) d.value)
-    keeps-next stop next d h e f =
-        let l = take (stop - at) (drop at s) in
-        let r : read_keep l ≡ some d.value =
-        found_some (read_keep l) (sym (ap (λ (x : Digest). x.found) e) ∙ f) ∙ ap (λ (x : Digest). some x.value) (sym e) in
-        let n = keep_length l d.value r in
+    pub keeps-next : (v : Bytes) (next : ℕ) → read_from read_keep s at ≡ some (v, next)
+        → KeepsTo s from next (count + 1) (put_at values (hash_length * count) v)
+    keeps-next v next e =
+        let h = from-was read_keep s at v next e in
+        let n = keep_length (take (h.stop - at) (drop at s)) v h.reads in
         let c = k.counted in
         let j = k.joined in
         record {
-          taken = k.taken ++ d.value ∷ [];
-          led = led-next read_keep s at stop next h from k.taken d.value k.led r;
-          counted = omega (arith, length-append k.taken (d.value ∷ []));
-          joined = rw (flatten_snoc k.taken d.value) (omega (arith, length-append (flatten k.taken) d.value));
-          stored = rw (flatten_snoc k.taken d.value)
-              (front-put values_block_length (flatten k.taken) d.value values (hash_length * count) k.stored j (room (dec_lt count level_limit) n));
+          taken = k.taken ++ v ∷ [];
+          led = led-next read_keep s at h.stop next h.here from k.taken v k.led h.reads;
+          counted = omega (arith, length-append k.taken (v ∷ []));
+          joined = rw (flatten_snoc k.taken v) (omega (arith, length-append (flatten k.taken) v));
+          stored = rw (flatten_snoc k.taken v)
+              (front-put values_block_length (flatten k.taken) v values (hash_length * count) k.stored j (room v n (dec_lt count level_limit)));
         }
       where
-        room : Dec (count < level_limit) → length d.value ≡ hash_length
-            → (hash_length * count + length d.value ≤ values_block_length) ⊎ ((values_block_length ≤ hash_length * count) × (0 < length d.value))
-        room (yes h) n = inl (omega arith)
-        room (no h) n = inr (omega arith, omega arith)
-
-    -- a line without one does not lead
-    pub keeps-other : (stop next : ℕ) (d : Digest) → LineHere s at stop next → d ≡ as_digest (read_keep (take (stop - at) (drop at s))) → d.found ≡ false
-        → NoneLeads read_keep s at
-    keeps-other stop next d h e f =
-        none_other read_keep s at stop next h (found_none (read_keep (take (stop - at) (drop at s))) (sym (ap (λ (x : Digest). x.found) e) ∙ f))
+        room : (v : Bytes) → length v ≡ hash_length → Dec (count < level_limit)
+            → (hash_length * count + length v ≤ values_block_length) ⊎ ((values_block_length ≤ hash_length * count) × (0 < length v))
+        room v n (yes h) = inl (omega arith)
+        room v n (no h) = inr (omega arith, omega arith)
 
     -- where none leads, they are all
-    pub keeps-stop : at ≤ length s → NoneLeads read_keep s at → KeepsFrom s from (record { count = count; next = at; values = values })
+    pub keeps-stop : at ≤ length s → read_from read_keep s at ≡ none → KeepsFrom s from (record { count = count; next = at; values = values })
     keeps-stop w n =
         record {
           taken = k.taken;
@@ -168,12 +129,12 @@ module _ (s : Bytes) (from : ℕ) where
 
 -- the `pair` lines from an offset to another: their number, and the first of their positions and
 -- versions
-pub record PairsTo (s : Bytes) (from at count : ℕ) (ps vs : List ℕ) : Type 0 where
+pub record PairsTo (s : Bytes) (from at : ℕ) (m : MonitoringMap) : Type 0 where
   pub taken : List MapEntry
   pub led : Led read_pair s from at taken
-  pub counted : count ≡ length taken
-  pub firsts : ps ≡ front map_limit (positions taken)
-  pub seconds : vs ≡ front map_limit (versions taken)
+  pub counted : m.count ≡ length taken
+  pub firsts : m.positions ≡ front map_limit (positions taken)
+  pub seconds : m.versions ≡ front map_limit (versions taken)
 
 -- one more element stored of what is made of each
 front_mapped : (n i : ℕ) (f : MapEntry → ℕ) (es : List MapEntry) (e : MapEntry) (d : List ℕ) → d ≡ front n (map f es) → i ≡ length es
@@ -182,31 +143,30 @@ front_mapped n i f es e d h l = front-set n (map f es) d i (f e) h (length-map e
 
 module _ (s : Bytes) (from : ℕ) where
   -- at first there is none
-  pub pairs_start : PairsTo s from from 0 (replicate map_limit 0) (replicate map_limit 0)
+  pub pairs_start : PairsTo s from from (record { positions = replicate map_limit 0; versions = replicate map_limit 0; count = 0 })
   pairs_start = record { taken = []; led = led-start read_pair s from; counted = refl; firsts = front-nil map_limit; seconds = front-nil map_limit }
 
-  module _ (at count : ℕ) (ps vs : List ℕ) (k : PairsTo s from at count ps vs) where
+  module _ (at : ℕ) (m : MonitoringMap) (k : PairsTo s from at m) where
     -- there is room for as many positions and versions as a state takes
-    pub pairs-room : (length ps ≡ map_limit) × (length vs ≡ map_limit)
+    pub pairs-room : (length m.positions ≡ map_limit) × (length m.versions ≡ map_limit)
     pairs-room = (ap length k.firsts ∙ length_front map_limit (positions k.taken), ap length k.seconds ∙ length_front map_limit (versions k.taken))
 
     -- a line with a pair is one more
-    pub pairs_next : (stop next p v : ℕ) → LineHere s at stop next → read_pair (take (stop - at) (drop at s)) ≡ some (record { position = p; version = v })
-        → PairsTo s from next (count + 1) (set ps count p) (set vs count v)
-    pairs_next stop next p v h r =
-        let e : MapEntry = record { position = p; version = v } in
+    pub pairs_next : (e : MapEntry) (next : ℕ) → read_from read_pair s at ≡ some (e, next) → PairsTo s from next (with_pair m e.position e.version)
+    unfolding with_pair
+    pairs_next e next q =
+        let h = from-was read_pair s at e next q in
         let c = k.counted in
         record {
           taken = k.taken ++ e ∷ [];
-          led = led-next read_pair s at stop next h from k.taken e k.led r;
+          led = led-next read_pair s at h.stop next h.here from k.taken e k.led h.reads;
           counted = omega (arith, length-append k.taken (e ∷ []));
-          firsts = front_mapped map_limit count (λ (x : MapEntry). x.position) k.taken e ps k.firsts c;
-          seconds = front_mapped map_limit count (λ (x : MapEntry). x.version) k.taken e vs k.seconds c;
+          firsts = front_mapped map_limit m.count (λ (x : MapEntry). x.position) k.taken e m.positions k.firsts c;
+          seconds = front_mapped map_limit m.count (λ (x : MapEntry). x.version) k.taken e m.versions k.seconds c;
         }
 
     -- where none leads, they are all
-    pub pairs-stop : at ≤ length s → NoneLeads read_pair s at
-        → PairsFrom s from (record { map = record { positions = ps; versions = vs; count = count }; next = at })
+    pub pairs-stop : at ≤ length s → read_from read_pair s at ≡ none → PairsFrom s from (record { map = m; next = at })
     pairs-stop w n =
         record {
           taken = k.taken;

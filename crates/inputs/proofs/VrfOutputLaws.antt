@@ -6,7 +6,7 @@ use mathlib.Core.Bool.{Bool, true, false, ◌&&◌}
 use mathlib.Core.List.Memᴰ
 use mathlib.Core.List.{List, [], ◌∷◌, map, Memᴰ}
 use mathlib.Core.Option.{Option, Option-elim, none, some}
-use Prim.Native.Nat.{ℕ, zero, suc, ◌+◌, ◌*◌, ◌/◌, ◌%◌, ◌≤◌, ◌<◌}
+use Prim.Native.Nat.{ℕ, zero, suc, ◌+◌, ◌*◌, ◌^◌, ◌/◌, ◌%◌, ◌≤◌, ◌<◌}
 use native.Mathlib.Omega.{arith}
 use lib.Dec.{eqb, ltb}
 use lib.ListN.{length, take, drop, get_or, length-map, length-take, length-drop, get_or-map}
@@ -24,17 +24,23 @@ use Rattle.rules.specs.Encoding.{uint, bytes_after}
 use Rattle.rules.specs.VrfOutputs.{VrfOutput, record_length, read_record, read_records, read_outputs, has_output}
 use Rattle.rules.specs.VrfOutputs.{output_of}
 use Rattle.tree.proofs.DigitLaws.{by_order}
-use Rattle.tree.proofs.RunLaws.{length_runs, mapped-run, drop-take}
+use Rattle.tree.proofs.RunLaws.{length_runs, mapped-run, runs-at}
 use Rattle.inputs.specs.VrfOutputs.{record_at, found_output, record_of, records_below, IsRecordOf}
 use Rattle.inputs.specs.VrfOutputs.{IsOfSomeRecord}
 use Rattle.std.specs.Prelude.{Some, None, is_some as is_given, Option as CodeOption}
-use Rattle.std.specs.Int.{w32, from_be_bytes}
+use Rattle.std.specs.Prelude.{Result, Ok, Err, MatchResult}
+use Rattle.std.specs.Simd.{first_chunks}
+use Rattle.std.specs.List.Sorted.{IsSearchInRange, IsBinarySearchResult, IsNonDecreasingBy}
+use Rattle.std.specs.Ordering.{nat_cmp, ordering_index}
+use Rattle.std.proofs.lemmas.Cmp.{ranked}
+use Rattle.std.proofs.lemmas.List.Sorted.{IsNonDecreasingBy-from_default}
+use Rattle.std.proofs.lemmas.Bool.Decides.{nat_tests}
 use Rattle.inputs.specs.declared.vrf_outputs.FoundOutput.{FoundOutput}
 
 -- ---- the records
 
 -- the version of a record
-abbrev version_in : VrfOutput → ℕ
+abbrev pub version_in : VrfOutput → ℕ
 version_in x = x.version
 
 -- it is below another
@@ -51,29 +57,28 @@ record_at_lem : (s : Bytes) (i : ℕ) (d : VrfOutput) → i < length s / record_
 unfolding read_records record_at
 record_at_lem s i d h = mapped-run read_record (length s / record_length) record_length s i d h
 
--- what four bytes encode
-four_encode : (t : Bytes) → length t ≡ 4 → from_be_bytes w32 t ≡ uint t
-unfolding uint bytes_after
-four_encode (a ∷ b ∷ c ∷ d ∷ []) e = omega arith
-four_encode [] e = absurd (omega arith)
-four_encode (a ∷ []) e = absurd (omega arith)
-four_encode (a ∷ b ∷ []) e = absurd (omega arith)
-four_encode (a ∷ b ∷ c ∷ []) e = absurd (omega arith)
-four_encode (a ∷ b ∷ c ∷ d ∷ x ∷ t) e = absurd (omega arith)
+-- the chunks of so many bytes are the first runs
+chunk_runs : (n k : ℕ) (s : Bytes) → first_chunks k n s ≡ runs n k s
+unfolding runs
+chunk_runs zero k s = refl
+chunk_runs (suc n) k s = ap (λ (rs : List Bytes). take k s ∷ rs) (chunk_runs n k (drop k s))
+
+-- so a chunk of a record's bytes is the record with its number
+pub chunk_at : (s : Bytes) (cs : List Bytes) (i : ℕ) (d : Bytes) → cs ≡ first_chunks record_length (length s / record_length) s → i < length s / record_length
+    → read_record (get_or cs i d) ≡ record_at s i
+unfolding record_at
+chunk_at s cs i d e h =
+    ap (λ (rs : List Bytes). read_record (get_or rs i d)) (e ∙ chunk_runs (length s / record_length) record_length s)
+    ∙ ap read_record (runs-at (length s / record_length) record_length s i d h)
 
 -- the version of a record is encoded by its first four bytes
-pub version_bytes_lem : (s : Bytes) (i : ℕ) → i < length s / record_length
-    → (record_at s i).version ≡ from_be_bytes w32 (take 4 (drop (record_length * i) s))
-unfolding record_at read_record
-version_bytes_lem s i h =
-    let t = take 4 (drop (record_length * i) s) in
-    let l : length t ≡ 4 = omega (arith, length-take 4 (drop (record_length * i) s), length-drop (record_length * i) s) in
-    rw (take-take 4 record_length (drop (record_length * i) s) (omega arith)) (sym (four_encode t l))
-
--- its output is the bytes after them
-pub output_bytes : (s : Bytes) (i : ℕ) → (record_at s i).output ≡ take vrf_output_length (drop (record_length * i + 4) s)
-unfolding record_at read_record
-output_bytes s i = drop-take 4 vrf_output_length (drop (record_length * i) s) ∙ ap (take vrf_output_length) (drop-drop 4 (record_length * i) s)
+pub version_bytes : (t : Bytes) → 4 ≤ length t → (read_record t).version ≡ get_or t 0 0 * 2 ^ 24 + get_or t 1 0 * 2 ^ 16 + get_or t 2 0 * 2 ^ 8 + get_or t 3 0
+unfolding read_record uint bytes_after
+version_bytes (a ∷ b ∷ c ∷ d ∷ t) h = omega arith
+version_bytes [] h = absurd (omega arith)
+version_bytes (a ∷ []) h = absurd (omega arith)
+version_bytes (a ∷ b ∷ []) h = absurd (omega arith)
+version_bytes (a ∷ b ∷ c ∷ []) h = absurd (omega arith)
 
 -- it is among the records
 record_listed : (s : Bytes) (i : ℕ) → i < length s / record_length → Memᴰ (record_at s i) (read_records s)
@@ -223,37 +228,39 @@ fewer_below xs u v h e =
     select_fewer (smaller u) (smaller v) xs a (λ x t. lt-ltb x.version v (omega (arith, ltb-true x.version u t))) m
     (le-ltb a.version u (omega arith)) (lt-ltb a.version v (omega arith))
 
--- ---- the search by halving
+-- ---- the search for a version
 
 -- where versions rise, a record before another has a smaller one
 version_rises : (s : Bytes) (i j : ℕ) → rising (versions s) ≡ true → i < j → j < length s / record_length → (record_at s i).version < (record_at s j).version
 version_rises s i j r h l =
     omega (arith, rising_at (versions s) i j r h (omega (arith, length_versions s)), version_at_lem s i (omega arith), version_at_lem s j l)
 
--- and one of a smaller version stands before the other
-version_before : (s : Bytes) (i j : ℕ) → rising (versions s) ≡ true → i < length s / record_length → (record_at s i).version < (record_at s j).version → i < j
-version_before s i j r h l = by_order i j (λ p. p) (λ p. absurd (not_after p))
-  where
-    not_after : j ≤ i → ⊥
-    not_after p = by_order j i
-        (λ q. omega (arith, version_rises s j i r q h))
-        (λ q. let e : i ≡ j = omega arith in omega (arith, ap (λ (n : ℕ). (record_at s n).version) e))
+-- where versions rise, none is the version
+abbrev pub NoneIs : Bytes → ℕ → Type 0
+NoneIs s v = rising (versions s) ≡ true → (i : ℕ) → i < length s / record_length → (record_at s i).version ≡ v → ⊥
 
--- where versions rise, a record of version v has a number from low on and below high
-abbrev pub Between : Bytes → ℕ → ℕ → ℕ → Type 0
-Between s v low high = rising (versions s) ≡ true → (i : ℕ) → i < length s / record_length → (record_at s i).version ≡ v → (low ≤ i) × (i < high)
+-- the version in a chunk
+abbrev pub chunk_version : Bytes → ℕ
+chunk_version t = (read_record t).version
 
--- at first it may have any number
-pub between_all : (s : Bytes) (v : ℕ) → Between s v 0 (length s / record_length)
-between_all s v r i h e = (omega arith, h)
+module _ (s : Bytes) (v : ℕ) (cs : List Bytes) (e : cs ≡ first_chunks record_length (length s / record_length) s) (n : length cs ≡ length s / record_length) where
+  -- where versions rise, so do the comparisons with one
+  comparisons_rise : rising (versions s) ≡ true → IsNonDecreasingBy (λ (t : Bytes). ordering_index (nat_cmp (chunk_version t) v)) cs
+  comparisons_rise r = IsNonDecreasingBy-from_default (λ (t : Bytes). ordering_index (nat_cmp (chunk_version t) v)) cs [] (λ i j le l.
+      let here = ap version_in (chunk_at s cs i [] e (omega arith)) in
+      let there = ap version_in (chunk_at s cs j [] e (omega arith)) in
+      let grows : chunk_version (get_or cs i []) ≤ chunk_version (get_or cs j []) =
+      by_order i j (λ p. omega (arith, version_rises s i j r p (omega arith))) (λ q. let z : i ≡ j = omega arith in omega (arith, ap (λ (k : ℕ). chunk_version (get_or cs k [])) z)) in
+      grind (arith, nat_tests))
 
--- it stands after a record of a smaller version
-pub between_above : (s : Bytes) (v low high m : ℕ) → m < length s / record_length → (record_at s m).version < v → Between s v low high → Between s v (m + 1) high
-between_above s v low high m h l b r i k e = (omega (arith, version_before s m i r h (omega arith)), (b r i k e).1)
-
--- and before one of a greater version
-pub between_below : (s : Bytes) (v low high m : ℕ) → v < (record_at s m).version → Between s v low high → Between s v low m
-between_below s v low high m l b r i k e = ((b r i k e).0, version_before s i m r k (omega arith))
+  -- a search by the version ends at a record of it, or where versions rise there is none
+  pub searched : (r : Result ℕ ℕ) → IsSearchInRange r (length cs) → IsBinarySearchResult (λ (t : Bytes). nat_cmp (chunk_version t) v) cs r
+      → MatchResult r (λ i. (i < length s / record_length) × ((record_at s i).version ≡ v)) (λ _. NoneIs s v)
+  searched (Ok i) l equal = (omega arith, sym (ap version_in (chunk_at s cs i [] e (omega arith))) ∙ ranked _ v _ (sym (equal [])))
+  searched (Err k) l parted = λ r i h q.
+      let here = ap version_in (chunk_at s cs i [] e h) in
+      let p = parted (comparisons_rise r) in
+      by_order i k (λ b. let a = ranked _ v _ (sym (p.0 i [] (omega arith) b)) in omega arith) (λ b. let a = ranked _ v _ (sym (p.1 i [] b (omega arith))) in omega arith)
 
 -- a record of the version is what was to be found
 pub found_record : (s : Bytes) (v m : ℕ) (r : CodeOption FoundOutput) → m < length s / record_length → (record_at s m).version ≡ v → r ≡ found_output m (some (record_at s m))
@@ -270,14 +277,13 @@ found_record s v m r h e q = (λ xs p. q ∙ sym (found xs (outputs_read s xs p)
         (ap₂ found_output (records_before (read_records s) m v (record_at s m) u (omega (arith, length_records s)) (ap version_in at ∙ e))
         (record_found (read_records s) (record_at s m) v u (record_listed s m h) e))
 
--- where no number is left, there is no record of the version
-pub found_nothing : (s : Bytes) (v low high : ℕ) (r : CodeOption FoundOutput) → Between s v low high → high ≤ low → r ≡ found_output 0 none
-    → IsRecordOf s v r × IsOfSomeRecord s v r
+-- where versions rise and none is the version, there is no record of it
+pub found_nothing : (s : Bytes) (v : ℕ) (r : CodeOption FoundOutput) → NoneIs s v → r ≡ found_output 0 none → IsRecordOf s v r × IsOfSomeRecord s v r
 unfolding found_output
-found_nothing s v low high r b l q = (λ xs p. q ∙ sym (ap (found_output (records_below xs v)) (nothing xs (outputs_read s xs p))), inl q)
+found_nothing s v r b q = (λ xs p. q ∙ sym (ap (found_output (records_below xs v)) (nothing xs (outputs_read s xs p))), inl q)
   where
     other : rising (versions s) ≡ true → (x : VrfOutput) → Memᴰ x (read_records s) → x.version ≡ v → ⊥
-    other u x m e = let (i, h, z) = listed_record s x m in omega (arith, b u i h (ap version_in z ∙ e))
+    other u x m e = let (i, h, z) = listed_record s x m in b u i h (ap version_in z ∙ e)
 
     nothing : (xs : List VrfOutput) → (rising (versions s) ≡ true) × (read_records s ≡ xs) → record_of xs v ≡ none
     nothing xs (u, w) = ap (λ (ys : List VrfOutput). record_of ys v) (sym w) ∙ record_none (read_records s) v (other u)

@@ -8,3 +8,4 @@ pub mod ResponseLines
 pub mod Response
 pub mod ResponseHeader
 pub mod ResponseSections
+pub mod TextLine

@@ -1,5 +1,5 @@
 -- How the offsets of a response that was read stand for its parts of the rules.
-use Rattle.std.specs.Prelude.{◌≡◌, List, [], ◌≤◌, length}
+use Rattle.std.specs.Prelude.{◌≡◌, List, [], ◌≤◌, length, Some, None, Option as CodeOption}
 use Rattle.std.proofs.Math.Option.{Option, none, some}
 use Rattle.lists.specs.Lists.{Bytes}
 use Rattle.lines.specs.Line.{ended_lines, open_rest, leading}
@@ -12,8 +12,6 @@ use Rattle.inputs.specs.declared.response_lines.Kind.TheVariants.{Search, Monito
 use Rattle.inputs.specs.declared.response_lines.Target.{Target}
 use Rattle.inputs.specs.ResponseLines.{decoded, Decodes}
 use Rattle.inputs.specs.declared.response.Response.{Response}
-use Rattle.inputs.specs.declared.response.ReadResponse.{ReadResponse}
-use Rattle.inputs.specs.declared.response.ReadResponse.TheVariants.{Read, Unread}
 
 -- ---- the sections of a response, from the text that they fill
 
@@ -56,9 +54,9 @@ parts_in s r =
     }
 
 -- what was read; bytes that do not read are refused with 5
-abbrev pub parts_of : Bytes → ReadResponse → Option Parts
-parts_of s (Read r) = some (parts_in s r)
-parts_of s Unread = none
+abbrev pub parts_of : Bytes → CodeOption Response → Option Parts
+parts_of s (Some r) = some (parts_in s r)
+parts_of s None = none
 
 -- the counts of the sections are right
 pub record Counted (s : Bytes) (r : Response) : Type 0 where
@@ -98,6 +96,6 @@ pub record Fields (s : Bytes) (r : Response) : Type 0 where
   pub target : TargetDecodes s r.kind r.target
 
 -- what is promised of the offsets
-abbrev pub Offsets : Bytes → ReadResponse → Type 0
-Offsets s (Read r) = Fields s r × Counted s r × Ordered s r × Filled s r
-Offsets s Unread = Unit {0}
+abbrev pub Offsets : Bytes → CodeOption Response → Type 0
+Offsets s (Some r) = Fields s r × Counted s r × Ordered s r × Filled s r
+Offsets s None = Unit {0}

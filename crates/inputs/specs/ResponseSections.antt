@@ -1,6 +1,6 @@
 -- What the readers of a response's sections give back, from what is read: for contracts of private
 -- functions alone.
-use Rattle.std.specs.Prelude.{◌≡◌, Bool, true, false, List, ℕ, ◌≤◌, length, drop}
+use Rattle.std.specs.Prelude.{◌≡◌, Bool, true, false, List, ℕ, ◌≤◌, length, drop, Some, None, Option as CodeOption}
 use Rattle.std.proofs.Math.Option.{Option, none, some, map}
 use Rattle.lists.specs.Lists.{Bytes}
 use Rattle.lines.specs.Line.{Read as ReadForm, ended_lines, open_rest, read_line, leading}
@@ -12,8 +12,7 @@ use Rattle.inputs.specs.declared.response.Section.{Section}
 use Rattle.inputs.specs.declared.response.Sort.{Sort}
 use Rattle.inputs.specs.declared.response.Sort.TheVariants.{Steps, Entries, Nodes, Ends}
 use Rattle.inputs.specs.declared.response.Role.{Role}
-use Rattle.inputs.specs.declared.response.Role.TheVariants.{Begins, Continues, Outside}
-use Rattle.inputs.specs.declared.response.RoleFrom.{RoleFrom}
+use Rattle.inputs.specs.declared.response.Role.TheVariants.{Begins, Continues}
 use Rattle.inputs.specs.Response.{AllRead}
 
 -- what its lines read as
@@ -42,15 +41,20 @@ begins_element Ends x = true
 abbrev pub read_role : Sort → Bytes → Option Bool
 read_role sort l = map (begins_element sort) (read_element sort l)
 
+-- whether a line of a role begins something
+abbrev pub begins : Role → Bool
+begins Begins = true
+begins Continues = false
+
 -- the role that was found
-abbrev pub role_of : Role → Option Bool
-role_of Begins = some true
-role_of Continues = some false
-role_of Outside = none
+abbrev pub role_of : CodeOption Role → Option Bool
+role_of (Some role) = some (begins role)
+role_of None = none
 
 -- the same with the offset after the line
-abbrev pub role_from_of : RoleFrom → Option (Bool × ℕ)
-role_from_of r = map (λ b. (b, r.next)) (role_of r.role)
+abbrev pub role_from_of : CodeOption (Role × ℕ) → Option (Bool × ℕ)
+role_from_of (Some (role, next)) = some (begins role, next)
+role_from_of None = none
 
 -- how many steps, entries, nodes or ends there are
 abbrev pub count_of : (sort : Sort) → List (Element sort) → ℕ

@@ -1,6 +1,6 @@
 -- What the readers of a state's text give back, from what is read (paper 01, What a call is given):
 -- for contracts of private functions alone.
-use Rattle.std.specs.Prelude.{◌≡◌, true, false, ℕ, ◌≤◌, eqb, length, take, drop}
+use Rattle.std.specs.Prelude.{◌≡◌, ℕ, ◌+◌, ◌≤◌, eqb, length, take, drop, set, Some, None, Option as CodeOption}
 use mathlib.Core.List.{List, [], ◌∷◌, flatten, Memᴰ}
 use Rattle.std.proofs.Math.Option.{Option, none, some, Option-elim, bind as ◌>>=◌}
 use Rattle.lists.specs.Choice.{◌>>◌}
@@ -11,29 +11,32 @@ use Rattle.lines.specs.Line.{Read, ended_lines, open_rest, read_lines, leading}
 use Rattle.rules.specs.Limits.{label_limit, map_limit, hash_length, values_block_length}
 use Rattle.rules.specs.State.{MapEntry, State, positions, versions, is_valid, empty_state, NumberedState}
 use Rattle.rules.specs.StateText.{size_form, read_keep, read_pair}
+use Rattle.inputs.specs.declared.state.Label.{Label}
+use Rattle.inputs.specs.declared.state.MonitoringMap.{MonitoringMap}
 use Rattle.inputs.specs.declared.state_reader.SizeLine.{SizeLine}
-use Rattle.inputs.specs.declared.state_reader.PairLine.{PairLine}
-use Rattle.inputs.specs.declared.state_reader.PairLine.TheVariants.{Pair, Unread as NoPair}
 use Rattle.inputs.specs.declared.state_reader.Keeps.{Keeps}
 use Rattle.inputs.specs.declared.state_reader.Pairs.{Pairs}
 use Rattle.inputs.specs.State.{label_block}
 
 -- ---- single lines
 
--- what a `size` line says, from its size, its time and what is read of its label
-unfoldable pub labelled : ℕ → ℕ → Option (Values (up_to label_limit ∷ [])) → SizeLine
-labelled m t none = record { found = false; size = 0; timestamp = 0; label = label_block [] }
-labelled m t (some (b, _)) = record { found = true; size = m; timestamp = t; label = label_block b }
+-- a label that is read, as a struct
+abbrev pub label_read : Values (up_to label_limit ∷ []) → Label
+label_read (label, _) = label_block label
 
--- what it says, or zeros where there is no such line
-unfoldable pub as_size : Option (Read size_form) → SizeLine
-as_size none = labelled 0 0 none
-as_size (some (m, (t, vs))) = labelled m t (some vs)
+-- what a `size` line says, as a struct
+abbrev pub size_read : Read size_form → SizeLine
+size_read (m, (t, vs)) = record { size = m; timestamp = t; label = label_read vs }
 
 -- a pair, if there is one
-abbrev pub pair_of : PairLine → Option MapEntry
-pair_of (Pair position version) = some (record { position = position; version = version })
-pair_of NoPair = none
+abbrev pub pair_of : CodeOption (ℕ × ℕ) → Option MapEntry
+pair_of (Some (position, version)) = some (record { position = position; version = version })
+pair_of None = none
+
+-- the same with the offset after the line
+abbrev pub pair_from_of : CodeOption ((ℕ × ℕ) × ℕ) → Option (MapEntry × ℕ)
+pair_from_of (Some ((position, version), next)) = some (record { position = position; version = version }, next)
+pair_from_of None = none
 
 -- ---- leading lines
 
@@ -50,6 +53,15 @@ pub record KeepsFrom (s : Bytes) (from : ℕ) (r : Keeps) : Type 0 where
   pub within : r.next ≤ length s
   pub counted : r.count ≡ length taken
   pub stored : r.values ≡ front values_block_length (flatten taken)
+
+-- a map with one pair more, which is stored where there is room for it
+unfoldable pub with_pair : MonitoringMap → ℕ → ℕ → MonitoringMap
+with_pair m position version =
+    record {
+      positions = set m.positions m.count position;
+      versions = set m.versions m.count version;
+      count = m.count + 1;
+    }
 
 -- the `pair` lines from an offset on, in the same way
 pub record PairsFrom (s : Bytes) (from : ℕ) (r : Pairs) : Type 0 where

@@ -11,4 +11,5 @@ pub mod response_lines;
 pub mod state;
 pub mod state_reader;
 pub mod state_writer;
+mod text_line;
 pub mod vrf_outputs;

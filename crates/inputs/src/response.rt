@@ -2,13 +2,14 @@
 // many lines the sections have.
 ghost use Rattle.std.specs.Prelude.{◌≡◌, ◌≤◌, ltb, length, drop};
 ghost use Rattle.rules.specs.ResponseText.{read_response};
-ghost use Rattle.inputs.specs.ResponseHeader.{read_from, parts_after, HeaderDecodes};
+ghost use Rattle.inputs.specs.TextLine.{read_from};
+ghost use Rattle.inputs.specs.ResponseHeader.{parts_after, HeaderDecodes};
 ghost use Rattle.inputs.specs.Response.{parts_of, Offsets, loose_in};
 ghost use Rattle.inputs.specs.ResponseSections.{read_role, role_of, role_from_of, SectionOf};
 
-use crate::response_header::{Header, ReadHeader, read_header};
+use crate::response_header::{Header, read_header};
 use crate::response_lines::{Kind, Target, is_end, is_entry, is_lookup, is_node, is_step};
-use lines::cursor::{Cursor, NextLine};
+use crate::text_line::line_from;
 use lines::part::Part;
 
 // A section: the part of the text that its lines fill, and how many steps, entries or nodes it has.
@@ -32,22 +33,12 @@ pub struct Response {
     pub nodes: Section,
 }
 
-// A response, or bytes that break the line rules or a field's length: refusal 5.
-#[derive(Clone, Copy)]
-pub enum ReadResponse {
-    Read(Response),
-    Unread,
-}
-
-// The response that a text is.
-pub fn read_response(text: &[u8]) -> ReadResponse
+// The response that a text is; none, where bytes break the line rules or a field's length: refusal 5.
+pub fn read_response(text: &[u8]) -> Option<Response>
     ensures parts { parts_of text.now result ≡ read_response text.now }
     ensures offsets { Offsets text.now result }
 {
-    match read_header(text) {
-        ReadHeader::Read(h) => read_body(text, h),
-        ReadHeader::Unread => ReadResponse::Unread,
-    }
+    read_body(text, read_header(text)?)
 }
 
 // What the lines of a section are. The `end` line is a section of its own.
@@ -59,24 +50,15 @@ enum Sort {
     Ends,
 }
 
-// A line begins an element of a section, or continues one, as a lookup does an entry, or stands
-// outside.
-#[derive(Clone, Copy)]
+// A line begins an element of a section, or continues one, as a lookup does an entry.
+#[derive(Clone, Copy, PartialEq, Eq)]
 enum Role {
     Begins,
     Continues,
-    Outside,
-}
-
-// What a line is in a section, and the offset after it.
-#[derive(Clone, Copy)]
-struct RoleFrom {
-    role: Role,
-    next: usize,
 }
 
 // The response that a header and the sections after it make, if nothing more stands in the text.
-fn read_body(text: &[u8], h: Header) -> ReadResponse
+fn read_body(text: &[u8], h: Header) -> Option<Response>
     requires within { h.next ≤ length text.now }
     requires decodes { HeaderDecodes text.now h }
     ensures parts { parts_of text.now result ≡ parts_after text.now h }
@@ -87,24 +69,20 @@ fn read_body(text: &[u8], h: Header) -> ReadResponse
     let nodes = section_from(text, Sort::Nodes, entries.part.stop);
     let end = section_from(text, Sort::Ends, nodes.part.stop);
     if is_loose(text, steps.part.stop) {
-        return ReadResponse::Unread;
+        return None;
     }
     if end.count != 1 {
-        return ReadResponse::Unread;
+        return None;
     }
     if end.part.stop < text.len() {
-        return ReadResponse::Unread;
+        return None;
     }
-    let kind = h.kind;
-    let identifier = h.identifier;
-    let label = h.label;
-    let target = h.target;
-    ReadResponse::Read(Response {
-        kind,
-        identifier,
-        label,
+    Some(Response {
+        kind: h.kind,
+        identifier: h.identifier,
+        label: h.label,
         tree_size: h.tree_size,
-        target,
+        target: h.target,
         steps,
         entries,
         nodes,
@@ -115,12 +93,7 @@ fn read_body(text: &[u8], h: Header) -> ReadResponse
 fn is_loose(text: &[u8], at: usize) -> bool
     ensures { result ≡ ltb 0 (length (loose_in (drop at text.now))) }
 {
-    let role = role_from(text, Sort::Entries, at).role;
-    match role {
-        Role::Begins => false,
-        Role::Continues => true,
-        Role::Outside => false,
-    }
+    role_from(text, Sort::Entries, at).is_some_and(|(role, _)| role == Role::Continues)
 }
 
 // The section that begins at an offset, with all lines that belong to it.
@@ -130,78 +103,42 @@ fn section_from(text: &[u8], sort: Sort, from: usize) -> Section
 {
     let mut at = from;
     let mut count: usize = 0;
-    loop {
-        let line = role_from(text, sort, at);
-        let role = line.role;
-        match role {
-            Role::Begins => {
-                count += 1;
-                at = line.next;
-            }
-            Role::Continues => {
-                at = line.next;
-            }
-            Role::Outside => {
-                return Section {
-                    part: Part {
-                        start: from,
-                        stop: at,
-                    },
-                    count,
-                };
-            }
+    while let Some((role, next)) = role_from(text, sort, at) {
+        if role == Role::Begins {
+            count += 1;
         }
+        at = next;
+    }
+    Section {
+        part: Part {
+            start: from,
+            stop: at,
+        },
+        count,
     }
 }
 
-// What the line at an offset is in a section. Where no line is ended, nothing belongs to it.
-fn role_from(text: &[u8], sort: Sort, at: usize) -> RoleFrom
+// What the line at an offset is in a section, if it belongs there, and the offset after it.
+fn role_from(text: &[u8], sort: Sort, at: usize) -> Option<(Role, usize)>
     ensures { role_from_of result ≡ read_from (read_role sort) text.now at }
 {
-    let start = Cursor { at };
-    match start.line(text) {
-        NextLine::Ended { stop, next } => RoleFrom {
-            role: role_in(sort, &text[at..stop]),
-            next: next.at,
-        },
-        NextLine::Unread => RoleFrom {
-            role: Role::Outside,
-            next: at,
-        },
-    }
+    let (line, next) = line_from(text, at)?;
+    Some((role_in(sort, line)?, next))
 }
 
-// What a line is in a section.
-fn role_in(sort: Sort, l: &[u8]) -> Role
+// What a line is in a section, if it belongs there.
+fn role_in(sort: Sort, l: &[u8]) -> Option<Role>
     ensures { role_of result ≡ read_role sort l.now }
 {
     match sort {
-        Sort::Steps => {
-            if is_step(l) {
-                return Role::Begins;
-            }
-            Role::Outside
-        }
+        Sort::Steps => is_step(l).then_some(Role::Begins),
         Sort::Entries => {
             if is_entry(l) {
-                return Role::Begins;
+                return Some(Role::Begins);
             }
-            if is_lookup(l) {
-                return Role::Continues;
-            }
-            Role::Outside
+            is_lookup(l).then_some(Role::Continues)
         }
-        Sort::Nodes => {
-            if is_node(l) {
-                return Role::Begins;
-            }
-            Role::Outside
-        }
-        Sort::Ends => {
-            if is_end(l) {
-                return Role::Begins;
-            }
-            Role::Outside
-        }
+        Sort::Nodes => is_node(l).then_some(Role::Begins),
+        Sort::Ends => is_end(l).then_some(Role::Begins),
     }
 }

@@ -5,7 +5,7 @@ ghost use Rattle.lists.specs.Choice.{is_some, or_else};
 ghost use Rattle.lines.specs.Field.{bytes, exactly, up_to, read_field, read_fields};
 ghost use Rattle.lines.specs.Line.{read_line};
 ghost use Rattle.lines.specs.Cursor.{fields_from, read_at};
-ghost use Rattle.lines.specs.Readings.{next_number_of};
+ghost use Rattle.lines.specs.Readings.{read_of};
 ghost use Rattle.rules.specs.Response.{search, monitor};
 ghost use Rattle.rules.specs.ResponseText.{siblings_field, kind_word, head_form, target_form, nl_form, end_form};
 ghost use Rattle.rules.specs.ResponseText.{read_kind_line, read_step, read_entry_line, read_in, read_no, read_nl};
@@ -16,7 +16,7 @@ ghost use Rattle.inputs.specs.ResponseLines.{KtStands, TargetStands, NextPartSta
 ghost use Rattle.inputs.specs.ResponseLines.{LastPartsStand};
 
 use crate::state::State;
-use lines::cursor::{Cursor, NextBytes, NextNumber, NextWord};
+use lines::cursor::Cursor;
 use lines::layout::Word;
 use lines::part::Part;
 
@@ -36,27 +36,10 @@ pub struct Target {
 
 // A first line: the kind, and the fields that encode identifier and label.
 #[derive(Clone, Copy)]
-pub enum KtLine {
-    Read {
-        kind: Kind,
-        identifier: Part,
-        label: Part,
-    },
-    Unread,
-}
-
-// A `head` line, with n.
-#[derive(Clone, Copy)]
-pub enum HeadLine {
-    Read(u64),
-    Unread,
-}
-
-// A `target` line.
-#[derive(Clone, Copy)]
-pub enum TargetLine {
-    Read(Target),
-    Unread,
+pub struct KtLine {
+    pub kind: Kind,
+    pub identifier: Part,
+    pub label: Part,
 }
 
 impl Target {
@@ -80,110 +63,58 @@ const VRF_OUTPUT: usize = 32;
 // The most siblings of a lookup.
 const SIBLINGS: usize = 255;
 
-// A field that encodes a byte string of a certain length, by the part that it fills, or another.
-#[derive(Clone, Copy)]
-enum NextPart {
-    Read { part: Part, next: Cursor },
-    Unread,
-}
-
-// A last field that encodes a byte string, by that string's length and the part that the field
-// fills, or another.
-#[derive(Clone, Copy)]
-enum LastBytes {
-    Read { length: usize, part: Part },
-    Unread,
-}
-
-// The two last fields that encode byte strings of certain lengths, by the parts that they fill, or
-// others.
-#[derive(Clone, Copy)]
-enum LastParts {
-    Read { first: Part, second: Part },
-    Unread,
-}
-
 // A first line, of a search or of monitoring.
-pub(crate) fn kt_line(l: &[u8]) -> KtLine
+pub(crate) fn kt_line(l: &[u8]) -> Option<KtLine>
     ensures read { kt_of l.now result
         ≡ or_else (read_kind_line search l.now) (read_kind_line monitor l.now) }
     ensures stands { KtStands l.now result }
 {
-    match kind_line(l, Kind::Search, &Word::SEARCH) {
-        KtLine::Read {
-            kind,
-            identifier,
-            label,
-        } => KtLine::Read {
-            kind,
-            identifier,
-            label,
-        },
-        KtLine::Unread => kind_line(l, Kind::Monitor, &Word::MONITOR),
-    }
+    kind_line(l, Kind::Search, &Word::SEARCH).or_else(|| kind_line(
+        l,
+        Kind::Monitor,
+        &Word::MONITOR,
+    ))
 }
 
-// A `head` line.
-pub(crate) fn head_line(l: &[u8]) -> HeadLine
+// A `head` line: n.
+pub(crate) fn head_line(l: &[u8]) -> Option<u64>
     ensures { head_of result ≡ read_line head_form l.now }
 {
-    let NextNumber::Read { value, next } = number_after(l, &Word::HEAD, u64::MAX) else {
-        return HeadLine::Unread;
-    };
-    if l.len() < next.at {
-        return HeadLine::Read(value);
-    }
-    HeadLine::Unread
+    let (size, next) = number_after(l, &Word::HEAD, u64::MAX)?;
+    (l.len() < next.at).then_some(size)
 }
 
 // A `target` line.
-pub(crate) fn target_line(l: &[u8]) -> TargetLine
+pub(crate) fn target_line(l: &[u8]) -> Option<Target>
     ensures read { target_of l.now result ≡ read_line target_form l.now }
     ensures stands { TargetStands l.now result }
 {
-    let NextNumber::Read { value, next } = number_after(l, &Word::TARGET, u32::MAX as u64) else {
-        return TargetLine::Unread;
-    };
-    match last_parts(l, next, Target::OPENING, Target::VALUE) {
-        LastParts::Read { first, second } => TargetLine::Read(Target {
-            version: value as u32,
-            opening: first,
-            value: second,
-        }),
-        LastParts::Unread => TargetLine::Unread,
-    }
+    let (version, next) = number_after(l, &Word::TARGET, u32::MAX as u64)?;
+    let (opening, value) = last_parts(l, next, Target::OPENING, Target::VALUE)?;
+    Some(Target {
+        version: version as u32,
+        opening,
+        value,
+    })
 }
 
 // Whether a line is a `step` line.
 pub(crate) fn is_step(l: &[u8]) -> bool
     ensures { result ≡ is_some (read_step l.now) }
 {
-    let NextNumber::Read { value: _, next } = number_after(l, &Word::STEP, u32::MAX as u64) else {
-        return false;
-    };
-    let LastBytes::Read { length, part: _ } = last_bytes(l, next) else {
-        return false;
-    };
-    if length == 0 {
-        return true;
-    }
-    length == HASH
+    number_after(l, &Word::STEP, u32::MAX as u64)
+        .and_then(|(_, next)| last_bytes(l, next))
+        .is_some_and(|(length, _)| length == 0 || length == HASH)
 }
 
 // Whether it is an `entry` line.
 pub(crate) fn is_entry(l: &[u8]) -> bool
     ensures { result ≡ is_some (read_entry_line l.now) }
 {
-    let NextNumber::Read { value: _, next } = number_after(l, &Word::ENTRY, u64::MAX) else {
-        return false;
-    };
-    let NextNumber::Read { value: _, next } = next.number(l, u64::MAX) else {
-        return false;
-    };
-    let LastBytes::Read { length, part: _ } = last_bytes(l, next) else {
-        return false;
-    };
-    length == HASH
+    number_after(l, &Word::ENTRY, u64::MAX)
+        .and_then(|(_, next)| next.number(l, u64::MAX))
+        .and_then(|(_, next)| last_bytes(l, next))
+        .is_some_and(|(length, _)| length == HASH)
 }
 
 // Whether it is an `in`, `no` or `nl` line.
@@ -191,173 +122,122 @@ pub(crate) fn is_lookup(l: &[u8]) -> bool
     ensures { result ≡ is_some
         (or_else (read_in l.now) (or_else (read_no l.now) (read_nl l.now))) }
 {
-    if is_plain_lookup(l, &Word::IN) {
-        return true;
-    }
-    if is_plain_lookup(l, &Word::NO) {
-        return true;
-    }
-    is_leaf_lookup(l)
+    is_plain_lookup(l, &Word::IN) || is_plain_lookup(l, &Word::NO) || is_leaf_lookup(l)
 }
 
 // Whether it is a `node` line.
 pub(crate) fn is_node(l: &[u8]) -> bool
     ensures { result ≡ is_some (read_node l.now) }
 {
-    let NextWord::Same(next) = Cursor { at: 0 }.word(l, &Word::NODE) else {
-        return false;
-    };
-    let LastBytes::Read { length, part: _ } = last_bytes(l, next) else {
-        return false;
-    };
-    length == HASH
+    Cursor { at: 0 }
+        .word(l, &Word::NODE)
+        .and_then(|next| last_bytes(l, next))
+        .is_some_and(|(length, _)| length == HASH)
 }
 
 // Whether it is the `end` line.
 pub(crate) fn is_end(l: &[u8]) -> bool
     ensures { result ≡ is_some (read_line end_form l.now) }
 {
-    let NextWord::Same(next) = Cursor { at: 0 }.word(l, &Word::END) else {
-        return false;
-    };
-    l.len() < next.at
+    Cursor { at: 0 }
+        .word(l, &Word::END)
+        .is_some_and(|next| l.len() < next.at)
 }
 
 // A first line of one kind, whose word is given.
-fn kind_line(l: &[u8], kind: Kind, word: &[u8]) -> KtLine
+fn kind_line(l: &[u8], kind: Kind, word: &[u8]) -> Option<KtLine>
     requires { word.now ≡ kind_word (kind_of kind) }
     ensures read { kt_of l.now result ≡ read_kind_line (kind_of kind) l.now }
     ensures stands { KtStands l.now result }
 {
-    let NextWord::Same(at_kind) = Cursor { at: 0 }.word(l, &Word::KT) else {
-        return KtLine::Unread;
-    };
-    let NextWord::Same(next) = at_kind.word(l, word) else {
-        return KtLine::Unread;
-    };
-    match last_parts(l, next, KtLine::IDENTIFIER, State::LABEL) {
-        LastParts::Read { first, second } => KtLine::Read {
-            kind,
-            identifier: first,
-            label: second,
-        },
-        LastParts::Unread => KtLine::Unread,
-    }
+    let at_kind = Cursor { at: 0 }.word(l, &Word::KT)?;
+    let next = at_kind.word(l, word)?;
+    let (identifier, label) = last_parts(l, next, KtLine::IDENTIFIER, State::LABEL)?;
+    Some(KtLine {
+        kind,
+        identifier,
+        label,
+    })
 }
 
 // Whether a line is a word, a version and siblings: `in` and `no` lines are.
 fn is_plain_lookup(l: &[u8], word: &[u8]) -> bool
     ensures { result ≡ is_some (read_line (lookup_form word.now) l.now) }
 {
-    let NextNumber::Read { value: _, next } = number_after(l, word, u32::MAX as u64) else {
-        return false;
-    };
-    ends_with_siblings(l, next)
+    number_after(l, word, u32::MAX as u64).is_some_and(|(_, next)| ends_with_siblings(l, next))
 }
 
 // Whether it is an `nl` line: a word, a version, a VRF output, a commitment and siblings.
 fn is_leaf_lookup(l: &[u8]) -> bool
     ensures { result ≡ is_some (read_line nl_form l.now) }
 {
-    let NextNumber::Read { value: _, next } = number_after(l, &Word::NL, u32::MAX as u64) else {
-        return false;
-    };
-    let NextPart::Read { part: _, next } = next_part(l, next, VRF_OUTPUT) else {
-        return false;
-    };
-    let NextPart::Read { part: _, next } = next_part(l, next, HASH) else {
-        return false;
-    };
-    ends_with_siblings(l, next)
+    number_after(l, &Word::NL, u32::MAX as u64)
+        .and_then(|(_, next)| next_part(l, next, VRF_OUTPUT))
+        .and_then(|(_, next)| next_part(l, next, HASH))
+        .is_some_and(|(_, next)| ends_with_siblings(l, next))
 }
 
 // Whether siblings are the last field, from a cursor on.
 fn ends_with_siblings(l: &[u8], c: Cursor) -> bool
     ensures { result ≡ is_some (read_fields (siblings_field ∷ []) (fields_from l.now c.at)) }
 {
-    let LastBytes::Read { length, part: _ } = last_bytes(l, c) else {
-        return false;
-    };
-    if length % HASH != 0 {
-        return false;
-    }
-    length <= SIBLINGS * HASH
+    last_bytes(l, c).is_some_and(|(length, _)| length % HASH == 0 && length <= SIBLINGS * HASH)
 }
 
 // The number that follows the word with which a line begins.
-fn number_after(l: &[u8], word: &[u8], bound: u64) -> NextNumber
-    ensures { next_number_of result ≡ number_after word.now bound l.now }
+fn number_after(l: &[u8], word: &[u8], bound: u64) -> Option<(u64, Cursor)>
+    ensures { read_of result ≡ number_after word.now bound l.now }
 {
-    let NextWord::Same(next) = Cursor { at: 0 }.word(l, word) else {
-        return NextNumber::Unread;
-    };
-    next.number(l, bound)
+    Cursor { at: 0 }.word(l, word)?.number(l, bound)
 }
 
-// The field at a cursor as a byte string of a certain length.
-fn next_part(l: &[u8], c: Cursor, wanted: usize) -> NextPart
+// The field at a cursor as a byte string of a certain length, by the part that it fills.
+fn next_part(l: &[u8], c: Cursor, wanted: usize) -> Option<(Part, Cursor)>
     ensures read { next_part_of l.now result
         ≡ read_at (read_field (exactly wanted)) l.now c.at }
     ensures stands { NextPartStands l.now result }
 {
-    let at = c.at;
-    let NextBytes::Read { length, next } = c.bytes(l) else {
-        return NextPart::Unread;
-    };
+    let (length, next) = c.bytes(l)?;
     if length != wanted {
-        return NextPart::Unread;
+        return None;
     }
-    NextPart::Read {
-        part: Part {
-            start: at,
-            stop: next.at - 1,
-        },
-        next,
-    }
+    let part = Part {
+        start: c.at,
+        stop: next.at - 1,
+    };
+    Some((part, next))
 }
 
-// The field at a cursor as a byte string with which the line ends; whoever asks says which lengths
-// fit.
-fn last_bytes(l: &[u8], c: Cursor) -> LastBytes
+// The field at a cursor as a byte string with which the line ends, by that string's length and the
+// part that the field fills; whoever asks says which lengths fit.
+fn last_bytes(l: &[u8], c: Cursor) -> Option<(usize, Part)>
     ensures read { (fits : ℕ → Bool)
         → last_bytes_of l.now fits result
         ≡ read_fields (bytes fits ∷ []) (fields_from l.now c.at) }
     ensures stands { LastBytesStand l.now result }
 {
-    let at = c.at;
-    let NextBytes::Read { length, next } = c.bytes(l) else {
-        return LastBytes::Unread;
-    };
+    let (length, next) = c.bytes(l)?;
     if next.at <= l.len() {
-        return LastBytes::Unread;
+        return None;
     }
-    LastBytes::Read {
-        length,
-        part: Part {
-            start: at,
-            stop: next.at - 1,
-        },
-    }
+    let part = Part {
+        start: c.at,
+        stop: next.at - 1,
+    };
+    Some((length, part))
 }
 
 // The fields from a cursor on as two byte strings with which the line ends: the first of a certain
 // length, the second not too long.
-fn last_parts(l: &[u8], c: Cursor, wanted: usize, longest: usize) -> LastParts
+fn last_parts(l: &[u8], c: Cursor, wanted: usize, longest: usize) -> Option<(Part, Part)>
     ensures read { last_parts_of l.now result
         ≡ read_fields (exactly wanted ∷ up_to longest ∷ []) (fields_from l.now c.at) }
     ensures stands { LastPartsStand l.now result }
 {
-    let NextPart::Read { part: first, next } = next_part(l, c, wanted) else {
-        return LastParts::Unread;
-    };
-    let LastBytes::Read { length, part } = last_bytes(l, next) else {
-        return LastParts::Unread;
-    };
+    let (first, next) = next_part(l, c, wanted)?;
+    let (length, second) = last_bytes(l, next)?;
     if longest < length {
-        return LastParts::Unread;
+        return None;
     }
-    LastParts::Read {
-        first,
-        second: part,
-    }
+    Some((first, second))
 }

@@ -10,7 +10,7 @@ ghost use Rattle.inputs.specs.State.{label_fits, log_fits, pairs_fit, map_fits};
 use crate::refusal::Refusal;
 use tree::log_head::LogHead;
 
-// A label: its bytes, with zeros after them, and its length.
+// A label: its bytes, with zeros after them, and its length. No heap: the room is fixed (project rule).
 #[derive(Clone, Copy)]
 pub struct Label {
     pub bytes: [u8; State::LABEL],
@@ -18,7 +18,7 @@ pub struct Label {
 }
 
 // What is kept of the log: its size m, the time of entry m - 1, and the values of its full
-// subtrees, left to right, with zeros after them.
+// subtrees, left to right, with zeros after them. No heap: the room is fixed (project rule).
 #[derive(Clone, Copy)]
 pub struct KeptLog {
     pub size: u64,
@@ -27,7 +27,8 @@ pub struct KeptLog {
 }
 
 // The pairs of the monitoring map: their positions and their versions, with zeros after them, and
-// their number.
+// their number. No heap: the room is fixed (project rule).
+// Two arrays and no array of pairs is no plainer: tree::next_asked takes the positions as a slice.
 #[derive(Clone, Copy)]
 pub struct MonitoringMap {
     pub positions: [u64; State::PAIRS],

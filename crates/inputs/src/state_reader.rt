@@ -1,23 +1,24 @@
 // A state's text, read (paper 01, What a call is given): a `size` line, a `keep` line for each
 // value, a `pair` line for each pair of the map.
-ghost use Rattle.std.specs.Prelude.{◌≡◌, [], ◌∷◌, ◌≤◌, length, drop, set};
-ghost use Rattle.std.proofs.Math.Option.{none, some};
+ghost use Rattle.std.specs.Prelude.{◌≡◌, [], ◌∷◌, ◌+◌, ◌^◌, ◌<◌, ◌≤◌, length, drop};
+ghost use Rattle.std.proofs.Math.Option.{map};
+ghost use Rattle.lists.specs.Choice.{option_of};
 ghost use Rattle.lines.specs.Field.{up_to, read_fields};
-ghost use Rattle.lines.specs.Line.{Read, read_line};
+ghost use Rattle.lines.specs.Line.{read_line};
 ghost use Rattle.lines.specs.Cursor.{fields_from};
-ghost use Rattle.lines.specs.Readings.{as_digest};
-ghost use Rattle.rules.specs.Limits.{label_limit, state_text_limit};
+ghost use Rattle.rules.specs.Limits.{label_limit, map_limit, state_text_limit};
 ghost use Rattle.rules.specs.State.{State as StateRead};
 ghost use Rattle.rules.specs.StateText.{size_form, read_keep, read_pair, read_state, read_state_text};
-ghost use Rattle.inputs.specs.Refusal.{refusal_number};
-ghost use Rattle.inputs.specs.State.{numbered_block, numbered_of, state_of};
-ghost use Rattle.inputs.specs.StateReader.{labelled, as_size, pair_of, KeepsFrom, PairsFrom, ReadAs};
-ghost use Rattle.inputs.specs.StateReader.{if_valid, read_after_size, refused_by, or_refused};
+ghost use Rattle.inputs.specs.TextLine.{read_from};
+ghost use Rattle.inputs.specs.State.{block_of, numbered_block, numbered_of, state_of};
+ghost use Rattle.inputs.specs.StateReader.{label_read, size_read, pair_of, pair_from_of, with_pair};
+ghost use Rattle.inputs.specs.StateReader.{KeepsFrom, PairsFrom, ReadAs, if_valid};
 
 use crate::refusal::Refusal;
 use crate::state::{KeptLog, Label, MonitoringMap, Refused, State};
-use lines::cursor::{Cursor, NextBytes, NextLine, NextNumber, NextWord};
-use lines::hex::{Digest, read_digest};
+use crate::text_line::line_from;
+use lines::cursor::Cursor;
+use lines::hex::read_digest;
 use lines::layout::Word;
 use lines::writing::{put_bytes, put_decoded};
 use tree::log_head::LogHead;
@@ -25,20 +26,12 @@ use tree::log_head::LogHead;
 // The bytes of a value.
 const VALUE: usize = 32;
 
-// What a `size` line says: the size, the time and the label; zeros where none was found.
+// What a `size` line says: the size, the time and the label.
 #[derive(Clone, Copy)]
 struct SizeLine {
-    found: bool,
     size: u64,
     timestamp: u64,
     label: Label,
-}
-
-// A `pair` line, or another.
-#[derive(Clone, Copy)]
-enum PairLine {
-    Pair { position: u64, version: u32 },
-    Unread,
 }
 
 // The `keep` lines that follow each other: their number, the offset after them, and the first of
@@ -64,17 +57,9 @@ pub fn read_state(text: &[u8]) -> Result<State, Refused>
     ensures { numbered_of result ≡ numbered_block (read_state_text text.now) }
 {
     if State::TEXT < text.len() {
-        return refused(Refusal::Length);
+        return Err(Refused::with_empty_state(Refusal::Length));
     }
-    let start = Cursor { at: 0 };
-    let NextLine::Ended { stop, next } = start.line(text) else {
-        return refused(Refusal::State);
-    };
-    let first = size_line(&text[0..stop]);
-    if !first.found {
-        return refused(Refusal::State);
-    }
-    read_after_size(text, next.at, first)
+    read_valid_state(text).ok_or_else(|| Refused::with_empty_state(Refusal::State))
 }
 
 // The struct of the state that a text says; where it says none, as a text that is too long does,
@@ -92,181 +77,123 @@ pub fn state_in(text: &[u8]) -> State
     }
 }
 
-// The state that a `size` line and the text from an offset on say, or refusal 3.
-fn read_after_size(text: &[u8], from: usize, first: SizeLine) -> Result<State, Refused>
-    requires { (from ≤ length text.now) × (length text.now ≤ state_text_limit) }
-    ensures { (x : Read size_form) → first ≡ as_size (some x)
-        → numbered_of result ≡ numbered_block (or_refused (read_after_size x (drop from text.now))) }
+// The valid state that a text says.
+fn read_valid_state(text: &[u8]) -> Option<State>
+    requires { length text.now ≤ state_text_limit }
+    ensures { option_of result ≡ map block_of (read_state text.now) }
 {
-    let keeps = read_keeps(text, from);
-    let at = keeps.next;
-    let pairs = read_pairs(text, at);
+    let (line, next) = line_from(text, 0)?;
+    let first = size_line(line)?;
+    let keeps = read_keeps(text, next);
+    let pairs = read_pairs(text, keeps.next);
     if pairs.next < text.len() {
-        return refused(Refusal::State);
+        return None;
     }
-    checked(first, keeps, pairs)
+    state_from_lines(first, keeps, pairs)
 }
 
-// The state of what was read, if it is valid, or refusal 3.
-fn checked(first: SizeLine, keeps: Keeps, pairs: Pairs) -> Result<State, Refused>
+// The state of what was read, if it is valid.
+fn state_from_lines(first: SizeLine, keeps: Keeps, pairs: Pairs) -> Option<State>
     ensures { (st : StateRead) → ReadAs first keeps pairs st
-        → numbered_of result ≡ numbered_block (or_refused (if_valid st)) }
+        → option_of result ≡ map block_of (if_valid st) }
 {
     if keeps.count != u64::count_ones(first.size) as usize {
-        return refused(Refusal::State);
+        return None;
     }
     if (LogHead::LEVELS as usize) < keeps.count {
-        return refused(Refusal::State);
+        return None;
     }
-    let map = pairs.map;
-    if State::PAIRS < map.count {
-        return refused(Refusal::State);
+    if State::PAIRS < pairs.map.count {
+        return None;
     }
-    let label = first.label;
     let values = keeps.values;
     let log = KeptLog {
         size: first.size,
         timestamp: first.timestamp,
         values,
     };
-    let state = State { label, log, map };
-    if state.is_valid() {
-        return Ok(state);
-    }
-    refused(Refusal::State)
-}
-
-// A refusal, with the state of the empty label.
-fn refused(refusal: Refusal) -> Result<State, Refused>
-    ensures { numbered_of result ≡ numbered_block (refused_by (refusal_number refusal)) }
-{
-    Err(Refused::with_empty_state(refusal))
+    let state = State {
+        label: first.label,
+        log,
+        map: pairs.map,
+    };
+    state.is_valid().then_some(state)
 }
 
 // What a `size` line says.
-fn size_line(l: &[u8]) -> SizeLine
-    ensures { result ≡ as_size (read_line size_form l.now) }
+fn size_line(l: &[u8]) -> Option<SizeLine>
+    ensures { option_of result ≡ map size_read (read_line size_form l.now) }
 {
-    let start = Cursor { at: 0 };
-    let NextWord::Same(at_size) = start.word(l, &Word::SIZE) else {
-        return no_size();
-    };
-    let NextNumber::Read {
-        value: size,
-        next: at_timestamp,
-    } = at_size.number(l, u64::MAX)
-    else {
-        return no_size();
-    };
-    let NextNumber::Read {
-        value: timestamp,
-        next: at_label,
-    } = at_timestamp.number(l, u64::MAX)
-    else {
-        return no_size();
-    };
-    with_label(l, at_label.at, size, timestamp)
-}
-
-// What it says, once the size and the time are read.
-fn with_label(l: &[u8], at: usize, size: u64, timestamp: u64) -> SizeLine
-    ensures { result ≡ labelled size timestamp
-        (read_fields (up_to label_limit ∷ []) (fields_from l.now at)) }
-{
-    let cursor = Cursor { at };
-    let NextBytes::Read { length, next } = cursor.bytes(l) else {
-        return no_size();
-    };
-    if State::LABEL < length {
-        return no_size();
-    }
-    if next.at <= l.len() {
-        return no_size();
-    }
-    let field = cursor.field(l);
-    let mut bytes = [0u8; State::LABEL];
-    put_decoded(&mut bytes, 0, field);
-    SizeLine {
-        found: true,
+    let at_size = Cursor { at: 0 }.word(l, &Word::SIZE)?;
+    let (size, at_timestamp) = at_size.number(l, u64::MAX)?;
+    let (timestamp, at_label) = at_timestamp.number(l, u64::MAX)?;
+    let label = last_label(l, at_label)?;
+    Some(SizeLine {
         size,
         timestamp,
-        label: Label { bytes, length },
-    }
+        label,
+    })
 }
 
-// No `size` line.
-fn no_size() -> SizeLine
-    ensures { result ≡ as_size none }
+// The label with which a line ends, from a cursor on.
+fn last_label(l: &[u8], c: Cursor) -> Option<Label>
+    ensures { option_of result ≡ map label_read
+        (read_fields (up_to label_limit ∷ []) (fields_from l.now c.at)) }
 {
-    SizeLine {
-        found: false,
-        size: 0,
-        timestamp: 0,
-        label: Label {
-            bytes: [0u8; State::LABEL],
-            length: 0,
-        },
+    let (length, next) = c.bytes(l)?;
+    if State::LABEL < length {
+        return None;
     }
+    if next.at <= l.len() {
+        return None;
+    }
+    let mut bytes = [0u8; State::LABEL];
+    put_decoded(&mut bytes, 0, c.field(l));
+    Some(Label { bytes, length })
 }
 
 // The value of a `keep` line.
-fn keep_line(l: &[u8]) -> Digest
-    ensures { result ≡ as_digest (read_keep l.now) }
+fn keep_line(l: &[u8]) -> Option<[u8; 32]>
+    ensures { option_of result ≡ read_keep l.now }
 {
-    let start = Cursor { at: 0 };
-    let NextWord::Same(next) = start.word(l, &Word::KEEP) else {
-        return no_value();
-    };
-    let at = next.at;
-    if l.len() < at {
-        return no_value();
+    let next = Cursor { at: 0 }.word(l, &Word::KEEP)?;
+    if l.len() < next.at {
+        return None;
     }
     let field = next.field(l);
-    if field.len() < l.len() - at {
-        return no_value();
+    if field.len() < l.len() - next.at {
+        return None;
     }
     read_digest(field)
 }
 
-// No `keep` line.
-fn no_value() -> Digest
-    ensures { result ≡ as_digest none }
-{
-    Digest {
-        found: false,
-        value: [0u8; VALUE],
-    }
-}
-
-// The pair of a `pair` line.
-fn pair_line(l: &[u8]) -> PairLine
+// The position and the version of a `pair` line.
+fn pair_line(l: &[u8]) -> Option<(u64, u32)>
     ensures { pair_of result ≡ read_pair l.now }
 {
-    let start = Cursor { at: 0 };
-    let NextWord::Same(at_position) = start.word(l, &Word::PAIR) else {
-        return PairLine::Unread;
-    };
-    let NextNumber::Read {
-        value: position,
-        next: at_version,
-    } = at_position.number(l, u64::MAX)
-    else {
-        return PairLine::Unread;
-    };
-    let NextNumber::Read {
-        value: version,
-        next,
-    } = at_version.number(l, u32::MAX as u64)
-    else {
-        return PairLine::Unread;
-    };
+    let at_position = Cursor { at: 0 }.word(l, &Word::PAIR)?;
+    let (position, at_version) = at_position.number(l, u64::MAX)?;
+    let (version, next) = at_version.number(l, u32::MAX as u64)?;
     if next.at <= l.len() {
-        return PairLine::Unread;
+        return None;
     }
-    PairLine::Pair {
-        position,
-        version: version as u32,
-    }
+    Some((position, version as u32))
+}
+
+// The value of the `keep` line at an offset, and the offset after it.
+fn keep_from(text: &[u8], at: usize) -> Option<([u8; 32], usize)>
+    ensures { option_of result ≡ read_from read_keep text.now at }
+{
+    let (line, next) = line_from(text, at)?;
+    Some((keep_line(line)?, next))
+}
+
+// The pair of the `pair` line at an offset, and the offset after it.
+fn pair_from(text: &[u8], at: usize) -> Option<((u64, u32), usize)>
+    ensures { pair_from_of result ≡ read_from read_pair text.now at }
+{
+    let (line, next) = line_from(text, at)?;
+    Some((pair_line(line)?, next))
 }
 
 // The `keep` lines from an offset on.
@@ -277,27 +204,11 @@ fn read_keeps(text: &[u8], from: usize) -> Keeps
     let mut values = [0u8; LogHead::BLOCK];
     let mut count: usize = 0;
     let mut at = from;
-    while at < text.len() {
-        let start = Cursor { at };
-        let NextLine::Ended { stop, next } = start.line(text) else {
-            return Keeps {
-                count,
-                next: at,
-                values,
-            };
-        };
-        let keep = keep_line(&text[at..stop]);
-        if !keep.found {
-            return Keeps {
-                count,
-                next: at,
-                values,
-            };
-        }
-        let value = keep.value;
+    while let Some(keep) = keep_from(text, at) {
+        let (value, next) = keep;
         put_bytes(&mut values, VALUE * count, &value);
         count += 1;
-        at = next.at;
+        at = next;
     }
     Keeps {
         count,
@@ -311,55 +222,28 @@ fn read_pairs(text: &[u8], from: usize) -> Pairs
     requires { from ≤ length text.now }
     ensures { PairsFrom text.now from result }
 {
-    let mut positions = [0u64; State::PAIRS];
-    let mut versions = [0u32; State::PAIRS];
-    let mut count: usize = 0;
+    let mut map = MonitoringMap {
+        positions: [0; State::PAIRS],
+        versions: [0; State::PAIRS],
+        count: 0,
+    };
     let mut at = from;
-    while at < text.len() {
-        let start = Cursor { at };
-        let NextLine::Ended { stop, next } = start.line(text) else {
-            return Pairs {
-                map: MonitoringMap {
-                    positions,
-                    versions,
-                    count,
-                },
-                next: at,
-            };
-        };
-        let PairLine::Pair { position, version } = pair_line(&text[at..stop]) else {
-            return Pairs {
-                map: MonitoringMap {
-                    positions,
-                    versions,
-                    count,
-                },
-                next: at,
-            };
-        };
-        put_pair(&mut positions, &mut versions, count, position, version);
-        count += 1;
-        at = next.at;
+    while let Some(((position, version), next)) = pair_from(text, at) {
+        put_pair(&mut map, position, version);
+        at = next;
     }
-    Pairs {
-        map: MonitoringMap {
-            positions,
-            versions,
-            count,
-        },
-        next: at,
-    }
+    Pairs { map, next: at }
 }
 
-// Stores a pair, where there is room for it.
-fn put_pair(positions: &mut [u64], versions: &mut [u32], i: usize, position: u64, version: u32)
-    requires { length positions.old ≡ length versions.old }
-    ensures { (positions.new ≡ set positions.old i position)
-        × (versions.new ≡ set versions.old i version) }
+// Counts a pair, and stores it where there is room for it.
+fn put_pair(map: &mut MonitoringMap, position: u64, version: u32)
+    requires counts { map.old.count + 1 < 2 ^ 64 }
+    requires room { (length map.old.positions ≡ map_limit) × (length map.old.versions ≡ map_limit) }
+    ensures { map.new ≡ with_pair map.old position version }
 {
-    if positions.len() <= i {
-        return;
+    if map.count < State::PAIRS {
+        map.positions[map.count] = position;
+        map.versions[map.count] = version;
     }
-    positions[i] = position;
-    versions[i] = version;
+    map.count += 1;
 }

@@ -1,8 +1,8 @@
 // The VRF outputs that the chip approved, which paper 01 calls the sheet.
-ghost use Rattle.std.specs.Prelude.{◌≡◌, ◌+◌, ◌*◌, ◌/◌, ◌<◌, length};
+ghost use Rattle.std.specs.Prelude.{◌≡◌};
 ghost use Rattle.lists.specs.Choice.{is_some};
-ghost use Rattle.rules.specs.VrfOutputs.{record_length, read_outputs};
-ghost use Rattle.inputs.specs.VrfOutputs.{record_at, IsRecordOf, IsOfSomeRecord};
+ghost use Rattle.rules.specs.VrfOutputs.{read_record, read_outputs};
+ghost use Rattle.inputs.specs.VrfOutputs.{IsRecordOf, IsOfSomeRecord};
 
 // The bytes of a version, of an output, and of a record of the two.
 const VERSION: usize = 4;
@@ -22,61 +22,46 @@ pub struct FoundOutput {
 pub fn outputs_rise(outputs: &[u8]) -> bool
     ensures { result ≡ is_some (read_outputs outputs.now) }
 {
-    if outputs.len() % RECORD != 0 {
+    let (records, rest) = outputs.as_chunks::<RECORD>();
+    if rest.len() != 0 {
         return false;
     }
-    for i in 1..outputs.len() / RECORD {
-        if version_at(outputs, i) <= version_at(outputs, i - 1) {
+    for i in 1..records.len() {
+        if version_of(&records[i]) <= version_of(&records[i - 1]) {
             return false;
         }
     }
     true
 }
 
-// The output of a version, found by halving. Of bytes that are no outputs it is that of some record
-// of the version, or none.
+// The output of a version. Of bytes that are no outputs it is that of some record of the version,
+// or none.
 pub fn find_output(outputs: &[u8], version: u32) -> Option<FoundOutput>
     ensures rising { IsRecordOf outputs.now version result }
     ensures any { IsOfSomeRecord outputs.now version result }
 {
-    let mut low: usize = 0;
-    let mut high: usize = outputs.len() / RECORD;
-    while low < high {
-        let middle = low + (high - low) / 2;
-        let there = version_at(outputs, middle);
-        if there == version {
-            return Some(FoundOutput {
-                index: middle,
-                output: output_at(outputs, middle),
-            });
-        }
-        if there < version {
-            low = middle + 1;
-        } else {
-            high = middle;
-        }
-    }
-    None
+    let (records, _) = outputs.as_chunks::<RECORD>();
+    let Ok(index) = records.binary_search_by_key(&version, |record| version_of(record)) else {
+        return None;
+    };
+    Some(FoundOutput {
+        index,
+        output: output_of(&records[index]),
+    })
 }
 
 // The version of a record.
-fn version_at(outputs: &[u8], i: usize) -> u32
-    requires { i < length outputs.now / record_length }
-    ensures { result ≡ (record_at outputs.now i).version }
+fn version_of(bytes: &[u8; RECORD]) -> u32
+    ensures { result ≡ (read_record bytes.now).version }
 {
-    let at = RECORD * i;
-    let mut bytes = [0u8; VERSION];
-    bytes.copy_from_slice(&outputs[at..at + VERSION]);
-    u32::from_be_bytes(bytes)
+    u32::from_be_bytes([bytes[0], bytes[1], bytes[2], bytes[3]])
 }
 
 // The output of a record.
-fn output_at(outputs: &[u8], i: usize) -> [u8; OUTPUT]
-    requires { i < length outputs.now / record_length }
-    ensures { result ≡ (record_at outputs.now i).output }
+fn output_of(bytes: &[u8; RECORD]) -> [u8; OUTPUT]
+    ensures { result ≡ (read_record bytes.now).output }
 {
-    let at = RECORD * i + VERSION;
     let mut output = [0u8; OUTPUT];
-    output.copy_from_slice(&outputs[at..at + OUTPUT]);
+    output.copy_from_slice(&bytes[VERSION..]);
     output
 }

@@ -48,7 +48,8 @@ module _ {A : Type 0} (read : Bytes → Option A) (l : Bytes) (at : ℕ) where
   read_none f e h r = rw (le-leb at (length l) h, ← e, r) refl
 
   -- of any other its reader's value is read, and the offset after it is known
-  pub read_some : (f : Bytes) → f ≡ field_at l at → at ≤ length l → (a : A) → read f ≡ some a → read_at read l at ≡ some (a, at + length f + 1)
+  pub read_some : (f : Bytes) → f ≡ field_at l at → at ≤ length l → (a : A) → read f ≡ some a
+      → read_at read l at ≡ some (a, at + length f + 1)
   unfolding read_at ◌>>◌ bind
   read_some f e h a r = rw (le-leb at (length l) h, ← e, r) refl
 
@@ -68,6 +69,7 @@ module _ (w l : Bytes) (at : ℕ) where
   word-other f e h d = rw (read_none (one_word w) l at f e h (rw d refl)) refl
 
   -- a field that is the word, and the offset after it
-  pub word_same : (f : Bytes) → f ≡ field_at l at → at ≤ length l → same f w ≡ true → word_at w l at ≡ some (at + length f + 1)
+  pub word_same : (f : Bytes) → f ≡ field_at l at → at ≤ length l → same f w ≡ true
+      → word_at w l at ≡ some (at + length f + 1)
   unfolding word_at
   word_same f e h d = rw (read_some (one_word w) l at f e h tt (provided_true (same f w) tt d)) refl

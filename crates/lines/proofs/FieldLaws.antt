@@ -37,7 +37,9 @@ Fits (f ∷ fs) (v, vs) = FitsField f v × Fits fs vs
 pub read_field_lem : (f : Field) (v : Value f) → FitsField f v → read_field f (write_field f v) ≡ some v
 unfolding read_field write_field
 read_field_lem (number bound) v h = read_decimal bound v h
-read_field_lem (bytes fits) v h = bind_at _ (λ (b : Bytes). fits (length b) >> some b) v (read_hex_lem v h.1) ∙ test_true (fits (length v)) (some v) h.0
+read_field_lem (bytes fits) v h =
+    bind_at _ (λ (b : Bytes). fits (length b) >> some b) v (read_hex_lem v h.1)
+    ∙ test_true (fits (length v)) (some v) h.0
 
 -- what reads as a value is what is written for it, and the value fits
 pub field_read : (f : Field) (p : Bytes) (v : Value f) → read_field f p ≡ some v → (p ≡ write_field f v) × FitsField f v
@@ -57,13 +59,15 @@ read_fields_lem [] vs h = refl
 read_fields_lem (f ∷ fs) (v, vs) (h, i) = rw (read_field_lem f v h, read_fields_lem fs vs i) refl
 
 -- parts that read as values are what is written for them, and the values fit
-pub fields_read : (fs : List Field) (ps : List Bytes) (vs : Values fs) → read_fields fs ps ≡ some vs → (ps ≡ write_fields fs vs) × Fits fs vs
+pub fields_read : (fs : List Field) (ps : List Bytes) (vs : Values fs) → read_fields fs ps ≡ some vs
+    → (ps ≡ write_fields fs vs) × Fits fs vs
 unfolding read_fields write_fields
 fields_read [] [] vs e = (refl, tt)
 fields_read [] (p ∷ ps) vs e = absurd (none-ne-some vs e)
 fields_read (f ∷ fs) [] vs e = absurd (none-ne-some vs e)
 fields_read (f ∷ fs) (p ∷ ps) vs e =
-    let (v, r, t) = bind_some (read_field f p) (λ (v : Value f). bind (read_fields fs ps) (λ (us : Values fs). some (v, us))) vs e in
+    let (v, r, t) =
+    bind_some (read_field f p) (λ (v : Value f). bind (read_fields fs ps) (λ (us : Values fs). some (v, us))) vs e in
     let (us, q, u) = bind_some (read_fields fs ps) (λ (us : Values fs). some (v, us)) vs t in
     let i : ◌≡◌ {A = Values (f ∷ fs)} (v, us) vs = some-injective (v, us) vs u in
     let (w, h) = field_read f p v r in
@@ -71,10 +75,12 @@ fields_read (f ∷ fs) (p ∷ ps) vs e =
     rw (← i) (ap₂ ◌∷◌ w x, (h, j))
 
 -- the words of a line are passed over
-pub read_after_lem : (ws : List Bytes) (fs : List Field) (ps : List Bytes) → read_after ws fs (ws ++ ps) ≡ read_fields fs ps
+pub read_after_lem : (ws : List Bytes) (fs : List Field) (ps : List Bytes)
+    → read_after ws fs (ws ++ ps) ≡ read_fields fs ps
 unfolding read_after
 read_after_lem [] fs ps = refl
-read_after_lem (w ∷ ws) fs ps = test_true (same w w) (read_after ws fs (ws ++ ps)) (same_refl w) ∙ read_after_lem ws fs ps
+read_after_lem (w ∷ ws) fs ps =
+    test_true (same w w) (read_after ws fs (ws ++ ps)) (same_refl w) ∙ read_after_lem ws fs ps
 
 -- parts that read after words are the words and what is written for the values
 pub after_read : (ws : List Bytes) (fs : List Field) (ps : List Bytes) (vs : Values fs) → read_after ws fs ps ≡ some vs
@@ -97,4 +103,6 @@ field_plain (bytes fits) v h = hex_field_plain v h.1
 pub fields_plain : (fs : List Field) (vs : Values fs) → Fits fs vs → all are_plain (write_fields fs vs) ≡ true
 unfolding write_fields all
 fields_plain [] vs h = refl
-fields_plain (f ∷ fs) (v, vs) (h, i) = holds_and (all is_plain (write_field f v)) (all are_plain (write_fields fs vs)) (field_plain f v h) (fields_plain fs vs i)
+fields_plain (f ∷ fs) (v, vs) (h, i) =
+    holds_and (all is_plain (write_field f v)) (all are_plain (write_fields fs vs)) (field_plain f v h)
+    (fields_plain fs vs i)

@@ -126,7 +126,8 @@ pub unhex_hex : (s : Bytes) → AreBytes s → unhex (hex s) ≡ s
 unfolding unhex hex
 unhex_hex [] h = refl
 unhex_hex (b ∷ s) (h, r) =
-    ap₂ ◌∷◌ (rw ((digit_value_lem (b / 16) (omega arith)).1, (digit_value_lem (b % 16) (omega arith)).1) (omega arith)) (unhex_hex s r)
+    ap₂ ◌∷◌ (rw ((digit_value_lem (b / 16) (omega arith)).1, (digit_value_lem (b % 16) (omega arith)).1) (omega arith))
+    (unhex_hex s r)
 
 -- bytes are written in hex digits
 pub hex_digits : (s : Bytes) → AreBytes s → all is_hex_digit (hex s) ≡ true
@@ -164,13 +165,16 @@ is_hex_lem s h p = let e = length_hex s in parts_hex (hex s) (omega arith) (omeg
 -- hex is not the dash
 hex_no_dash : (s : Bytes) → same (hex s) dash ≡ false
 unfolding dash ascii
-hex_no_dash s = differ_same (hex s) (45 ∷ []) (λ q. let e : length (hex s) ≡ 1 = ap length q in omega (arith, length_hex s))
+hex_no_dash s =
+    differ_same (hex s) (45 ∷ []) (λ q. let e : length (hex s) ≡ 1 = ap length q in omega (arith, length_hex s))
 
 -- a byte string once written reads as itself
 pub read_hex_lem : (s : Bytes) → AreBytes s → read_hex (hex_field s) ≡ some s
 unfolding read_hex hex_field
 read_hex_lem [] h = rw (same_refl dash) refl
-read_hex_lem (b ∷ s) h = rw (hex_no_dash (b ∷ s), unhex_hex (b ∷ s) h) (provided_true (is_hex (hex (b ∷ s))) (b ∷ s) (is_hex_lem (b ∷ s) h (omega arith)))
+read_hex_lem (b ∷ s) h =
+    rw (hex_no_dash (b ∷ s), unhex_hex (b ∷ s) h)
+    (provided_true (is_hex (hex (b ∷ s))) (b ∷ s) (is_hex_lem (b ∷ s) h (omega arith)))
 
 -- ---- writing what is read
 
@@ -207,7 +211,8 @@ pub hex_read : (f s : Bytes) → read_hex f ≡ some s → (f ≡ hex_field s) �
 unfolding read_hex hex_field
 hex_read f s e = go (same f dash) refl e
   where
-    go : (t : Bool) → same f dash ≡ t → cond t (some []) (provided (is_hex f) (unhex f)) ≡ some s → (f ≡ hex_field s) × AreBytes s
+    go : (t : Bool) → same f dash ≡ t → cond t (some []) (provided (is_hex f) (unhex f)) ≡ some s → (f ≡ hex_field s)
+        × AreBytes s
     go true p e = let q : [] ≡ s = some-injective [] s e in rw (← q) (same_true f dash p, tt)
     go false p e = let (t, q) = provided_some (is_hex f) (unhex f) s e in rw (← q) (hex_was f t)
 

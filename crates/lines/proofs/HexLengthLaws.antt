@@ -44,7 +44,8 @@ unhex_field [] h = refl
 unhex_field (b ∷ s) h = unhex_hex (b ∷ s) h
 
 -- where a field encodes a byte string of some length, it is the one that its digits encode
-pub decoded_was : (f : Bytes) (n : ℕ) → some n ≡ decoded_length f → (read_hex f ≡ some (unhex f)) × (length (unhex f) ≡ n)
+pub decoded_was : (f : Bytes) (n : ℕ) → some n ≡ decoded_length f → (read_hex f ≡ some (unhex f))
+    × (length (unhex f) ≡ n)
 unfolding decoded_length
 decoded_was f n e =
     let (v, r, l) = map_some (λ (b : Bytes). length b) (read_hex f) n (sym e) in
@@ -62,7 +63,8 @@ decoded_not f e = go (read_hex f) e
     go (some v) e = cc
 
 -- each byte of a field that encodes a byte string, if there are several, is a hex digit
-pub decoded_digit : (f v : Bytes) (i : ℕ) → read_hex f ≡ some v → 1 < length f → i < length f → is_hex_digit (get_or f i 0) ≡ true
+pub decoded_digit : (f v : Bytes) (i : ℕ) → read_hex f ≡ some v → 1 < length f → i < length f
+    → is_hex_digit (get_or f i 0) ≡ true
 unfolding hex_field dash ascii
 decoded_digit f v i e m h = let (w, b) = hex_read f v e in there f i (digits v w b) h
   where
@@ -105,7 +107,8 @@ module _ (s : Bytes) (d : same s dash ≡ false) where
   decoded-other h = decoded-none (λ e. false≢true (sym h ∙ (hex_parts s e).2))
 
   -- pairs of digits encode a byte each
-  pub decoded-half : 0 < length s → length s % 2 ≡ 0 → all is_hex_digit s ≡ true → decoded_length s ≡ some (length s / 2)
+  pub decoded-half : 0 < length s → length s % 2 ≡ 0 → all is_hex_digit s ≡ true
+      → decoded_length s ≡ some (length s / 2)
   unfolding decoded_length read_hex
   decoded-half p m a =
       let n : length (unhex s) ≡ length s / 2 = omega (arith, length_hex (unhex s), ap length (hex_unhex s a m).0) in

@@ -35,7 +35,8 @@ all_lack_append k [] qs h i = i
 all_lack_append k (p ∷ ps) qs h i = (h.0, all_lack_append k ps qs h.1 i)
 
 -- if each of some texts lacks a byte, they all do
-pub all_lack_map : {A : Type 0} (k : ℕ) (text : A → Bytes) (xs : List A) → ((a : A) → Memᴰ a xs → Lacks k (text a)) → AllLack k (map text xs)
+pub all_lack_map : {A : Type 0} (k : ℕ) (text : A → Bytes) (xs : List A) → ((a : A) → Memᴰ a xs → Lacks k (text a))
+    → AllLack k (map text xs)
 all_lack_map k text [] h = tt
 all_lack_map k text (x ∷ xs) h = (h x (Memᴰ.head refl), all_lack_map k text xs (λ b m. h b (Memᴰ.tail m)))
 
@@ -81,7 +82,8 @@ parts_some k (b ∷ s) = step b (eqb b k) (parts_at k s) (parts_some k s)
 pub parts_joined : (k : ℕ) (p : Bytes) (ps : List Bytes) → AllLack k (p ∷ ps) → parts_at k (joined k (p ∷ ps)) ≡ p ∷ ps
 unfolding joined
 parts_joined k p [] h = parts_last k p h.0
-parts_joined k p (q ∷ ps) h = parts_more k p (joined k (q ∷ ps)) h.0 ∙ ap (λ (r : List Bytes). p ∷ r) (parts_joined k q ps h.1)
+parts_joined k p (q ∷ ps) h =
+    parts_more k p (joined k (q ∷ ps)) h.0 ∙ ap (λ (r : List Bytes). p ∷ r) (parts_joined k q ps h.1)
 
 -- a byte put onto the first part stands before what the parts join to
 joined_onto : (k b : ℕ) (ps : List Bytes) → joined k (onto_first b ps) ≡ b ∷ joined k ps
@@ -96,9 +98,12 @@ unfolding parts_at joined
 joined_parts k [] = refl
 joined_parts k (b ∷ s) = step (eqb b k) refl (parts_at k s) (parts_some k s) (joined_parts k s)
   where
-    step : (t : Bool) → eqb b k ≡ t → (qs : List Bytes) → (p : Bytes) × (ps : List Bytes) × (qs ≡ p ∷ ps) → joined k qs ≡ s
+    step : (t : Bool) → eqb b k ≡ t → (qs : List Bytes) → (p : Bytes) × (ps : List Bytes) × (qs ≡ p ∷ ps)
+        → joined k qs ≡ s
         → joined k (cond t ([] ∷ qs) (onto_first b qs)) ≡ b ∷ s
-    step true e qs (p, ps, h) i = let j : joined k (p ∷ ps) ≡ s = ap (joined k) (sym h) ∙ i in rw h (ap₂ ◌∷◌ (sym (eqb-true b k e)) j)
+    step true e qs (p, ps, h) i =
+        let j : joined k (p ∷ ps) ≡ s = ap (joined k) (sym h) ∙ i in
+        rw h (ap₂ ◌∷◌ (sym (eqb-true b k e)) j)
     step false e qs h i = joined_onto k b qs ∙ ap (λ (r : Bytes). b ∷ r) i
 
 -- no part has the byte at which it was parted
@@ -139,17 +144,20 @@ unfolding write_line line_text line
 write_line_lem f vs = refl
 
 -- no word and no field of a line has a tab or a newline
-parts_plain : (f : Form) (vs : Read f) → is_plain_form f ≡ true → Fits f.fields vs → all are_plain (line_parts f vs) ≡ true
+parts_plain : (f : Form) (vs : Read f) → is_plain_form f ≡ true → Fits f.fields vs
+    → all are_plain (line_parts f vs) ≡ true
 parts_plain f vs p h =
     let a = (and_holds (ltb 0 (length f.words)) (all are_plain f.words) p).1 in
     all_append are_plain f.words (write_fields f.fields vs) a (fields_plain f.fields vs h)
 
 -- the parts of a line are its words and fields
-pub line_parts_lem : (f : Form) (vs : Read f) → is_plain_form f ≡ true → Fits f.fields vs → parts_at tab (line_text f vs) ≡ line_parts f vs
+pub line_parts_lem : (f : Form) (vs : Read f) → is_plain_form f ≡ true → Fits f.fields vs
+    → parts_at tab (line_text f vs) ≡ line_parts f vs
 unfolding line_text
 line_parts_lem f vs p h =
     let l = (and_holds (ltb 0 (length f.words)) (all are_plain f.words) p).0 in
-    go (line_parts f vs) (omega (arith, ltb-true 0 (length f.words) l, length-append f.words (write_fields f.fields vs)))
+    go (line_parts f vs)
+    (omega (arith, ltb-true 0 (length f.words) l, length-append f.words (write_fields f.fields vs)))
     (plain_lack tab (line_parts f vs) refl (parts_plain f vs p h))
   where
     go : (ps : List Bytes) → 0 < length ps → AllLack tab ps → parts_at tab (joined tab ps) ≡ ps
@@ -157,7 +165,8 @@ line_parts_lem f vs p h =
     go (q ∷ ps) l h = parts_joined tab q ps h
 
 -- values that fit, once written as a line, read as themselves
-pub read_line_lem : (f : Form) (vs : Read f) → is_plain_form f ≡ true → Fits f.fields vs → read_line f (line_text f vs) ≡ some vs
+pub read_line_lem : (f : Form) (vs : Read f) → is_plain_form f ≡ true → Fits f.fields vs
+    → read_line f (line_text f vs) ≡ some vs
 unfolding read_line
 read_line_lem f vs p h =
     ap (read_after f.words f.fields) (line_parts_lem f vs p h)
@@ -174,10 +183,13 @@ line_read f l vs e =
 -- a line has no newline before its end
 pub line_lacks : (f : Form) (vs : Read f) → is_plain_form f ≡ true → Fits f.fields vs → Lacks newline (line_text f vs)
 unfolding line_text
-line_lacks f vs p h = joined_lacks tab newline (line_parts f vs) (λ e. omega arith) (plain_lack newline (line_parts f vs) refl (parts_plain f vs p h))
+line_lacks f vs p h =
+    joined_lacks tab newline (line_parts f vs) (λ e. omega arith)
+    (plain_lack newline (line_parts f vs) refl (parts_plain f vs p h))
 
 -- a line of one form is no line of another whose first word is another
-pub read_other : (f g : Form) (vs : Read g) (w p : Bytes) (ws ps : List Bytes) → f.words ≡ w ∷ ws → g.words ≡ p ∷ ps → same p w ≡ false
+pub read_other : (f g : Form) (vs : Read g) (w p : Bytes) (ws ps : List Bytes) → f.words ≡ w ∷ ws → g.words ≡ p ∷ ps
+    → same p w ≡ false
     → is_plain_form g ≡ true → Fits g.fields vs → read_line f (line_text g vs) ≡ none
 unfolding read_line read_after ◌>>◌
 read_other f g vs w p ws ps i j n q h =
@@ -195,7 +207,9 @@ lines_text (l ∷ ls) = l ++ newline ∷ lines_text ls
 -- the text of lines, then that of others
 pub text_append : (ls ms : List Bytes) → lines_text (ls ++ ms) ≡ lines_text ls ++ lines_text ms
 text_append [] ms = refl
-text_append (l ∷ ls) ms = ap (λ (t : Bytes). l ++ newline ∷ t) (text_append ls ms) ∙ sym (append_assoc l (newline ∷ lines_text ls) (lines_text ms))
+text_append (l ∷ ls) ms =
+    ap (λ (t : Bytes). l ++ newline ∷ t) (text_append ls ms)
+    ∙ sym (append_assoc l (newline ∷ lines_text ls) (lines_text ms))
 
 -- lines written one after the other are the text of the lines
 pub text_written : {A : Type 0} (write text : A → Bytes) → ((a : A) → write a ≡ text a ++ newline ∷ [])
@@ -218,7 +232,8 @@ text_short k text (x ∷ xs) h =
 parts_lines : (ls : List Bytes) → AllLack newline ls → parts_at newline (lines_text ls) ≡ ls ++ [] ∷ []
 unfolding parts_at
 parts_lines [] h = refl
-parts_lines (l ∷ ls) (h, i) = parts_more newline l (lines_text ls) h ∙ ap (λ (ps : List Bytes). l ∷ ps) (parts_lines ls i)
+parts_lines (l ∷ ls) (h, i) =
+    parts_more newline l (lines_text ls) h ∙ ap (λ (ps : List Bytes). l ∷ ps) (parts_lines ls i)
 
 -- lines without inner newlines, each ended by one, read as themselves
 pub lines_joined : (ls : List Bytes) → AllLack newline ls → read_lines (lines_text ls) ≡ some ls
@@ -247,8 +262,12 @@ pub joined_lines : (s : Bytes) (ls : List Bytes) → read_lines s ≡ some ls �
 unfolding read_lines
 joined_lines s ls e =
     let (r, l) = provided_some (same (open_rest s) []) (ended_lines s) ls e in
-    let q : parts_at newline s ≡ ls ++ [] ∷ [] = parts_ended s ∙ ap₂ (λ (ms : List Bytes) (t : Bytes). ms ++ t ∷ []) l (same_true (open_rest s) [] r) in
-    (sym (joined_parts newline s) ∙ ap (joined newline) q ∙ joined_text ls, all_lack_first newline ls ([] ∷ []) (rw q at (parts_lack newline s)))
+    let q : parts_at newline s ≡ ls ++ [] ∷ [] =
+    parts_ended s ∙ ap₂ (λ (ms : List Bytes) (t : Bytes). ms ++ t ∷ []) l (same_true (open_rest s) [] r) in (
+      sym (joined_parts newline s) ∙ ap (joined newline) q ∙ joined_text ls,
+      all_lack_first newline ls ([] ∷ [])
+          (rw q at (parts_lack newline s)),
+    )
 
 -- ---- leading lines
 
@@ -264,12 +283,14 @@ module _ {A : Type 0} (read : Bytes → Option A) where
   leading-none l ls e = rw e refl
 
   -- a line that it takes leads those after it
-  pub leading-some : (l : Bytes) (ls : List Bytes) (a : A) → read l ≡ some a → leading read (l ∷ ls) ≡ (a ∷ (leading read ls).0, (leading read ls).1)
+  pub leading-some : (l : Bytes) (ls : List Bytes) (a : A) → read l ≡ some a
+      → leading read (l ∷ ls) ≡ (a ∷ (leading read ls).0, (leading read ls).1)
   unfolding leading Option-elim and_then
   leading-some l ls a e = rw e refl
 
   -- lines that read as values lead the lines after them, if of those none leads
-  pub leading-all : (text : A → Bytes) (xs : List A) (ls : List Bytes) → ((a : A) → Memᴰ a xs → read (text a) ≡ some a) → leading read ls ≡ ([], ls)
+  pub leading-all : (text : A → Bytes) (xs : List A) (ls : List Bytes) → ((a : A) → Memᴰ a xs → read (text a) ≡ some a)
+      → leading read ls ≡ ([], ls)
       → leading read (map text xs ++ ls) ≡ (xs, ls)
   leading-all text [] ls h e = e
   leading-all text (x ∷ xs) ls h e =
@@ -290,7 +311,8 @@ module _ {A : Type 0} (read : Bytes → Option A) where
       go (some a) e i = rw (leading-some l ls a e) (ap₂ ◌∷◌ (h l a e) i)
 
   -- what holds of each value that is read holds of the leading ones
-  pub leading-each : (P : A → Type 0) → ((l : Bytes) (a : A) → read l ≡ some a → P a) → (ls : List Bytes) (a : A) → Memᴰ a (leading read ls).0 → P a
+  pub leading-each : (P : A → Type 0) → ((l : Bytes) (a : A) → read l ≡ some a → P a) → (ls : List Bytes) (a : A)
+      → Memᴰ a (leading read ls).0 → P a
   unfolding leading
   leading-each P h [] a m = absurd (Memᴰ.not-nil m)
   leading-each P h (l ∷ ls) a m = go (read l) refl (λ i. leading-each P h ls a i) m

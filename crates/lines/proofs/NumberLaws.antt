@@ -29,11 +29,6 @@ pub is_digit_lem : (b : ℕ) → 48 ≤ b → b ≤ 57 → is_digit b ≡ true
 unfolding is_digit
 is_digit_lem b l h = holds_and (leb 48 b) (leb b 57) (le-leb 48 b l) (le-leb b 57 h)
 
--- a byte below 48 is none
-pub below_digits : (b : ℕ) → b < 48 → is_digit b ≡ false
-unfolding is_digit
-below_digits b h = rw (lt-leb 48 b h) refl
-
 -- nor is one above 57
 pub above_digits : (b : ℕ) → 57 < b → is_digit b ≡ false
 unfolding is_digit
@@ -45,7 +40,9 @@ is_plain b = not (eqb b tab) && not (eqb b newline)
 
 -- every byte above these two is such a byte
 pub is_plain_lem : (b : ℕ) → newline < b → is_plain b ≡ true
-is_plain_lem b h = holds_and (not (eqb b tab)) (not (eqb b newline)) (ap not (ne_eqb b tab (λ e. omega arith))) (ap not (ne_eqb b newline (λ e. omega arith)))
+is_plain_lem b h =
+    holds_and (not (eqb b tab)) (not (eqb b newline)) (ap not (ne_eqb b tab (λ e. omega arith)))
+    (ap not (ne_eqb b newline (λ e. omega arith)))
 
 -- digits of which the first is not 0 are a decimal number
 decimal_many : (b : ℕ) (s : Bytes) → (b ≡ 48 → ⊥) → all is_digit (b ∷ s) ≡ true → is_decimal (b ∷ s) ≡ true
@@ -74,7 +71,8 @@ from_more k n h = rw (le-ltb n 10 h) refl
 -- what holds of one digit, and of digits and one more if it holds of those without it, holds of a
 -- number written in steps enough
 from_by : (P : ℕ → Bytes → Type 0) → ((n : ℕ) → n < 10 → P n ((48 + n) ∷ []))
-    → ((n : ℕ) (s : Bytes) → 10 ≤ n → P (n / 10) s → P n (s ++ (48 + n % 10) ∷ [])) → (k n : ℕ) → n < k → P n (decimal_from k n)
+    → ((n : ℕ) (s : Bytes) → 10 ≤ n → P (n / 10) s → P n (s ++ (48 + n % 10) ∷ [])) → (k n : ℕ) → n < k
+    → P n (decimal_from k n)
 from_by P one more zero n h = absurd (omega arith)
 from_by P one more (suc k) n h = go (dec_lt n 10) (λ p. from_by P one more k (n / 10) p)
   where
@@ -90,7 +88,8 @@ from_fuel k l n h = from_by (λ n s. (l : ℕ) → n < l → s ≡ decimal_from 
     one n p zero b = absurd (omega arith)
     one n p (suc l) b = sym (from_last l n p)
 
-    more : (n : ℕ) (s : Bytes) → 10 ≤ n → ((l : ℕ) → n / 10 < l → s ≡ decimal_from l (n / 10)) → (l : ℕ) → n < l → s ++ (48 + n % 10) ∷ [] ≡ decimal_from l n
+    more : (n : ℕ) (s : Bytes) → 10 ≤ n → ((l : ℕ) → n / 10 < l → s ≡ decimal_from l (n / 10)) → (l : ℕ) → n < l
+        → s ++ (48 + n % 10) ∷ [] ≡ decimal_from l n
     more n s p ih zero b = absurd (omega arith)
     more n s p ih (suc l) b = ap (λ (t : Bytes). t ++ (48 + n % 10) ∷ []) (ih l (omega arith)) ∙ sym (from_more l n p)
 
@@ -111,7 +110,8 @@ pub decimal_more : (n : ℕ) → 10 ≤ n → decimal n ≡ decimal (n / 10) ++ 
 unfolding decimal
 decimal_more n h =
     let e : n + 1 ≡ suc n = omega arith in
-    rw e (from_more n n h) ∙ ap (λ (t : Bytes). t ++ (48 + n % 10) ∷ []) (from_fuel n (n / 10 + 1) (n / 10) (omega arith) (omega arith))
+    rw e (from_more n n h)
+    ∙ ap (λ (t : Bytes). t ++ (48 + n % 10) ∷ []) (from_fuel n (n / 10 + 1) (n / 10) (omega arith) (omega arith))
 
 -- ---- reading what is written
 
@@ -124,20 +124,32 @@ digits_decimal = decimal_by (λ n s. digits_after 0 s ≡ n) (λ n h. omega arit
     more n s h e = digits_append 0 s ((48 + n % 10) ∷ []) ∙ rw e (omega arith)
 
 -- a number is written in digits, at least one, and the first is 0 only of 0
-pub decimal_form : (n : ℕ) → (b : ℕ) × (t : Bytes) × (decimal n ≡ b ∷ t) × (all is_digit (b ∷ t) ≡ true) × (0 < n → b ≡ 48 → ⊥)
+pub decimal_form : (n : ℕ) → (b : ℕ) × (t : Bytes) × (decimal n ≡ b ∷ t) × (all is_digit (b ∷ t) ≡ true)
+    × (0 < n → b ≡ 48 → ⊥)
 unfolding all
-decimal_form = decimal_by (λ n s. (b : ℕ) × (t : Bytes) × (s ≡ b ∷ t) × (all is_digit (b ∷ t) ≡ true) × (0 < n → b ≡ 48 → ⊥)) one more
+decimal_form =
+    decimal_by (λ n s. (b : ℕ) × (t : Bytes) × (s ≡ b ∷ t) × (all is_digit (b ∷ t) ≡ true) × (0 < n → b ≡ 48 → ⊥)) one
+    more
   where
     digit : (d : ℕ) → d < 10 → all is_digit ((48 + d) ∷ []) ≡ true
     digit d h = cons_all is_digit (48 + d) [] (is_digit_lem (48 + d) (omega arith) (omega arith)) refl
 
-    one : (n : ℕ) → n < 10 → (b : ℕ) × (t : Bytes) × ((48 + n) ∷ [] ≡ b ∷ t) × (all is_digit (b ∷ t) ≡ true) × (0 < n → b ≡ 48 → ⊥)
+    one : (n : ℕ) → n < 10 → (b : ℕ) × (t : Bytes) × ((48 + n) ∷ [] ≡ b ∷ t) × (all is_digit (b ∷ t) ≡ true)
+        × (0 < n → b ≡ 48 → ⊥)
     one n h = (48 + n, [], refl, digit n h, λ p q. omega arith)
 
-    more : (n : ℕ) (s : Bytes) → 10 ≤ n → (b : ℕ) × (t : Bytes) × (s ≡ b ∷ t) × (all is_digit (b ∷ t) ≡ true) × (0 < n / 10 → b ≡ 48 → ⊥)
-        → (b : ℕ) × (t : Bytes) × (s ++ (48 + n % 10) ∷ [] ≡ b ∷ t) × (all is_digit (b ∷ t) ≡ true) × (0 < n → b ≡ 48 → ⊥)
-    more n s h (b, t, e, a, f) =
-        (b, t ++ (48 + n % 10) ∷ [], rw e refl, all_append is_digit (b ∷ t) ((48 + n % 10) ∷ []) a (digit (n % 10) (omega arith)), λ p. f (omega arith))
+    more : (n : ℕ) (s : Bytes) → 10 ≤ n → (b : ℕ) × (t : Bytes) × (s ≡ b ∷ t) × (all is_digit (b ∷ t) ≡ true)
+        × (0 < n / 10 → b ≡ 48 → ⊥)
+        → (b : ℕ) × (t : Bytes) × (s ++ (48 + n % 10) ∷ [] ≡ b ∷ t) × (all is_digit (b ∷ t) ≡ true)
+        × (0 < n → b ≡ 48 → ⊥)
+    more n s h (b, t, e, a, f) = (
+      b,
+      t ++ (48 + n % 10) ∷ [],
+      rw e refl,
+      all_append is_digit (b ∷ t) ((48 + n % 10) ∷ []) a
+          (digit (n % 10) (omega arith)),
+      λ p. f (omega arith),
+    )
 
 -- what is written is a decimal number
 pub is_decimal_lem : (n : ℕ) → is_decimal (decimal n) ≡ true
@@ -151,7 +163,9 @@ is_decimal_lem n = go (dec_lt n 10)
 -- a number not above the bound, once written, reads as itself
 pub read_decimal : (bound n : ℕ) → n ≤ bound → read_number bound (decimal n) ≡ some n
 unfolding read_number
-read_decimal bound n h = rw (digits_decimal n) (provided_true _ n (holds_and (is_decimal (decimal n)) (leb n bound) (is_decimal_lem n) (le-leb n bound h)))
+read_decimal bound n h =
+    rw (digits_decimal n)
+    (provided_true _ n (holds_and (is_decimal (decimal n)) (leb n bound) (is_decimal_lem n) (le-leb n bound h)))
 
 -- ---- what is written
 
@@ -174,7 +188,9 @@ decimal_short k n = decimal_by (λ n s. (k : ℕ) → n < 10 ^ suc k → length 
 
 -- a number has no tab and no newline
 pub decimal_plain : (n : ℕ) → all is_plain (decimal n) ≡ true
-decimal_plain n = all_implied is_digit is_plain (decimal n) (λ b h. is_plain_lem b (omega (arith, digit_bounds b h))) (decimal_digits n)
+decimal_plain n =
+    all_implied is_digit is_plain (decimal n) (λ b h. is_plain_lem b (omega (arith, digit_bounds b h)))
+    (decimal_digits n)
 
 -- ---- writing what is read
 
@@ -212,7 +228,8 @@ decimal_was (b ∷ c ∷ s) e =
     let n : b ≡ 48 → ⊥ = eqb-false b 48 (not-true (eqb b 48) h.0) in
     let a = all_cons is_digit b (c ∷ s) h.1 in
     let (l, u) = digit_bounds b a.0 in
-    ap (λ (t : Bytes). t ++ c ∷ s) (decimal_digit b l u) ∙ decimal_digits_after (c ∷ s) (0 * 10 + (b - 48)) (omega arith) a.1
+    ap (λ (t : Bytes). t ++ c ∷ s) (decimal_digit b l u)
+    ∙ decimal_digits_after (c ∷ s) (0 * 10 + (b - 48)) (omega arith) a.1
 
 -- what reads as a number is what is written for it, and the number is not above the bound
 pub decimal_read : (bound : ℕ) (s : Bytes) (n : ℕ) → read_number bound s ≡ some n → (s ≡ decimal n) × (n ≤ bound)

@@ -53,7 +53,8 @@ module _ (k : ℕ) (s : Bytes) (i : ℕ) where
   span-stop h e = ap length (ap (before k) (at_cons s i h) ∙ before_stop k (get_or s i 0) (drop (i + 1) s) e)
 
   -- at any other byte one more stands before it than at the next offset
-  pub span_more : i < length s → (get_or s i 0 ≡ k → ⊥) → length (before k (drop i s)) ≡ suc (length (before k (drop (i + 1) s)))
+  pub span_more : i < length s → (get_or s i 0 ≡ k → ⊥)
+      → length (before k (drop i s)) ≡ suc (length (before k (drop (i + 1) s)))
   span_more h n = ap length (ap (before k) (at_cons s i h) ∙ before_byte k (get_or s i 0) (drop (i + 1) s) n)
 
   -- at the end nothing does
@@ -79,7 +80,8 @@ unfolding before
 before_front k [] = refl
 before_front k (b ∷ s) = go (eqb b k) refl (before_front k s)
   where
-    go : (t : Bool) → eqb b k ≡ t → before k s ≡ take (length (before k s)) s → before k (b ∷ s) ≡ take (length (before k (b ∷ s))) (b ∷ s)
+    go : (t : Bool) → eqb b k ≡ t → before k s ≡ take (length (before k s)) s
+        → before k (b ∷ s) ≡ take (length (before k (b ∷ s))) (b ∷ s)
     go true e i = rw (before_stop k b s (eqb-true b k e)) refl
     go false e i = rw (before_byte k b s (eqb-false b k e)) (ap (λ (t : Bytes). b ∷ t) i)
 
@@ -89,21 +91,25 @@ unfolding before after
 after_rest k [] = refl
 after_rest k (b ∷ s) = go (eqb b k) refl (after_rest k s)
   where
-    go : (t : Bool) → eqb b k ≡ t → after k s ≡ drop (suc (length (before k s))) s → after k (b ∷ s) ≡ drop (suc (length (before k (b ∷ s)))) (b ∷ s)
+    go : (t : Bool) → eqb b k ≡ t → after k s ≡ drop (suc (length (before k s))) s
+        → after k (b ∷ s) ≡ drop (suc (length (before k (b ∷ s)))) (b ∷ s)
     go true e i = rw (before_stop k b s (eqb-true b k e), after_stop k b s (eqb-true b k e)) refl
     go false e i = rw (before_byte k b s (eqb-false b k e), after_byte k b s (eqb-false b k e)) i
 
 -- what stands between an offset and the first byte k from there on
-pub before_at : (k : ℕ) (s : Bytes) (at stop : ℕ) → stop ≡ at + length (before k (drop at s)) → take (stop - at) (drop at s) ≡ before k (drop at s)
+pub before_at : (k : ℕ) (s : Bytes) (at stop : ℕ) → stop ≡ at + length (before k (drop at s))
+    → take (stop - at) (drop at s) ≡ before k (drop at s)
 before_at k s at stop e =
     let d : stop - at ≡ length (before k (drop at s)) = omega arith in
     ap (λ (n : ℕ). take n (drop at s)) d ∙ sym (before_front k (drop at s))
 
 -- what stands after that byte
-pub after_at : (k : ℕ) (s : Bytes) (at stop : ℕ) → stop ≡ at + length (before k (drop at s)) → drop (stop + 1) s ≡ after k (drop at s)
+pub after_at : (k : ℕ) (s : Bytes) (at stop : ℕ) → stop ≡ at + length (before k (drop at s))
+    → drop (stop + 1) s ≡ after k (drop at s)
 after_at k s at stop e =
     let d : stop + 1 ≡ at + suc (length (before k (drop at s))) = omega arith in
-    sym (after_rest k (drop at s) ∙ drop-drop (suc (length (before k (drop at s)))) at s ∙ ap (λ (n : ℕ). drop n s) (sym d))
+    sym (after_rest k (drop at s) ∙ drop-drop (suc (length (before k (drop at s)))) at s
+    ∙ ap (λ (n : ℕ). drop n s) (sym d))
 
 -- bytes that lack k stand before the first byte k, which follows them
 pub before_lacks : (k : ℕ) (p s : Bytes) → Lacks k p → before k (p ++ k ∷ s) ≡ p

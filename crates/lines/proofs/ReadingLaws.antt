@@ -57,7 +57,8 @@ number_one bound (b ∷ []) h = go (is_digit b)
 number_one bound (b ∷ c ∷ s) h = absurd (omega arith)
 
 -- so are several of which the first is not 0
-pub number_many : (bound : ℕ) (s : Bytes) → 1 < length s → (get_or s 0 0 ≡ 48 → ⊥) → read_number bound s ≡ number_after bound 0 s
+pub number_many : (bound : ℕ) (s : Bytes) → 1 < length s → (get_or s 0 0 ≡ 48 → ⊥)
+    → read_number bound s ≡ number_after bound 0 s
 unfolding read_number is_decimal number_after
 number_many bound [] h e = absurd (omega arith)
 number_many bound (b ∷ []) h e = absurd (omega arith)
@@ -144,7 +145,8 @@ digest_some s l a =
 
 module _ (s : Bytes) (i : ℕ) where
   -- a digit is passed over
-  pub digit-one : i < length s → is_hex_digit (get_or s i 0) ≡ true → all is_hex_digit (drop i s) ≡ all is_hex_digit (drop (i + 1) s)
+  pub digit-one : i < length s → is_hex_digit (get_or s i 0) ≡ true
+      → all is_hex_digit (drop i s) ≡ all is_hex_digit (drop (i + 1) s)
   unfolding all
   digit-one h e = rw (at_cons s i h, e) refl
 
@@ -154,7 +156,8 @@ module _ (s : Bytes) (i : ℕ) where
   digit-other h e = rw (at_cons s i h, e) refl
 
   -- a pair of digits encodes a byte
-  pub unhex-pair : i + 1 < length s → unhex (drop i s) ≡ (digit_value (get_or s i 0) * 16 + digit_value (get_or s (i + 1) 0)) ∷ unhex (drop (i + 2) s)
+  pub unhex-pair : i + 1 < length s
+      → unhex (drop i s) ≡ (digit_value (get_or s i 0) * 16 + digit_value (get_or s (i + 1) 0)) ∷ unhex (drop (i + 2) s)
   unfolding unhex
   unhex-pair h =
       let l : i < length s = omega arith in
@@ -180,12 +183,14 @@ module _ (s : Bytes) (i : ℕ) where
       digit-one s i (omega arith) d ∙ digit-one s (i + 1) h e ∙ ap (λ (k : ℕ). all is_hex_digit (drop k s)) p
 
   -- a byte that is no digit is found after a digit too
-  pub digit-other-second : i + 1 < length s → is_hex_digit (get_or s i 0) ≡ true → is_hex_digit (get_or s (i + 1) 0) ≡ false → all is_hex_digit (drop i s) ≡ false
+  pub digit-other-second : i + 1 < length s → is_hex_digit (get_or s i 0) ≡ true
+      → is_hex_digit (get_or s (i + 1) 0) ≡ false → all is_hex_digit (drop i s) ≡ false
   digit-other-second h d e = digit-one s i (omega arith) d ∙ digit-other s (i + 1) h e
 
 -- one element more of a list that is filled from the front: what is filled and what is left stay
 -- the whole
-pub fill_step : (r ys vs : List ℕ) (k v : ℕ) → k < length r → take k r ++ v ∷ ys ≡ vs → take (k + 1) (set r k v) ++ ys ≡ vs
+pub fill_step : (r ys vs : List ℕ) (k v : ℕ) → k < length r → take k r ++ v ∷ ys ≡ vs
+    → take (k + 1) (set r k v) ++ ys ≡ vs
 fill_step r ys vs k v h e = rw (add-one, take-suc-set r k v h, append_snoc) e
 
 -- a list filled to its end is the whole

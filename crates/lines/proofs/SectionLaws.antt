@@ -39,7 +39,8 @@ unfolding before after
 split_before k [] h = absurd (omega arith)
 split_before k (b ∷ s) h = go (eqb b k) refl (split_before k s) h
   where
-    go : (t : Bool) → eqb b k ≡ t → (length (before k s) < length s → s ≡ before k s ++ k ∷ after k s) → length (before k (b ∷ s)) < length (b ∷ s)
+    go : (t : Bool) → eqb b k ≡ t → (length (before k s) < length s → s ≡ before k s ++ k ∷ after k s)
+        → length (before k (b ∷ s)) < length (b ∷ s)
         → b ∷ s ≡ before k (b ∷ s) ++ k ∷ after k (b ∷ s)
     go true e i h =
         let q = eqb-true b k e in
@@ -55,7 +56,8 @@ unfolding before
 all_before k [] h = refl
 all_before k (b ∷ s) h = go (eqb b k) refl (all_before k s) h
   where
-    go : (t : Bool) → eqb b k ≡ t → (length s ≤ length (before k s) → before k s ≡ s) → length (b ∷ s) ≤ length (before k (b ∷ s)) → before k (b ∷ s) ≡ b ∷ s
+    go : (t : Bool) → eqb b k ≡ t → (length s ≤ length (before k s) → before k s ≡ s)
+        → length (b ∷ s) ≤ length (before k (b ∷ s)) → before k (b ∷ s) ≡ b ∷ s
     go true e i h = let z = ap length (before_stop k b s (eqb-true b k e)) in absurd (omega arith)
     go false e i h =
         let n = eqb-false b k e in
@@ -89,19 +91,24 @@ unfolding open_rest last_or
 open_none s h = rw (parts_last newline s h) refl
 
 -- lines before a text are ended lines of both together
-pub ended_lines_lem : (ls : List Bytes) (s : Bytes) → AllLack newline ls → ended_lines (lines_text ls ++ s) ≡ ls ++ ended_lines s
+pub ended_lines_lem : (ls : List Bytes) (s : Bytes) → AllLack newline ls
+    → ended_lines (lines_text ls ++ s) ≡ ls ++ ended_lines s
 ended_lines_lem [] s h = refl
 ended_lines_lem (l ∷ ls) s (h, i) =
-    ap ended_lines (append_assoc l (newline ∷ lines_text ls) s) ∙ ended_cons l (lines_text ls ++ s) h ∙ ap (λ (ms : List Bytes). l ∷ ms) (ended_lines_lem ls s i)
+    ap ended_lines (append_assoc l (newline ∷ lines_text ls) s) ∙ ended_cons l (lines_text ls ++ s) h
+    ∙ ap (λ (ms : List Bytes). l ∷ ms) (ended_lines_lem ls s i)
 
 -- and leave what is open
 pub open_lines : (ls : List Bytes) (s : Bytes) → AllLack newline ls → open_rest (lines_text ls ++ s) ≡ open_rest s
 open_lines [] s h = refl
-open_lines (l ∷ ls) s (h, i) = ap open_rest (append_assoc l (newline ∷ lines_text ls) s) ∙ open_cons l (lines_text ls ++ s) h ∙ open_lines ls s i
+open_lines (l ∷ ls) s (h, i) =
+    ap open_rest (append_assoc l (newline ∷ lines_text ls) s) ∙ open_cons l (lines_text ls ++ s) h ∙ open_lines ls s i
 
 -- the ended lines of the text of lines are these lines
 pub ended_text : (ls : List Bytes) → AllLack newline ls → ended_lines (lines_text ls) ≡ ls
-ended_text ls h = ap ended_lines (sym (append-nil (lines_text ls))) ∙ ended_lines_lem ls [] h ∙ ap (λ (ms : List Bytes). ls ++ ms) (ended_none [] tt) ∙ append-nil ls
+ended_text ls h =
+    ap ended_lines (sym (append-nil (lines_text ls))) ∙ ended_lines_lem ls [] h
+    ∙ ap (λ (ms : List Bytes). ls ++ ms) (ended_none [] tt) ∙ append-nil ls
 
 -- one part is what it is joined to
 joined_one : (k : ℕ) (p : Bytes) → p ≡ joined k (p ∷ [])
@@ -130,9 +137,11 @@ line_here s at stop next e =
     let n : next ≡ end + 1 = sym (ap (λ (x : ℕ × ℕ). x.1) q) in
     let w : end < length s = ltb-true end (length s) t in
     let f : take (stop - at) (drop at s) ≡ b = before_at newline s at stop p in
-    let a : drop next s ≡ after newline (drop at s) = ap (λ (i : ℕ). drop i s) (n ∙ ap (λ (i : ℕ). i + 1) (sym p)) ∙ after_at newline s at stop p in
+    let a : drop next s ≡ after newline (drop at s) =
+    ap (λ (i : ℕ). drop i s) (n ∙ ap (λ (i : ℕ). i + 1) (sym p)) ∙ after_at newline s at stop p in
     let l : length b < length (drop at s) = omega (arith, length-drop at s) in
-    let x : drop at s ≡ b ++ newline ∷ drop next s = split_before newline (drop at s) l ∙ ap (λ (u : Bytes). b ++ newline ∷ u) (sym a) in
+    let x : drop at s ≡ b ++ newline ∷ drop next s =
+    split_before newline (drop at s) l ∙ ap (λ (u : Bytes). b ++ newline ∷ u) (sym a) in
     let free = before_free newline (drop at s) in
     record {
       forward = omega arith;
@@ -145,7 +154,8 @@ line_here s at stop next e =
     }
 
 -- where no newline follows, there is no line, and everything is open
-pub line_none : (s : Bytes) (at : ℕ) → line_at s at ≡ none → (ended_lines (drop at s) ≡ []) × (open_rest (drop at s) ≡ drop at s)
+pub line_none : (s : Bytes) (at : ℕ) → line_at s at ≡ none → (ended_lines (drop at s) ≡ [])
+    × (open_rest (drop at s) ≡ drop at s)
 unfolding line_at
 line_none s at e =
     let b = before newline (drop at s) in
@@ -162,7 +172,8 @@ line_end s at h = rw (at_end s at h) (ended_none [] tt, open_none [] tt)
 -- before the end something stands: a line, or what is open
 pub line_more : (s : Bytes) (at : ℕ) → at < length s → ended_lines (drop at s) ≡ [] → open_rest (drop at s) ≡ [] → ⊥
 line_more s at h e f =
-    let p : parts_at newline (drop at s) ≡ [] ∷ [] = parts_ended (drop at s) ∙ ap₂ (λ (ms : List Bytes) (t : Bytes). ms ++ t ∷ []) e f in
+    let p : parts_at newline (drop at s) ≡ [] ∷ [] =
+    parts_ended (drop at s) ∙ ap₂ (λ (ms : List Bytes) (t : Bytes). ms ++ t ∷ []) e f in
     let q : joined newline ([] ∷ []) ≡ drop at s = ap (joined newline) (sym p) ∙ joined_parts newline (drop at s) in
     let l = ap length (joined_one newline [] ∙ q) in
     omega (arith, length-drop at s)
@@ -179,10 +190,13 @@ pub record Section (s : Bytes) (from at : ℕ) (ls : List Bytes) : Type 0 where
 
 -- none stand from an offset to itself
 pub section_start : (s : Bytes) (from : ℕ) → from ≤ length s → Section s from from []
-section_start s from h = let z : from - from ≡ 0 = omega arith in record { forward = omega arith; within = h; lack = tt; part = rw z refl; text = refl }
+section_start s from h =
+    let z : from - from ≡ 0 = omega arith in
+    record { forward = omega arith; within = h; lack = tt; part = rw z refl; text = refl }
 
 -- the line that follows a section belongs to the section up to the next line
-pub section_next : (s : Bytes) (from at stop next : ℕ) (ls : List Bytes) → Section s from at ls → LineHere s at stop next
+pub section_next : (s : Bytes) (from at stop next : ℕ) (ls : List Bytes) → Section s from at ls
+    → LineHere s at stop next
     → Section s from next (ls ++ take (stop - at) (drop at s) ∷ [])
 section_next s from at stop next ls c h =
     let l = take (stop - at) (drop at s) in
@@ -192,10 +206,14 @@ section_next s from at stop next ls c h =
     let n = h.next_is in
     let x : lines_text (ls ++ l ∷ []) ≡ lines_text ls ++ (l ++ newline ∷ []) = text_append ls (l ∷ []) in
     let y : drop from s ≡ lines_text (ls ++ l ∷ []) ++ drop next s =
-    c.text ∙ ap (λ (t : Bytes). lines_text ls ++ t) h.text ∙ ap (λ (t : Bytes). lines_text ls ++ t) (sym (append_assoc l (newline ∷ []) (drop next s)))
-    ∙ sym (append_assoc (lines_text ls) (l ++ newline ∷ []) (drop next s)) ∙ ap (λ (t : Bytes). t ++ drop next s) (sym x) in
+    c.text ∙ ap (λ (t : Bytes). lines_text ls ++ t) h.text
+    ∙ ap (λ (t : Bytes). lines_text ls ++ t) (sym (append_assoc l (newline ∷ []) (drop next s)))
+    ∙ sym (append_assoc (lines_text ls) (l ++ newline ∷ []) (drop next s))
+    ∙ ap (λ (t : Bytes). t ++ drop next s) (sym x) in
     let k : length (lines_text (ls ++ l ∷ [])) ≡ next - from =
-    let a = ap length y in omega (arith, length-append (lines_text (ls ++ l ∷ [])) (drop next s), length-drop from s, length-drop next s) in
+    let a =
+    ap length y in omega
+    (arith, length-append (lines_text (ls ++ l ∷ [])) (drop next s), length-drop from s, length-drop next s) in
     record {
       forward = omega arith;
       within = omega arith;
@@ -236,18 +254,26 @@ pair_parts p = refl
 
 module _ {A : Type 0} (read : Bytes → Option A) where
   -- lines that all read lead, with what leads the lines after them
-  pub leading-append : (ls ms : List Bytes) (xs : List A) → leading read ls ≡ (xs, []) → leading read (ls ++ ms) ≡ (xs ++ (leading read ms).0, (leading read ms).1)
-  leading-append [] ms xs e = let x : [] ≡ xs = ap (λ (p : List A × List Bytes). p.0) (sym (leading_end read) ∙ e) in rw (← x) refl
+  pub leading-append : (ls ms : List Bytes) (xs : List A) → leading read ls ≡ (xs, [])
+      → leading read (ls ++ ms) ≡ (xs ++ (leading read ms).0, (leading read ms).1)
+  leading-append [] ms xs e =
+      let x : [] ≡ xs = ap (λ (p : List A × List Bytes). p.0) (sym (leading_end read) ∙ e) in
+      rw (← x) refl
   leading-append (l ∷ ls) ms xs e = go (read l) refl (leading-append ls ms)
     where
-      go : (o : Option A) → read l ≡ o → ((ys : List A) → leading read ls ≡ (ys, []) → leading read (ls ++ ms) ≡ (ys ++ (leading read ms).0, (leading read ms).1))
+      go : (o : Option A) → read l ≡ o
+          → ((ys : List A) → leading read ls ≡ (ys, []) → leading read (ls ++ ms)
+          ≡ (ys ++ (leading read ms).0, (leading read ms).1))
           → leading read (l ∷ ls ++ ms) ≡ (xs ++ (leading read ms).0, (leading read ms).1)
       go none q i = absurd (cons_ne_nil (ap (λ (p : List A × List Bytes). p.1) (sym (leading-none read l ls q) ∙ e)))
       go (some a) q i =
-          let x : ◌≡◌ {A = List A × List Bytes} (a ∷ (leading read ls).0, (leading read ls).1) (xs, []) = sym (leading-some read l ls a q) ∙ e in
+          let x : ◌≡◌ {A = List A × List Bytes} (a ∷ (leading read ls).0, (leading read ls).1) (xs, []) =
+          sym (leading-some read l ls a q) ∙ e in
           let x0 : a ∷ (leading read ls).0 ≡ xs = ap (λ (p : List A × List Bytes). p.0) x in
           let x1 : (leading read ls).1 ≡ [] = ap (λ (p : List A × List Bytes). p.1) x in
-          let j = i (leading read ls).0 (pair_parts (leading read ls) ∙ ap (λ (r : List Bytes). pair (leading read ls).0 r) x1) in
+          let j =
+          i (leading read ls).0
+          (pair_parts (leading read ls) ∙ ap (λ (r : List Bytes). pair (leading read ls).0 r) x1) in
           leading-some read l (ls ++ ms) a q ∙ rw (j, ← x0) refl
 
   -- one more line that reads

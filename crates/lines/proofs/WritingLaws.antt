@@ -5,7 +5,6 @@ use mathlib.Core.List.{[], ◌∷◌, ◌++◌, append_assoc}
 use mathlib.Core.Option.{Option, Option-elim, none, some}
 use Prim.Native.Nat.{ℕ, suc, ◌+◌, ◌-◌, ◌/◌, ◌%◌, ◌≤◌, ◌<◌}
 use native.Mathlib.Nat.{add-zero}
-use native.Mathlib.Decide.{dec_lt}
 use native.Mathlib.Omega.{arith}
 use lib.Dec.{leb}
 use lib.ListN.{length, take, drop, get_or, set, length-append, length-drop, length-set}
@@ -59,14 +58,6 @@ written_nil s at h = sym (written_sets s at [] (omega arith))
 
 -- ---- whether it fits
 
--- a text fits from an offset on if it is no longer than what is there from that offset on
-pub room_behind : (room at n : ℕ) → at ≤ room → leb n (room - at) ≡ leb (at + n) room
-room_behind room at n h = go (dec_lt (room - at) n)
-  where
-    go : Dec (room - at < n) → leb n (room - at) ≡ leb (at + n) room
-    go (yes p) = lt-leb n (room - at) p ∙ sym (lt-leb (at + n) room (omega arith))
-    go (no p) = le-leb n (room - at) (omega arith) ∙ sym (le-leb (at + n) room (omega arith))
-
 -- a text that fits is written, and the offset is after it
 pub put_fits : (s : Bytes) (at : ℕ) (t : Bytes) → at + length t ≤ length s
     → (offset_after s at t ≡ some (at + length t)) × (put_at s at t ≡ written s at t)
@@ -74,7 +65,8 @@ unfolding offset_after put_at choose provided
 put_fits s at t h = (rw (le-leb (at + length t) (length s) h) refl, rw (le-leb (at + length t) (length s) h) refl)
 
 -- a text that does not fit is not written
-pub put_over : (s : Bytes) (at : ℕ) (t : Bytes) → length s < at + length t → (offset_after s at t ≡ none) × (put_at s at t ≡ s)
+pub put_over : (s : Bytes) (at : ℕ) (t : Bytes) → length s < at + length t → (offset_after s at t ≡ none)
+    × (put_at s at t ≡ s)
 unfolding offset_after put_at choose provided
 put_over s at t h = (rw (lt-leb (at + length t) (length s) h) refl, rw (lt-leb (at + length t) (length s) h) refl)
 
@@ -90,7 +82,8 @@ pub record Stays (s : Bytes) (at : ℕ) (t : Bytes) : Type 0 where
   pub offset : none ≡ offset_after s at t
   pub bytes : put_at s at t ≡ s
 
-module _ (s : Bytes) (at : ℕ) (t : Bytes) (n : ℕ) (l : length t ≡ n) (r : CodeOption ℕ) (e : option_of r ≡ provided (leb (at + n) (length s)) (at + n)) where
+module _ (s : Bytes) (at : ℕ) (t : Bytes) (n : ℕ) (l : length t ≡ n)
+    (r : CodeOption ℕ) (e : option_of r ≡ provided (leb (at + n) (length s)) (at + n)) where
   -- where the code knows the offset after so many bytes, they are put
   pub room_ends : (end : ℕ) → r ≡ Some end → Ends s at t end
   unfolding offset_after
@@ -122,7 +115,8 @@ unfolding offset_after_any put_any Option-elim
 put_some s at o t e = (rw e refl, rw e refl)
 
 -- where it is none, nothing is put
-pub put_none : (s : Bytes) (at : ℕ) (o : Option Bytes) → o ≡ none → (offset_after_any s at o ≡ none) × (put_any s at o ≡ s)
+pub put_none : (s : Bytes) (at : ℕ) (o : Option Bytes) → o ≡ none → (offset_after_any s at o ≡ none)
+    × (put_any s at o ≡ s)
 unfolding offset_after_any put_any Option-elim
 put_none s at o e = (rw e refl, rw e refl)
 
@@ -160,7 +154,8 @@ module _ (n rest : ℕ) (s : Bytes) (i : ℕ) (h : i < length s) (e : decimal n 
   -- with the first digit the whole number is stored
   pub digits-whole : (k : ℕ) → length s - i ≤ k → rest < 10 → take k (drop i (set s i (48 + rest))) ≡ decimal n
   digits-whole k l m =
-      take_all k (drop i (set s i (48 + rest))) (omega (arith, length-drop i (set s i (48 + rest)), length-set s i (48 + rest)))
+      take_all k (drop i (set s i (48 + rest)))
+      (omega (arith, length-drop i (set s i (48 + rest)), length-set s i (48 + rest)))
       ∙ stored_at s i (48 + rest) h
       ∙ sym (e ∙ ap (λ (t : Bytes). t ++ drop (i + 1) s) (decimal_last rest m))
 
@@ -168,14 +163,16 @@ module _ (n rest : ℕ) (s : Bytes) (i : ℕ) (h : i < length s) (e : decimal n 
   -- digits than there are offsets
   pub digits-room : 10 ≤ rest → length (decimal n) ≤ length s → 0 < i
   digits-room m k =
-      let a : length (decimal n) ≡ length (decimal rest) + length (drop (i + 1) s) = ap length e ∙ length-append (decimal rest) (drop (i + 1) s) in
+      let a : length (decimal n) ≡ length (decimal rest) + length (drop (i + 1) s) =
+      ap length e ∙ length-append (decimal rest) (drop (i + 1) s) in
       let b = length-append (decimal (rest / 10)) ((48 + rest % 10) ∷ []) in
       omega (arith, length-drop (i + 1) s, ap length (decimal_more rest m), decimal_some (rest / 10))
 
 -- ---- hex digits
 
 -- the two digits of a byte come before those of the bytes after it
-pub hex_at : (s : Bytes) (i : ℕ) → i < length s → hex (drop i s) ≡ hex_digit (get_or s i 0 / 16) ∷ hex_digit (get_or s i 0 % 16) ∷ hex (drop (i + 1) s)
+pub hex_at : (s : Bytes) (i : ℕ) → i < length s
+    → hex (drop i s) ≡ hex_digit (get_or s i 0 / 16) ∷ hex_digit (get_or s i 0 % 16) ∷ hex (drop (i + 1) s)
 unfolding hex
 hex_at s i h = rw (at_cons s i h) refl
 

@@ -1,5 +1,6 @@
 -- Words, and decimal numbers without leading zeros (paper 01, Response lines).
-use Rattle.std.specs.Prelude.{Bool, false, ◌&&◌, not, [], ◌∷◌, ◌++◌, ℕ, zero, suc, ◌+◌, ◌-◌, ◌*◌, ◌/◌, ◌%◌, eqb, leb, ltb}
+use Rattle.std.specs.Prelude.{Bool, false, ◌&&◌, not, [], ◌∷◌, ◌++◌, ℕ, zero, suc, ◌+◌, ◌-◌, ◌*◌, ◌/◌, ◌%◌, eqb, leb}
+use Rattle.std.specs.Prelude.{ltb}
 use Rattle.std.proofs.Math.Option.{Option}
 use Prim.Native.Char.{code}
 use Prim.Native.String.{String, [] as none_left, ◌∷◌ as ◌then◌}

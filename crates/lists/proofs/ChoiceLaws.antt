@@ -41,11 +41,6 @@ pub never_holds : (t : Bool) → (t ≡ true → ⊥) → t ≡ false
 never_holds true h = absurd (h refl)
 never_holds false h = refl
 
--- a test that cannot fail holds
-pub never_fails : (t : Bool) → (t ≡ false → ⊥) → t ≡ true
-never_fails true h = refl
-never_fails false h = absurd (h refl)
-
 -- ---- choices
 
 -- where the test holds, the first is chosen
@@ -59,7 +54,8 @@ unfolding choose
 choose_false t a b e = rw e refl
 
 -- a choice between two things of which something holds, each where it may be chosen
-pub choose_by : {A : Type 0} (P : A → Type 0) (t : Bool) (a b : Unit {0} → A) → (t ≡ true → P (a tt)) → (t ≡ false → P (b tt)) → P (choose t a b)
+pub choose_by : {A : Type 0} (P : A → Type 0) (t : Bool) (a b : Unit {0} → A) → (t ≡ true → P (a tt))
+    → (t ≡ false → P (b tt)) → P (choose t a b)
 unfolding choose
 choose_by P true a b p q = p refl
 choose_by P false a b p q = q refl
@@ -105,14 +101,16 @@ unfolding bind
 bind_at o f a e = rw e refl
 
 -- where two steps give a value, the first gave one, from which the second made it
-pub bind_some : {A B : Type 0} (o : Option A) (f : A → Option B) (b : B) → bind o f ≡ some b → (a : A) × (o ≡ some a) × (f a ≡ some b)
+pub bind_some : {A B : Type 0} (o : Option A) (f : A → Option B) (b : B) → bind o f ≡ some b → (a : A) × (o ≡ some a)
+    × (f a ≡ some b)
 unfolding bind
 bind_some none f b e = absurd (none-ne-some b e)
 bind_some (some a) f b e = (a, refl, e)
 
 -- what follows from both of two steps that give a value; the value between them stays a variable,
 -- so that long chains stay short
-pub bind_by : {A B R : Type 0} (o : Option A) (f : A → Option B) (b : B) → bind o f ≡ some b → ((a : A) → o ≡ some a → f a ≡ some b → R) → R
+pub bind_by : {A B R : Type 0} (o : Option A) (f : A → Option B) (b : B) → bind o f ≡ some b
+    → ((a : A) → o ≡ some a → f a ≡ some b → R) → R
 bind_by o f b e k = let (a, p, q) = bind_some o f b e in k a p q
 
 -- a step after none gives none
@@ -181,7 +179,8 @@ given_provided true a = refl
 given_provided false a = refl
 
 -- what is made of a value is given where the value is
-pub given_bind : {A B : Type 0} (o : Option A) (f : A → Option B) → ((a : A) → is_some (f a) ≡ true) → is_some (bind o f) ≡ is_some o
+pub given_bind : {A B : Type 0} (o : Option A) (f : A → Option B) → ((a : A) → is_some (f a) ≡ true)
+    → is_some (bind o f) ≡ is_some o
 unfolding is_some bind
 given_bind none f h = refl
 given_bind (some a) f h = h a
@@ -192,6 +191,7 @@ unfolding first any is_some choose
 given_first f [] = refl
 given_first f (x ∷ xs) = go (f x) (given_first f xs)
   where
-    go : (t : Bool) → is_some (first f xs) ≡ any f xs → is_some (choose t (λ _. some x) (λ _. first f xs)) ≡ (t || any f xs)
+    go : (t : Bool) → is_some (first f xs) ≡ any f xs
+        → is_some (choose t (λ _. some x) (λ _. first f xs)) ≡ (t || any f xs)
     go true e = refl
     go false e = e

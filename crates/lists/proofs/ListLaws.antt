@@ -18,7 +18,8 @@ use Rattle.lists.proofs.ChoiceLaws.{choose_false}
 -- ---- tests on lists
 
 -- a test that holds of all elements holds of the first and of all others
-pub all_cons : {A : Type 0} (f : A → Bool) (x : A) (xs : List A) → all f (x ∷ xs) ≡ true → (f x ≡ true) × (all f xs ≡ true)
+pub all_cons : {A : Type 0} (f : A → Bool) (x : A) (xs : List A) → all f (x ∷ xs) ≡ true → (f x ≡ true)
+    × (all f xs ≡ true)
 unfolding all
 all_cons f x xs e = and_holds (f x) (all f xs) e
 
@@ -43,15 +44,19 @@ at_all f [] h = refl
 at_all f (y ∷ ys) h = holds_and (f y) (all f ys) (h y (Memᴰ.head refl)) (at_all f ys (λ x i. h x (Memᴰ.tail i)))
 
 -- a test holds of all elements of two lists one after the other if it holds of all elements of each
-pub all_append : {A : Type 0} (f : A → Bool) (xs ys : List A) → all f xs ≡ true → all f ys ≡ true → all f (xs ++ ys) ≡ true
+pub all_append : {A : Type 0} (f : A → Bool) (xs ys : List A) → all f xs ≡ true → all f ys ≡ true
+    → all f (xs ++ ys) ≡ true
 all_append f [] ys p q = q
 all_append f (x ∷ xs) ys p q = let h = all_cons f x xs p in cons_all f x (xs ++ ys) h.0 (all_append f xs ys h.1 q)
 
 -- where one test implies another, the other holds of all elements of which the one does
-pub all_implied : {A : Type 0} (f g : A → Bool) (xs : List A) → ((x : A) → f x ≡ true → g x ≡ true) → all f xs ≡ true → all g xs ≡ true
+pub all_implied : {A : Type 0} (f g : A → Bool) (xs : List A) → ((x : A) → f x ≡ true → g x ≡ true) → all f xs ≡ true
+    → all g xs ≡ true
 unfolding all
 all_implied f g [] h e = refl
-all_implied f g (x ∷ xs) h e = let p = all_cons f x xs e in holds_and (g x) (all g xs) (h x p.0) (all_implied f g xs h p.1)
+all_implied f g (x ∷ xs) h e =
+    let p = all_cons f x xs e in
+    holds_and (g x) (all g xs) (h x p.0) (all_implied f g xs h p.1)
 
 -- a test that holds of one element more holds of all as before
 pub all_with : {A : Type 0} (f : A → Bool) (xs : List A) (x : A) → f x ≡ true → all f (xs ++ x ∷ []) ≡ all f xs
@@ -62,7 +67,8 @@ all_with f (y ∷ xs) x e = ap (λ (t : Bool). f y && t) (all_with f xs x e)
 -- one that does not hold of an element more does not hold of all
 pub all_without : {A : Type 0} (f : A → Bool) (xs : List A) (x : A) → f x ≡ false → all f (xs ++ x ∷ []) ≡ false
 all_without f xs x e =
-    never_holds (all f (xs ++ x ∷ [])) (λ t. false≢true (sym e ∙ all_at f (xs ++ x ∷ []) x t (Memᴰ.append_right xs (Memᴰ.head refl))))
+    never_holds (all f (xs ++ x ∷ []))
+    (λ t. false≢true (sym e ∙ all_at f (xs ++ x ∷ []) x t (Memᴰ.append_right xs (Memᴰ.head refl))))
 
 -- what is made of an element, which comes first here, is among what is made of the elements
 placed : {A B : Type 0} (f : A → B) (x : A) (xs : List A) → Memᴰ x xs → Memᴰ (f x) (map f xs)
@@ -74,7 +80,8 @@ pub mapped_at : {A B : Type 0} (f : A → B) (xs : List A) (x : A) → Memᴰ x 
 mapped_at f xs x m = placed f x xs m
 
 -- a test that holds of what is made of each element holds of all that is made
-pub all_mapped : {A B : Type 0} (t : B → Bool) (f : A → B) (xs : List A) → ((x : A) → Memᴰ x xs → t (f x) ≡ true) → all t (map f xs) ≡ true
+pub all_mapped : {A B : Type 0} (t : B → Bool) (f : A → B) (xs : List A) → ((x : A) → Memᴰ x xs → t (f x) ≡ true)
+    → all t (map f xs) ≡ true
 unfolding all
 all_mapped t f [] h = refl
 all_mapped t f (x ∷ xs) h = rw (h x (Memᴰ.head refl)) (all_mapped t f xs (λ y m. h y (Memᴰ.tail m)))
@@ -85,7 +92,8 @@ unfolding any
 any_at f [] e = absurd (false≢true e)
 any_at {A} f (y ∷ ys) e = go (any_at f ys) (or_holds (f y) (any f ys) e)
   where
-    go : (any f ys ≡ true → (x : A) × Memᴰ x ys × (f x ≡ true)) → (f y ≡ true) ⊎ (any f ys ≡ true) → (x : A) × Memᴰ x (y ∷ ys) × (f x ≡ true)
+    go : (any f ys ≡ true → (x : A) × Memᴰ x ys × (f x ≡ true)) → (f y ≡ true) ⊎ (any f ys ≡ true) → (x : A)
+        × Memᴰ x (y ∷ ys) × (f x ≡ true)
     go q (inl p) = (y, Memᴰ.head refl, p)
     go q (inr p) = let (x, i, h) = q p in (x, Memᴰ.tail i, h)
 
@@ -122,7 +130,8 @@ unfolding first choose
 first_listed f [] x e = absurd (none-ne-some x e)
 first_listed f (y ∷ ys) x e = go (f y) (first_listed f ys x) e
   where
-    go : (t : Bool) → (first f ys ≡ some x → Memᴰ x ys) → choose t (λ _. some y) (λ _. first f ys) ≡ some x → Memᴰ x (y ∷ ys)
+    go : (t : Bool) → (first f ys ≡ some x → Memᴰ x ys) → choose t (λ _. some y) (λ _. first f ys) ≡ some x
+        → Memᴰ x (y ∷ ys)
     go true ih q = Memᴰ.head (sym (some-injective y x q))
     go false ih q = Memᴰ.tail (ih q)
 
@@ -164,28 +173,34 @@ select_length f (x ∷ xs) = go (f x) refl (select_length f xs)
     go false e ih = rw (select_later f x xs e) (omega arith)
 
 -- a test that implies another selects no more
-select_more : {A : Type 0} (f g : A → Bool) (xs : List A) → ((x : A) → f x ≡ true → g x ≡ true) → length (select f xs) ≤ length (select g xs)
+select_more : {A : Type 0} (f g : A → Bool) (xs : List A) → ((x : A) → f x ≡ true → g x ≡ true)
+    → length (select f xs) ≤ length (select g xs)
 unfolding select choose
 select_more f g [] h = omega arith
 select_more f g (x ∷ xs) h = go (f x) (g x) (h x) (select_more f g xs h)
   where
     go : (s t : Bool) → (s ≡ true → t ≡ true) → length (select f xs) ≤ length (select g xs)
-        → length (choose s (λ _. x ∷ select f xs) (λ _. select f xs)) ≤ length (choose t (λ _. x ∷ select g xs) (λ _. select g xs))
+        → length (choose s (λ _. x ∷ select f xs) (λ _. select f xs)) ≤ length
+        (choose t (λ _. x ∷ select g xs) (λ _. select g xs))
     go true true k l = omega arith
     go true false k l = absurd (false≢true (k refl))
     go false true k l = omega arith
     go false false k l = l
 
 -- and fewer, where the other holds of an element of which it does not
-pub select_fewer : {A : Type 0} (f g : A → Bool) (xs : List A) (a : A) → ((x : A) → f x ≡ true → g x ≡ true) → Memᴰ a xs → f a ≡ false → g a ≡ true
+pub select_fewer : {A : Type 0} (f g : A → Bool) (xs : List A) (a : A) → ((x : A) → f x ≡ true → g x ≡ true) → Memᴰ a xs
+    → f a ≡ false → g a ≡ true
     → length (select f xs) < length (select g xs)
 unfolding select choose
 select_fewer f g [] a h m p q = absurd (Memᴰ.not-nil m)
-select_fewer f g (x ∷ xs) a h m p q = go (f x) (g x) refl refl (h x) (λ k. select_fewer f g xs a h k p q) (Memᴰ.cases_cons m)
+select_fewer f g (x ∷ xs) a h m p q =
+    go (f x) (g x) refl refl (h x) (λ k. select_fewer f g xs a h k p q) (Memᴰ.cases_cons m)
   where
-    go : (s t : Bool) → f x ≡ s → g x ≡ t → (s ≡ true → t ≡ true) → (Memᴰ a xs → length (select f xs) < length (select g xs))
+    go : (s t : Bool) → f x ≡ s → g x ≡ t → (s ≡ true → t ≡ true)
+        → (Memᴰ a xs → length (select f xs) < length (select g xs))
         → (a ≡ x) ⊎ Memᴰ a xs
-        → length (choose s (λ _. x ∷ select f xs) (λ _. select f xs)) < length (choose t (λ _. x ∷ select g xs) (λ _. select g xs))
+        → length (choose s (λ _. x ∷ select f xs) (λ _. select f xs)) < length
+        (choose t (λ _. x ∷ select g xs) (λ _. select g xs))
     go true true c d k ih (inl e) = absurd (false≢true (sym p ∙ ap f e ∙ c))
     go true true c d k ih (inr i) = omega (arith, ih i)
     go true false c d k ih i = absurd (false≢true (k refl))
@@ -207,7 +222,9 @@ unfolding same
 same_true [] [] e = refl
 same_true [] (y ∷ ys) e = absurd (false≢true e)
 same_true (x ∷ xs) [] e = absurd (false≢true e)
-same_true (x ∷ xs) (y ∷ ys) e = let h = and_holds (eqb x y) (same xs ys) e in ap₂ ◌∷◌ (eqb-true x y h.0) (same_true xs ys h.1)
+same_true (x ∷ xs) (y ∷ ys) e =
+    let h = and_holds (eqb x y) (same xs ys) e in
+    ap₂ ◌∷◌ (eqb-true x y h.0) (same_true xs ys h.1)
 
 -- equal lists are the same
 pub equal_same : (xs ys : List ℕ) → xs ≡ ys → same xs ys ≡ true
@@ -236,7 +253,9 @@ lacks_append k (x ∷ xs) ys p q = (p.0, lacks_append k xs ys p.1 q)
 -- a list of whose elements a test holds lacks a number of which it does not
 pub all_lacks : (f : ℕ → Bool) (k : ℕ) (xs : List ℕ) → f k ≡ false → all f xs ≡ true → Lacks k xs
 all_lacks f k [] e h = tt
-all_lacks f k (x ∷ xs) e h = let p = all_cons f x xs h in (λ q. false≢true (sym e ∙ ap f (sym q) ∙ p.0), all_lacks f k xs e p.1)
+all_lacks f k (x ∷ xs) e h =
+    let p = all_cons f x xs h in
+    (λ q. false≢true (sym e ∙ ap f (sym q) ∙ p.0), all_lacks f k xs e p.1)
 
 -- ---- rising lists
 
@@ -253,7 +272,8 @@ rising_snoc [] x h r = refl
 rising_snoc (a ∷ []) x h r = rw (lt-ltb a x (h a (Memᴰ.head refl)))
 rising_snoc (a ∷ b ∷ l) x h r = go (ltb a b) r (rising_snoc (b ∷ l) x (λ y m. h y (Memᴰ.tail m)))
   where
-    go : (c : Bool) → c && rising (b ∷ l) ≡ true → (rising (b ∷ l) ≡ true → rising (b ∷ l ++ x ∷ []) ≡ true) → c && rising (b ∷ l ++ x ∷ []) ≡ true
+    go : (c : Bool) → c && rising (b ∷ l) ≡ true → (rising (b ∷ l) ≡ true → rising (b ∷ l ++ x ∷ []) ≡ true)
+        → c && rising (b ∷ l ++ x ∷ []) ≡ true
     go true r ih = ih r
     go false r ih = r
 

@@ -18,7 +18,8 @@ module _ {A : Type 0} (P : A → Type 0) where
   each-cons y ys p h x m = ⊎_elim (λ e. subst P (sym e) p) (h x) (Memᴰ.cases_cons m)
 
   -- what holds of each of two lists holds of each of both joined
-  pub each_append : (xs ys : List A) → ((x : A) → Memᴰ x xs → P x) → ((x : A) → Memᴰ x ys → P x) → (x : A) → Memᴰ x (xs ++ ys) → P x
+  pub each_append : (xs ys : List A) → ((x : A) → Memᴰ x xs → P x) → ((x : A) → Memᴰ x ys → P x) → (x : A)
+      → Memᴰ x (xs ++ ys) → P x
   each_append xs ys h k x m = ⊎_elim (h x) (k x) (Memᴰ.append_cases xs m)
 
 -- ---- mapped lists
@@ -29,7 +30,8 @@ module _ {A B : Type 0} where
   at-mapped f [] y m = absurd (Memᴰ.not-nil m)
   at-mapped f (a ∷ xs) y m = go (at-mapped f xs y) (Memᴰ.cases_cons m)
     where
-      go : (Memᴰ y (map f xs) → (x : A) × Memᴰ x xs × (y ≡ f x)) → (y ≡ f a) ⊎ Memᴰ y (map f xs) → (x : A) × Memᴰ x (a ∷ xs) × (y ≡ f x)
+      go : (Memᴰ y (map f xs) → (x : A) × Memᴰ x xs × (y ≡ f x)) → (y ≡ f a) ⊎ Memᴰ y (map f xs) → (x : A)
+          × Memᴰ x (a ∷ xs) × (y ≡ f x)
       go ih (inl e) = (a, Memᴰ.head refl, e)
       go ih (inr n) = let (x, i, e) = ih n in (x, Memᴰ.tail i, e)
 
@@ -38,7 +40,8 @@ module _ {A B : Type 0} where
   unfolding flat_map
   flat-listed f [] x y m n = absurd (Memᴰ.not-nil m)
   flat-listed f (a ∷ xs) x y m n =
-      ⊎_elim (λ e. Memᴰ.append_left (flat_map f xs) (subst (λ (z : A). Memᴰ y (f z)) e n)) (λ k. Memᴰ.append_right (f a) (flat-listed f xs x y k n))
+      ⊎_elim (λ e. Memᴰ.append_left (flat_map f xs) (subst (λ (z : A). Memᴰ y (f z)) e n))
+      (λ k. Memᴰ.append_right (f a) (flat-listed f xs x y k n))
       (Memᴰ.cases_cons m)
 
   -- and an element of the joined lists stands in one of them

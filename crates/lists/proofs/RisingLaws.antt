@@ -40,7 +40,8 @@ pub last_largest : (d a : ℕ) (l : List ℕ) → rising l ≡ true → Memᴰ a
 unfolding last_or
 last_largest d a [] r m h = absurd (Memᴰ.not-nil m)
 last_largest d a (x ∷ []) r m h = sym (Memᴰ.eq_of_singleton m)
-last_largest d a (x ∷ y ∷ l) r m h = go (Memᴰ.cases_cons m) (λ k. last_largest x a (y ∷ l) (rising_tail x (y ∷ l) r) k (λ z i. h z (Memᴰ.tail i)))
+last_largest d a (x ∷ y ∷ l) r m h =
+    go (Memᴰ.cases_cons m) (λ k. last_largest x a (y ∷ l) (rising_tail x (y ∷ l) r) k (λ z i. h z (Memᴰ.tail i)))
   where
     go : (a ≡ x) ⊎ Memᴰ a (y ∷ l) → (Memᴰ a (y ∷ l) → last_or y l ≡ a) → last_or y l ≡ a
     go (inl e) f = absurd (omega (arith, h y (Memᴰ.tail (Memᴰ.head refl)), rising_first x (y ∷ l) r y (Memᴰ.head refl)))
@@ -60,11 +61,13 @@ same_members [] (y ∷ ys) rx ry f g = absurd (Memᴰ.not-nil (g y (Memᴰ.head 
 same_members (x ∷ xs) [] rx ry f g = absurd (Memᴰ.not-nil (f x (Memᴰ.head refl)))
 same_members (x ∷ xs) (y ∷ ys) rx ry f g =
     ap₂ ◌∷◌ first
-    (same_members xs ys (rising_tail x xs rx) (rising_tail y ys ry) (λ a m. after x y xs ys rx first f a m) (λ a m. after y x ys xs ry (sym first) g a m))
+    (same_members xs ys (rising_tail x xs rx) (rising_tail y ys ry) (λ a m. after x y xs ys rx first f a m)
+    (λ a m. after y x ys xs ry (sym first) g a m))
   where
     after : (x y : ℕ) (xs ys : List ℕ) → rising (x ∷ xs) ≡ true → x ≡ y → ((a : ℕ) → Memᴰ a (x ∷ xs) → Memᴰ a (y ∷ ys))
         → (a : ℕ) → Memᴰ a xs → Memᴰ a ys
-    after x y xs ys r e f a m = ⊎_elim (λ q. absurd (omega (arith, rising_first x xs r a m))) (λ k. k) (Memᴰ.cases_cons (f a (Memᴰ.tail m)))
+    after x y xs ys r e f a m =
+        ⊎_elim (λ q. absurd (omega (arith, rising_first x xs r a m))) (λ k. k) (Memᴰ.cases_cons (f a (Memᴰ.tail m)))
 
     first : x ≡ y
     first = go (Memᴰ.cases_cons (f x (Memᴰ.head refl))) (Memᴰ.cases_cons (g y (Memᴰ.head refl)))
@@ -138,7 +141,8 @@ insert_rising x [] r = rw (insert_nil x)
 insert_rising x (y ∷ l) r = by_three x y
     (λ h. rw (insert_below x y l h, lt-ltb x y h) r)
     (λ h. rw (insert_same x y l h) r)
-    (λ h. rw (insert_above x y l h) (rising_cons y (insert x l) (λ z m. after h z (insert_only x z l m)) (insert_rising x l (rising_tail y l r))))
+    (λ h. rw (insert_above x y l h)
+    (rising_cons y (insert x l) (λ z m. after h z (insert_only x z l m)) (insert_rising x l (rising_tail y l r))))
   where
     after : y < x → (z : ℕ) → (z ≡ x) ⊎ Memᴰ z l → y < z
     after h z (inl e) = omega arith
@@ -168,12 +172,14 @@ insert_all_cons x xs ys = refl
 pub insert_all_has : (xs ys : List ℕ) (a : ℕ) → Memᴰ a xs → Memᴰ a (insert_all xs ys)
 insert_all_has [] ys a m = absurd (Memᴰ.not-nil m)
 insert_all_has (x ∷ xs) ys a m = rw (insert_all_cons x xs ys)
-    (⊎_elim (λ e. rw e (insert_has x (insert_all xs ys))) (λ k. insert_keeps x a (insert_all xs ys) (insert_all_has xs ys a k)) (Memᴰ.cases_cons m))
+    (⊎_elim (λ e. rw e (insert_has x (insert_all xs ys)))
+    (λ k. insert_keeps x a (insert_all xs ys) (insert_all_has xs ys a k)) (Memᴰ.cases_cons m))
 
 -- All of the second list stay.
 pub insert_all_keeps : (xs ys : List ℕ) (a : ℕ) → Memᴰ a ys → Memᴰ a (insert_all xs ys)
 insert_all_keeps [] ys a m = rw (insert_all_nil ys) m
-insert_all_keeps (x ∷ xs) ys a m = rw (insert_all_cons x xs ys) (insert_keeps x a (insert_all xs ys) (insert_all_keeps xs ys a m))
+insert_all_keeps (x ∷ xs) ys a m =
+    rw (insert_all_cons x xs ys) (insert_keeps x a (insert_all xs ys) (insert_all_keeps xs ys a m))
 
 -- No more comes in.
 pub insert_all_only : (xs ys : List ℕ) (a : ℕ) → Memᴰ a (insert_all xs ys) → Memᴰ a xs ⊎ Memᴰ a ys
@@ -185,12 +191,14 @@ insert_all_only (x ∷ xs) ys a m =
 -- A rising list still rises.
 pub insert_all_rising : (xs ys : List ℕ) → rising ys ≡ true → rising (insert_all xs ys) ≡ true
 insert_all_rising [] ys r = rw (insert_all_nil ys) r
-insert_all_rising (x ∷ xs) ys r = rw (insert_all_cons x xs ys) (insert_rising x (insert_all xs ys) (insert_all_rising xs ys r))
+insert_all_rising (x ∷ xs) ys r =
+    rw (insert_all_cons x xs ys) (insert_rising x (insert_all xs ys) (insert_all_rising xs ys r))
 
 -- They make a list longer by their number at most.
 pub insert_all_length : (xs ys : List ℕ) → length (insert_all xs ys) ≤ length xs + length ys
 insert_all_length [] ys = rw (insert_all_nil ys) (omega arith)
-insert_all_length (x ∷ xs) ys = rw (insert_all_cons x xs ys) (omega (arith, insert_length x (insert_all xs ys), insert_all_length xs ys))
+insert_all_length (x ∷ xs) ys =
+    rw (insert_all_cons x xs ys) (omega (arith, insert_length x (insert_all xs ys), insert_all_length xs ys))
 
 -- ---- elements by their numbers
 

@@ -1,44 +1,13 @@
 -- Two lists of numbers compared element by element (specs/Lists.antt).
-use mathlib.Core.Path.{◌≡◌, refl, sym, ap, ap₂, ◌∙◌}
-use mathlib.Core.Bool.{Bool, true, false, ◌&&◌, false≢true, and-true, and_assoc}
+use mathlib.Core.Path.{◌≡◌, refl, sym, ap, ◌∙◌}
+use mathlib.Core.Bool.{Bool, true, false, ◌&&◌, and-true, and_assoc}
 use mathlib.Core.List.{List, [], ◌∷◌}
-use Prim.Native.Nat.{ℕ, suc, ◌+◌, ◌≤◌, ◌<◌}
-use native.Mathlib.Decide.{dec_lt}
-use native.Mathlib.Numerals.{add-one}
-use native.Mathlib.Omega.{arith}
+use Prim.Native.Nat.{ℕ, ◌+◌, ◌≤◌, ◌<◌}
 use lib.Dec.{eqb, eqb-zero-suc, eqb-suc-suc}
 use lib.ListN.{length, get_or, drop, drop_of_length-le}
 use lib.Seq.{drop-cons, drop-drop}
-use borrow.Author.Tests.{eq-eqb, ne_eqb}
 use lib.Pointwise.{pointwise}
 use Rattle.lists.specs.Lists.{same, begins}
-use Rattle.lists.proofs.ListLaws.{differ_same}
-
-same_cons : (x y : ℕ) (a b : List ℕ) → x ≡ y → same (x ∷ a) (y ∷ b) ≡ same a b
-unfolding same
-same_cons x y a b e = rw (eq-eqb x y e) refl
-
-differ_cons : (x y : ℕ) (a b : List ℕ) → (x ≡ y → ⊥) → same (x ∷ a) (y ∷ b) ≡ false
-unfolding same
-differ_cons x y a b e = rw (ne_eqb x y e) refl
-
-module _ (a b : List ℕ) (i : ℕ) where
-  -- past elements that are the same, what is left decides
-  pub same_step : i < length a → i < length b → get_or a i 0 ≡ get_or b i 0 → same (drop i a) (drop i b) ≡ same a b → same (drop (i + 1) a) (drop (i + 1) b) ≡ same a b
-  same_step p q e h = rw (add-one i) (sym (same_cons (get_or a i 0) (get_or b i 0) (drop (suc i) a) (drop (suc i) b) e) ∙ ap₂ same (sym (drop-cons a i 0 p)) (sym (drop-cons b i 0 q)) ∙ h)
-
-  -- two elements that differ decide
-  pub same_differs : i < length a → i < length b → (get_or a i 0 ≡ get_or b i 0 → ⊥) → same (drop i a) (drop i b) ≡ same a b → false ≡ same a b
-  same_differs p q e h = sym (differ_cons (get_or a i 0) (get_or b i 0) (drop (suc i) a) (drop (suc i) b) e) ∙ ap₂ same (sym (drop-cons a i 0 p)) (sym (drop-cons b i 0 q)) ∙ h
-
-  -- at the end of both nothing differs
-  pub same_end : length a ≤ i → length b ≤ i → same (drop i a) (drop i b) ≡ same a b → true ≡ same a b
-  unfolding same
-  same_end p q h = ap₂ same (sym (drop_of_length-le a p)) (sym (drop_of_length-le b q)) ∙ h
-
--- lists of which one is longer differ
-pub same_longer : (a b : List ℕ) → (length a ≡ length b → ⊥) → false ≡ same a b
-same_longer a b h = sym (differ_same a b (λ e. h (ap length e)))
 
 -- the code's equality of slices of numbers
 pub slices_same : (a b : List ℕ) → pointwise eqb a b ≡ same a b
@@ -65,14 +34,6 @@ pub begins_end : (x : ℕ) (xs ys : List ℕ) (i : ℕ) → length ys ≤ i → 
 unfolding begins
 begins_end x xs ys i h = ap (begins (x ∷ xs)) (drop_of_length-le ys h)
 
--- what begins with something at an offset goes on there
-pub begins_within : (x : ℕ) (ys : List ℕ) (i : ℕ) → begins (x ∷ []) (drop i ys) ≡ true → i < length ys
-begins_within x ys i e = go (dec_lt i (length ys))
-  where
-    go : Dec (i < length ys) → i < length ys
-    go (yes h) = h
-    go (no h) = absurd (false≢true (sym (begins_end x [] ys i (omega arith)) ∙ e))
-
 -- a list begins with a number and others where it begins with the number, and without its first
 -- element with the others
 begins_first : (x : ℕ) (xs ys : List ℕ) → begins (x ∷ xs) ys ≡ (begins (x ∷ []) ys && begins xs (drop 1 ys))
@@ -81,20 +42,10 @@ begins_first x xs [] = refl
 begins_first x xs (y ∷ ys) = ap (λ (b : Bool). b && begins xs ys) (sym (and-true (eqb x y)))
 
 -- what stands at an offset begins with the first number, and what follows it with the others
-pub begins_next : (x : ℕ) (xs ys : List ℕ) (i : ℕ) → begins (x ∷ xs) (drop i ys) ≡ (begins (x ∷ []) (drop i ys) && begins xs (drop (i + 1) ys))
-begins_next x xs ys i = begins_first x xs (drop i ys) ∙ ap (λ (l : List ℕ). begins (x ∷ []) (drop i ys) && begins xs l) (drop-drop 1 i ys)
-
--- a list is the same as one that begins with its first element, and without it is the same as the
--- others
-same_first : (x : ℕ) (xs ys : List ℕ) → same (x ∷ xs) ys ≡ (begins (x ∷ []) ys && same xs (drop 1 ys))
-unfolding same begins
-same_first x xs [] = refl
-same_first x xs (y ∷ ys) = ap (λ (b : Bool). b && same xs ys) (sym (and-true (eqb x y)))
-
--- two lists are the same where the second begins with the first element of the first one, and the
--- rest is the same
-pub same_next : (x : ℕ) (xs ys : List ℕ) (i : ℕ) → same (x ∷ xs) (drop i ys) ≡ (begins (x ∷ []) (drop i ys) && same xs (drop (i + 1) ys))
-same_next x xs ys i = same_first x xs (drop i ys) ∙ ap (λ (l : List ℕ). begins (x ∷ []) (drop i ys) && same xs l) (drop-drop 1 i ys)
+pub begins_next : (x : ℕ) (xs ys : List ℕ) (i : ℕ)
+    → begins (x ∷ xs) (drop i ys) ≡ (begins (x ∷ []) (drop i ys) && begins xs (drop (i + 1) ys))
+begins_next x xs ys i =
+    begins_first x xs (drop i ys) ∙ ap (λ (l : List ℕ). begins (x ∷ []) (drop i ys) && begins xs l) (drop-drop 1 i ys)
 
 -- a list is the same as another where that begins with it and is as long
 pub begins_same : (xs ys : List ℕ) → (begins xs ys && eqb (length xs) (length ys)) ≡ same xs ys
@@ -104,4 +55,5 @@ begins_same [] (y ∷ ys) = eqb-zero-suc (length ys)
 begins_same (x ∷ xs) [] = refl
 begins_same (x ∷ xs) (y ∷ ys) =
     rw (eqb-suc-suc (length xs) (length ys))
-    (and_assoc (eqb x y) (begins xs ys) (eqb (length xs) (length ys)) ∙ ap (λ (b : Bool). eqb x y && b) (begins_same xs ys))
+    (and_assoc (eqb x y) (begins xs ys) (eqb (length xs) (length ys))
+    ∙ ap (λ (b : Bool). eqb x y && b) (begins_same xs ys))

@@ -9,5 +9,5 @@ pub returns : goal.returns
 returns c =
     let a = c.args in
     let e = c.as_chunks.ensures in
-    taken_law a.v c.blocks-value.result a.s.now _ c.buffer_of-block.result a.count
-    (whole_law a.s.now a.v a.v c.blocks-value.result _ e.front refl c.blocks-value.ensures) (rest_law a.s.now _ e.back) c.buffer_of-block.ensures (omega arith)
+    taken_law a.v c.compress_all-value.result a.s.now _ c.buffer_of-block.result a.count
+    (whole_law a.s.now a.v a.v c.compress_all-value.result _ e.front refl c.compress_all-value.ensures) (rest_law a.s.now _ e.back) c.buffer_of-block.ensures (omega arith)

@@ -6,5 +6,5 @@ pub returns : goal.returns
 returns c =
     let m = c.args.message.now in
     let e = c.as_chunks.ensures in
-    digest_law m _ c.blocks-2.result c.finish.result
-    (whole_law m c.initial.result _ c.blocks-2.result _ e.front c.initial.ensures c.blocks-2.ensures) (rest_law m _ e.back) c.finish.ensures
+    digest_law m _ c.compress_all.result c.finish.result
+    (whole_law m c.initial.result _ c.compress_all.result _ e.front c.initial.ensures c.compress_all.ensures) (rest_law m _ e.back) c.finish.ensures

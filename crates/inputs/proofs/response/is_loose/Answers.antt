@@ -1,15 +1,18 @@
 -- `inputs::response::is_loose` meets its contract: a lookup follows no entry where the first line
 -- of the entries is one.
-use mathlib.Core.Path.{sym, ◌∙◌}
-use mathlib.Core.Bool.{true, false}
-use Rattle.inputs.proofs.ResponseSectionLaws.{role_told, loose-line, loose_none}
+use mathlib.Core.Path.{◌≡◌, sym, ◌∙◌, ap}
+use mathlib.Core.Bool.{not}
+use borrow.Author.Rules.{rules}
+use Rattle.inputs.specs.ResponseSections.{begins, role_from_of}
+use Rattle.inputs.proofs.MatchLaws.{matched}
+use Rattle.inputs.proofs.ResponseSectionLaws.{loose-line, loose_none}
 use Rattle.inputs.proofs.response.is_loose.Goals as goal
 
-pub returns-in-Begins : goal.returns-in-Begins
-returns-in-Begins c = let r = c.role_from-role in sym (loose-line _ _ true _ (sym r.ensures ∙ role_told r.result _ c.in-Begins.is))
-
-pub returns-in-Continues : goal.returns-in-Continues
-returns-in-Continues c = let r = c.role_from-role in sym (loose-line _ _ false _ (sym r.ensures ∙ role_told r.result _ c.in-Continues.is))
-
-pub returns-in-Outside : goal.returns-in-Outside
-returns-in-Outside c = let r = c.role_from-role in sym (loose_none _ _ (sym r.ensures ∙ role_told r.result _ c.in-Outside.is))
+pub returns : goal.returns
+returns c =
+    let e = sym c.role_from.ensures in
+    matched _ _ _ _ c.is_some_and.ensures
+    (λ i n. n ∙ sym (loose_none _ _ (e ∙ ap role_from_of i)))
+    (λ (role, next) i k.
+    let q : c.is_some_and.result ≡ not (begins role) = search rules in
+    q ∙ sym (loose-line _ _ (begins role) next (e ∙ ap role_from_of i)))

@@ -5,8 +5,8 @@ use lib.ListN.{length}
 use Rattle.inputs.proofs.ResponseSectionLaws.{Running}
 use Rattle.inputs.proofs.response.section_from.Given as goal
 
-abbrev pub invariant-loop-count : goal.invariant-loop-count
-invariant-loop-count l = (l.at ≤ length l.text) × (l.count ≤ l.at) × Running l.sort l.text l.from l.at l.count
+abbrev pub invariant-loop-role : goal.invariant-loop-role
+invariant-loop-role l = record { within : l.at ≤ length l.text; few : l.count ≤ l.at; running : Running l.sort l.text l.from l.at l.count }
 
-abbrev pub decreases-loop-count : goal.decreases-loop-count
-decreases-loop-count l = length l.text - l.at
+abbrev pub decreases-loop-role : goal.decreases-loop-role
+decreases-loop-role l = length l.text - l.at

@@ -2,45 +2,40 @@
 -- hash.
 use mathlib.Core.Path.{◌≡◌, sym, ◌∙◌, ap}
 use mathlib.Core.List.{[], ◌∷◌}
+use Prim.Native.Nat.{ℕ}
+use lib.Dec.{eqb}
+use borrow.Author.Rules.{rules}
 use Rattle.lists.specs.Choice.{is_some}
 use Rattle.lists.proofs.ChoiceLaws.{none_given}
-use Rattle.lines.specs.Number.{ascii}
+use Rattle.lines.specs.Number.{ascii, read_number}
 use Rattle.lines.specs.Field.{number, exactly, read_fields}
-use Rattle.lines.specs.Cursor.{fields_from}
-use Rattle.lines.specs.Readings.{next_number_of}
+use Rattle.lines.specs.Cursor.{fields_from, read_at}
+use Rattle.lines.specs.Readings.{read_of}
 use Rattle.lines.proofs.FormLaws.{read-number-on, field_off, field-given}
 use Rattle.rules.specs.Limits.{number_bound, hash_length}
 use Rattle.rules.specs.ResponseText.{read_entry_line}
-use Rattle.inputs.proofs.ResponseLineLaws.{number-off, number-given, last-given, last-missing}
-use Rattle.inputs.proofs.ResponseLineLaws.{entry_given}
+use Rattle.inputs.proofs.MatchLaws.{matched, unmatched}
+use Rattle.inputs.proofs.ResponseLineLaws.{number-off, number-given, last-judged, entry_given}
 use Rattle.inputs.proofs.response_lines.is_entry.Goals as goal
-
-pub returns-in_default : goal.returns-in_default
-unfolding ascii
-returns-in_default c =
-    let e = sym c.number_after.ensures ∙ ap next_number_of c.in_default.is in
-    sym (entry_given _ ∙ none_given _ (number-off _ _ _ (number number_bound ∷ exactly hash_length ∷ []) e))
-
-pub returns-in_default-number : goal.returns-in_default-number
-unfolding ascii
-returns-in_default-number c =
-    let e = sym c.number.ensures ∙ ap next_number_of c.in_default-number.is in
-    let f = field_off _ (number number_bound) (exactly hash_length ∷ []) _ (read-number-on _ _ _ ∙ e) in
-    sym ((let timestamp-given0 : (let l1 = c.args.l.now in is_some (read_entry_line l1) ≡ is_some (read_fields (number number_bound ∷ exactly hash_length ∷ []) (fields_from l1 c.in-Read.next.at))) = let e0 = sym c.number_after.ensures ∙ ap next_number_of c.in-Read.is in
-    entry_given _ ∙ number-given _ _ _ (number number_bound ∷ exactly hash_length ∷ []) _ _ e0 in timestamp-given0) ∙ none_given _ f)
-
-pub returns-in_default-last_bytes : goal.returns-in_default-last_bytes
-unfolding ascii
-returns-in_default-last_bytes c =
-    let e = last-missing _ _ _ _ c.last_bytes.ensures.read c.in_default-last_bytes.is in
-    sym ((let hash-given0 : (let l1 = c.args.l.now in is_some (read_entry_line l1) ≡ is_some (read_fields (exactly hash_length ∷ []) (fields_from l1 c.in-Read-number.next.at))) = let e0 = sym c.number.ensures ∙ ap next_number_of c.in-Read-number.is in
-    (let timestamp-given0 : (let l1 = c.args.l.now in is_some (read_entry_line l1) ≡ is_some (read_fields (number number_bound ∷ exactly hash_length ∷ []) (fields_from l1 c.in-Read.next.at))) = let e0 = sym c.number_after.ensures ∙ ap next_number_of c.in-Read.is in
-    entry_given _ ∙ number-given _ _ _ (number number_bound ∷ exactly hash_length ∷ []) _ _ e0 in timestamp-given0) ∙ field-given _ (number number_bound) (exactly hash_length ∷ []) _ _ _ (read-number-on _ _ _ ∙ e0) in hash-given0) ∙ e)
 
 pub returns : goal.returns
 unfolding ascii
 returns c =
-    let e = last-given _ _ _ _ c.last_bytes.ensures.read _ _ c.in-Read-last_bytes.is in
-    sym ((let hash-given0 : (let l1 = c.args.l.now in is_some (read_entry_line l1) ≡ is_some (read_fields (exactly hash_length ∷ []) (fields_from l1 c.in-Read-number.next.at))) = let e0 = sym c.number.ensures ∙ ap next_number_of c.in-Read-number.is in
-    (let timestamp-given0 : (let l1 = c.args.l.now in is_some (read_entry_line l1) ≡ is_some (read_fields (number number_bound ∷ exactly hash_length ∷ []) (fields_from l1 c.in-Read.next.at))) = let e0 = sym c.number_after.ensures ∙ ap next_number_of c.in-Read.is in
-    entry_given _ ∙ number-given _ _ _ (number number_bound ∷ exactly hash_length ∷ []) _ _ e0 in timestamp-given0) ∙ field-given _ (number number_bound) (exactly hash_length ∷ []) _ _ _ (read-number-on _ _ _ ∙ e0) in hash-given0) ∙ e)
+    let l = c.args.l.now in
+    let e = sym c.number_after.ensures in
+    let rest = exactly hash_length ∷ [] in
+    matched _ _ _ _ c.and_then.ensures
+    (λ i n.
+    unmatched _ _ _ c.is_some_and.ensures (unmatched _ _ _ c.and_then-2.ensures n)
+    ∙ sym (entry_given l ∙ none_given _ (number-off l _ _ (number number_bound ∷ rest) (e ∙ ap read_of i))))
+    (λ (v, next) i k.
+    let f : read_of c.and_then.result ≡ read_at (read_number number_bound) l next.at = search rules in
+    let g : is_some (read_entry_line l) ≡ is_some (read_fields (number number_bound ∷ rest) (fields_from l next.at)) =
+    entry_given l ∙ number-given l _ _ (number number_bound ∷ rest) v next.at (e ∙ ap read_of i) in
+    matched _ _ _ _ c.and_then-2.ensures
+    (λ j n.
+    unmatched _ _ _ c.is_some_and.ensures n
+    ∙ sym (g ∙ none_given _ (field_off l (number number_bound) rest next.at (read-number-on l _ _ ∙ sym f ∙ ap read_of j))))
+    (λ (t, after) j p.
+    last-judged l (λ (n : ℕ). eqb n hash_length) after.at c.and_then-2.result (search rules) _ _ c.is_some_and.ensures (λ n q h. search rules)
+    ∙ sym (g ∙ field-given l (number number_bound) rest next.at t after.at (read-number-on l _ _ ∙ sym f ∙ ap read_of j))))

@@ -1,42 +1,27 @@
--- `inputs::response_lines::is_step` meets its contract: the line is its word, a version, and a
--- commitment or none.
-use mathlib.Core.Path.{◌≡◌, refl, sym, ◌∙◌, ap}
+-- `inputs::response_lines::is_step` meets its contract: the line is its word, a version and a hash
+-- or nothing.
+use mathlib.Core.Path.{sym, ◌∙◌, ap}
+use mathlib.Core.Bool.{◌||◌}
 use mathlib.Core.List.{[], ◌∷◌}
-use borrow.Author.Tests.{eq-eqb, ne_eqb}
-use Rattle.lists.specs.Choice.{is_some}
+use Prim.Native.Nat.{ℕ}
+use lib.Dec.{eqb}
+use borrow.Author.Rules.{rules}
 use Rattle.lists.proofs.ChoiceLaws.{none_given}
 use Rattle.lines.specs.Number.{ascii}
-use Rattle.lines.specs.Field.{read_fields}
-use Rattle.lines.specs.Cursor.{fields_from}
-use Rattle.lines.specs.Readings.{next_number_of}
-use Rattle.rules.specs.ResponseText.{commitment_field, read_step}
-use Rattle.inputs.proofs.ResponseLineLaws.{number-off, number-given, last-given, last-missing}
-use Rattle.inputs.proofs.ResponseLineLaws.{step_given}
+use Rattle.lines.specs.Readings.{read_of}
+use Rattle.rules.specs.Limits.{hash_length}
+use Rattle.rules.specs.ResponseText.{commitment_field}
+use Rattle.inputs.proofs.MatchLaws.{matched, unmatched}
+use Rattle.inputs.proofs.ResponseLineLaws.{number-off, number-given, last-judged, step_given}
 use Rattle.inputs.proofs.response_lines.is_step.Goals as goal
-
-pub returns-in_default : goal.returns-in_default
-unfolding ascii
-returns-in_default c =
-    let e = sym c.number_after.ensures ∙ ap next_number_of c.in_default.is in
-    sym (step_given _ ∙ none_given _ (number-off _ _ _ (commitment_field ∷ []) e))
-
-pub returns-in_default-last_bytes : goal.returns-in_default-last_bytes
-unfolding ascii
-returns-in_default-last_bytes c =
-    let e = last-missing _ _ _ _ c.last_bytes.ensures.read c.in_default-last_bytes.is in
-    sym ((let commitment-given0 : (let l1 = c.args.l.now in is_some (read_step l1) ≡ is_some (read_fields (commitment_field ∷ []) (fields_from l1 c.in-Read.next.at))) = let e0 = sym c.number_after.ensures ∙ ap next_number_of c.in-Read.is in
-    step_given _ ∙ number-given _ _ _ (commitment_field ∷ []) _ _ e0 in commitment-given0) ∙ e)
-
-pub returns-then-length-eq0 : goal.returns-then-length-eq0
-unfolding ascii
-returns-then-length-eq0 c =
-    let e = last-given _ _ _ _ c.last_bytes.ensures.read _ _ c.in-Read-last_bytes.is in
-    sym ((let commitment-given0 : (let l1 = c.args.l.now in is_some (read_step l1) ≡ is_some (read_fields (commitment_field ∷ []) (fields_from l1 c.in-Read.next.at))) = let e0 = sym c.number_after.ensures ∙ ap next_number_of c.in-Read.is in
-    step_given _ ∙ number-given _ _ _ (commitment_field ∷ []) _ _ e0 in commitment-given0) ∙ e ∙ rw (eq-eqb _ _ c.if-length-eq0.true) refl)
 
 pub returns : goal.returns
 unfolding ascii
 returns c =
-    let e = last-given _ _ _ _ c.last_bytes.ensures.read _ _ c.in-Read-last_bytes.is in
-    sym ((let commitment-given0 : (let l1 = c.args.l.now in is_some (read_step l1) ≡ is_some (read_fields (commitment_field ∷ []) (fields_from l1 c.in-Read.next.at))) = let e0 = sym c.number_after.ensures ∙ ap next_number_of c.in-Read.is in
-    step_given _ ∙ number-given _ _ _ (commitment_field ∷ []) _ _ e0 in commitment-given0) ∙ e ∙ rw (ne_eqb _ _ c.if-length-eq0.false) refl)
+    let l = c.args.l.now in
+    let e = sym c.number_after.ensures in
+    matched _ _ _ _ c.and_then.ensures
+    (λ i n. unmatched _ _ _ c.is_some_and.ensures n ∙ sym (step_given l ∙ none_given _ (number-off l _ _ (commitment_field ∷ []) (e ∙ ap read_of i))))
+    (λ (v, next) i k.
+    last-judged l (λ (n : ℕ). eqb n 0 || eqb n hash_length) next.at c.and_then.result (search rules) _ _ c.is_some_and.ensures (λ n p q. search rules)
+    ∙ sym (step_given l ∙ number-given l _ _ (commitment_field ∷ []) v next.at (e ∙ ap read_of i)))

@@ -1,40 +1,31 @@
 -- `inputs::response_lines::kind_line` meets its contract: the two words are passed over, then the
 -- two parts are read.
 use mathlib.Core.Path.{◌≡◌, refl, sym, ◌∙◌, ap}
-use mathlib.Core.Option.{some}
 use Rattle.lines.specs.Number.{ascii}
-use Rattle.lines.specs.Cursor.{word_at}
-use Rattle.lines.specs.Readings.{word_of}
-use Rattle.rules.specs.ResponseText.{read_kind_line}
-use Rattle.inputs.specs.ResponseLines.{kind_of, last_parts_of}
+use Rattle.lines.specs.Readings.{next_of}
 use Rattle.inputs.proofs.ResponseLineLaws.{with_kind, kind-on, kind-off, kind-other}
 use Rattle.inputs.proofs.response_lines.kind_line.Goals as goal
 
-pub returns-in_default : goal.returns-in_default
+pub returns-in_err-at_kind-clause-read : goal.returns-in_err-at_kind-clause-read
 unfolding ascii
-returns-in_default c = record { read = sym (kind-off _ _ (sym c.word.ensures ∙ ap word_of c.in_default.is)); stands = tt }
+returns-in_err-at_kind-clause-read c = rw c.from_residual.ensures (sym (kind-off _ _ (sym c.word.ensures ∙ ap next_of c.in_err-at_kind.was)))
 
-pub returns-in_default-word : goal.returns-in_default-word
+pub returns-in_err-next-clause-read : goal.returns-in_err-next-clause-read
 unfolding ascii
-returns-in_default-word c =
-    let e = rw c.requires at (sym c.word-2.ensures ∙ ap word_of c.in_default-word.is) in
-    record { read = sym (kind-other _ _ _ (let word_read0 : (word_at (ascii "kt") c.args.l.now 0 ≡ some c.in-Same.at_kind.at) = sym c.word.ensures ∙ ap word_of c.in-Same.is in word_read0) e); stands = tt }
+returns-in_err-next-clause-read c =
+    let e = rw c.requires at (sym c.word-2.ensures ∙ ap next_of c.in_err-next.was) in
+    rw c.from_residual-in_err-next.ensures (sym (kind-other _ _ _ (sym c.word.ensures ∙ ap next_of c.in_ok-at_kind.was) e))
 
-pub returns-in-Read : goal.returns-in-Read
+pub returns-in_err-identifier-clause-read : goal.returns-in_err-identifier-clause-read
 unfolding ascii
-returns-in-Read c =
-    let e = c.in-Read.is in
-    record {
-      read = sym ((let parts-read0 : (let a1 = c.args in read_kind_line (kind_of a1.kind) a1.l.now ≡ with_kind (kind_of a1.kind) (last_parts_of a1.l.now c.last_parts.result)) = let e0 = rw c.requires at (sym c.word-2.ensures ∙ ap word_of c.in-Same-word.is) in
-          kind-on _ _ _ _ (let word_read0 : (word_at (ascii "kt") c.args.l.now 0 ≡ some c.in-Same.at_kind.at) = sym c.word.ensures ∙ ap word_of c.in-Same.is in word_read0) e0 ∙ ap (with_kind _) (sym c.last_parts.ensures.read) in parts-read0) ∙ rw e refl);
-      stands = rw e at c.last_parts.ensures.stands;
-    }
+returns-in_err-identifier-clause-read c =
+    let e = rw c.requires at (sym c.word-2.ensures ∙ ap next_of c.in_ok-next.was) in
+    let k = kind-on _ _ _ _ (sym c.word.ensures ∙ ap next_of c.in_ok-at_kind.was) e in
+    rw c.from_residual-in_err-identifier.ensures (sym (k ∙ ap (with_kind _) (sym c.last_parts.ensures.read) ∙ rw c.in_err-identifier.was refl))
 
-pub returns-in-Unread : goal.returns-in-Unread
+pub returns-clause-read : goal.returns-clause-read
 unfolding ascii
-returns-in-Unread c =
-    record {
-      read = sym ((let parts-read0 : (let a1 = c.args in read_kind_line (kind_of a1.kind) a1.l.now ≡ with_kind (kind_of a1.kind) (last_parts_of a1.l.now c.last_parts.result)) = let e0 = rw c.requires at (sym c.word-2.ensures ∙ ap word_of c.in-Same-word.is) in
-          kind-on _ _ _ _ (let word_read0 : (word_at (ascii "kt") c.args.l.now 0 ≡ some c.in-Same.at_kind.at) = sym c.word.ensures ∙ ap word_of c.in-Same.is in word_read0) e0 ∙ ap (with_kind _) (sym c.last_parts.ensures.read) in parts-read0) ∙ rw c.in-Unread.is refl);
-      stands = tt;
-    }
+returns-clause-read c =
+    let e = rw c.requires at (sym c.word-2.ensures ∙ ap next_of c.in_ok-next.was) in
+    let k = kind-on _ _ _ _ (sym c.word.ensures ∙ ap next_of c.in_ok-at_kind.was) e in
+    sym (k ∙ ap (with_kind _) (sym c.last_parts.ensures.read) ∙ rw c.in_ok-identifier.was refl)

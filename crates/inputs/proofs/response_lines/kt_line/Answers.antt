@@ -1,27 +1,27 @@
 -- `inputs::response_lines::kt_line` meets its contract: the line is read as one of a search, else
 -- as one of monitoring.
-use mathlib.Core.Path.{refl}
+use mathlib.Core.Path.{◌≡◌, refl}
+use borrow.Author.Rules.{rules}
 use Rattle.lists.specs.Choice.{or_else}
 use Rattle.lines.specs.Number.{ascii}
+use Rattle.rules.specs.Response.{search as searched_kind, monitor}
+use Rattle.rules.specs.ResponseText.{read_kind_line}
+use Rattle.inputs.specs.ResponseLines.{kt_of}
+use Rattle.inputs.proofs.MatchLaws.{matched}
 use Rattle.inputs.proofs.response_lines.kt_line.Goals as goal
 
 pub kind_line-requires : goal.kind_line-requires
 unfolding ascii
 kind_line-requires c = refl
 
-pub kind_line-requires-in-Unread : goal.kind_line-requires-in-Unread
+pub or_else-requires : goal.or_else-requires
 unfolding ascii
-kind_line-requires-in-Unread c = refl
+or_else-requires c = search rules
 
-pub returns-in-Read : goal.returns-in-Read
+pub returns-clause-read : goal.returns-clause-read
 unfolding or_else
-returns-in-Read c =
-    let r = c.kind_line in
-    let e = c.in-Read.is in
-    record { read = rw (← r.ensures.read, e) refl; stands = rw e at r.ensures.stands }
-
-pub returns-in-Unread : goal.returns-in-Unread
-unfolding or_else
-returns-in-Unread c =
-    let r = c.kind_line-in-Unread.ensures in
-    record { read = rw (← c.kind_line.ensures.read, c.in-Unread.is) r.read; stands = r.stands }
+returns-clause-read c =
+    let l = c.args.l.now in
+    matched c.kind_line.result _ _ (kt_of l c.or_else.result ≡ or_else (read_kind_line searched_kind l) (read_kind_line monitor l)) c.or_else.ensures
+    (λ i n. let q : kt_of l c.or_else.result ≡ read_kind_line monitor l = search rules in rw (← c.kind_line.ensures.read, i) q)
+    (λ k i m. rw (m, ← c.kind_line.ensures.read, i) refl)

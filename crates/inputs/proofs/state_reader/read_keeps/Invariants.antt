@@ -5,8 +5,8 @@ use lib.ListN.{length}
 use Rattle.inputs.proofs.StateRunLaws.{KeepsTo}
 use Rattle.inputs.proofs.state_reader.read_keeps.Given as goal
 
-abbrev pub invariant-loop-at : goal.invariant-loop-at
-invariant-loop-at l = (l.count ≤ l.at) × (l.at ≤ length l.text) × KeepsTo l.text l.from l.at l.count l.values
+abbrev pub invariant-loop-keep : goal.invariant-loop-keep
+invariant-loop-keep l = record { few : l.count ≤ l.at; within : l.at ≤ length l.text; keeps : KeepsTo l.text l.from l.at l.count l.values }
 
-abbrev pub decreases-loop-at : goal.decreases-loop-at
-decreases-loop-at l = length l.text - l.at
+abbrev pub decreases-loop-keep : goal.decreases-loop-keep
+decreases-loop-keep l = length l.text - l.at

@@ -5,8 +5,8 @@ use lib.ListN.{length}
 use Rattle.inputs.proofs.StateRunLaws.{PairsTo}
 use Rattle.inputs.proofs.state_reader.read_pairs.Given as goal
 
-abbrev pub invariant-loop-at : goal.invariant-loop-at
-invariant-loop-at l = (l.count ≤ l.at) × (l.at ≤ length l.text) × PairsTo l.text l.from l.at l.count l.positions l.versions
+abbrev pub invariant-loop-position : goal.invariant-loop-position
+invariant-loop-position l = record { few : l.map.count ≤ l.at; within : l.at ≤ length l.text; pairs : PairsTo l.text l.from l.at l.map }
 
-abbrev pub decreases-loop-at : goal.decreases-loop-at
-decreases-loop-at l = length l.text - l.at
+abbrev pub decreases-loop-position : goal.decreases-loop-position
+decreases-loop-position l = length l.text - l.at

@@ -1,39 +1,31 @@
--- `inputs::vrf_outputs::find_output` meets its contract: where versions rise, a record of the
--- version stands between the two bounds.
-use mathlib.Core.Path.{refl, sym, ◌∙◌}
-use Prim.Native.Nat.{◌+◌, ◌-◌, ◌/◌}
-use native.Mathlib.Omega.{arith}
-use Rattle.inputs.specs.VrfOutputs.{found_output}
-use Rattle.inputs.proofs.VrfOutputLaws.{between_all, between_above, between_below}
-use Rattle.inputs.proofs.VrfOutputLaws.{found_record, found_nothing}
+-- `inputs::vrf_outputs::find_output` meets its contract: the search ends at a record of the version,
+-- or, where versions rise, there is none.
+use mathlib.Core.Path.{◌≡◌, refl, ◌∙◌, ap}
+use Rattle.std.proofs.Common.{rules}
+use Rattle.std.proofs.lemmas.List.Sorted.{answers_always}
+use Rattle.rules.specs.VrfOutputs.{VrfOutput}
+use Rattle.inputs.specs.VrfOutputs.{found_output, record_at}
+use Rattle.inputs.proofs.VrfOutputLaws.{chunk_at, chunk_version, searched, found_record, found_nothing}
 use Rattle.inputs.proofs.vrf_outputs.find_output.Goals as goal
 
-pub loop-low-init : goal.loop-low-init
-loop-low-init c = let a = c.args in (omega arith, omega arith, between_all a.outputs.now a.version)
-
-pub returns-then-there-version : goal.returns-then-there-version
+pub returns-in_default : goal.returns-in_default
 unfolding found_output
-returns-then-there-version c =
-    let a = c.args in
-    let m = c.loop-low.low + (c.loop-low.high - c.loop-low.low) / 2 in
-    let it = found_record a.outputs.now a.version m _ (omega arith) (sym c.version_at-there.ensures ∙ c.if-there-version.true) (rw c.output_at.ensures refl) in
+returns-in_default c =
+    let s = c.args.outputs.now in
+    let facts = c.binary_search_by_key.ensures in
+    let by_version = facts.position chunk_version (answers_always _ _ _ (λ f a r g called. search rules)) in
+    let there = rw c.in_default.is at (searched s c.args.version _ c.as_chunks.ensures.front c.as_chunks.ensures.front_len _ facts.bound by_version) in
+    let it = found_nothing s c.args.version _ there refl in
     record { rising = it.0; any = it.1 }
-
-pub loop-low-preserved-then-there-version-2 : goal.loop-low-preserved-then-there-version-2
-loop-low-preserved-then-there-version-2 c =
-    let a = c.args in
-    let m = c.loop-low.low + (c.loop-low.high - c.loop-low.low) / 2 in
-    (omega arith, omega arith, between_above a.outputs.now a.version c.loop-low.low c.loop-low.high m (omega arith) (omega arith) c.loop-low.invariant.2)
-
-pub loop-low-preserved : goal.loop-low-preserved
-loop-low-preserved c =
-    let a = c.args in
-    let m = c.loop-low.low + (c.loop-low.high - c.loop-low.low) / 2 in
-    (omega arith, omega arith, between_below a.outputs.now a.version c.loop-low.low c.loop-low.high m (omega arith) c.loop-low.invariant.2)
 
 pub returns : goal.returns
 unfolding found_output
 returns c =
-    let a = c.args in
-    let it = found_nothing a.outputs.now a.version c.loop-low.low c.loop-low.high _ c.loop-low.invariant.2 (omega arith) refl in
+    let s = c.args.outputs.now in
+    let facts = c.binary_search_by_key.ensures in
+    let by_version = facts.position chunk_version (answers_always _ _ _ (λ f a r g called. search rules)) in
+    let there = rw c.in-Ok.is at (searched s c.args.version _ c.as_chunks.ensures.front c.as_chunks.ensures.front_len _ facts.bound by_version) in
+    let held : c.output_of.result ≡ (record_at s c.in-Ok.index).output =
+    c.output_of.ensures ∙ ap (λ (x : VrfOutput). x.output) (chunk_at s _ c.in-Ok.index _ c.as_chunks.ensures.front there.0) in
+    let it = found_record s c.args.version c.in-Ok.index _ there.0 there.1 (rw held refl) in
     record { rising = it.0; any = it.1 }

@@ -56,4 +56,5 @@ returns c =
     let s = c.args.s.now in
     let d = is_dash s c.as_slice.result.now c.eq.result c.as_slice.ensures c.eq.ensures in
     let n = eqb-false _ _ (sym c.if-is_empty.ensures) in
-    sym (decoded-half s (d ∙ c.if-eq.false) (omega (arith, n)) c.if-s-ne0.false (c.loop-b.invariant ∙ digits_none s c.loop-b.b-index (omega arith)))
+    sym (decoded-half s (d ∙ c.if-eq.false) (omega (arith, n)) c.if-s-ne0.false
+    (c.loop-b.invariant ∙ digits_none s c.loop-b.b-index (omega arith)))

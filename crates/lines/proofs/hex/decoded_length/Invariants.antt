@@ -1,5 +1,5 @@
--- `lines::hex::spelled_length` meets its contract: the bytes before i are digits, so those from i
--- on decide.
+-- `lines::hex::decoded_length` meets its contract: the bytes passed are digits, so the others
+-- decide.
 use mathlib.Core.Path.{◌≡◌}
 use lib.ListN.{drop}
 use Rattle.lists.specs.Lists.{all}

@@ -11,7 +11,14 @@ pub overflow_sub-result-else-b-le57 : goal.overflow_sub-result-else-b-le57
 overflow_sub-result-else-b-le57 c = omega (arith, hex_digit_high_bound c.args.b c.requires (omega arith))
 
 pub returns-then-b-le57 : goal.returns-then-b-le57
-returns-then-b-le57 c = let b = c.args.b in (sym (value_low b (hex_digit_bound b c.requires) (omega arith)), omega arith)
+returns-then-b-le57 c =
+    let b = c.args.b in
+    (sym (value_low b (hex_digit_bound b c.requires) (omega arith)), omega arith)
 
 pub returns-else-b-le57 : goal.returns-else-b-le57
-returns-else-b-le57 c = let b = c.args.b in (omega (arith, value_high b (omega arith), hex_digit_high_bound b c.requires (omega arith)), omega (arith, hex_digit_high_bound b c.requires (omega arith)))
+returns-else-b-le57 c =
+    let b = c.args.b in (
+      omega (arith, value_high b (omega arith), hex_digit_high_bound b c.requires (omega arith)),
+      omega
+          (arith, hex_digit_high_bound b c.requires (omega arith)),
+    )

@@ -36,12 +36,15 @@ loop-i-preserved c =
     let e = sym c.is_hex_digit-in-loop-i.ensures ∙ c.if-not-is_hex_digit-2.false in
     let n : 2 * (i + 1) ≡ 2 * i + 2 = omega arith in
     let b = c.digit_value.result * 16 + c.digit_value-in-loop-i.result in
-    let f = fill_step c.loop-i.value (unhex (drop (2 * i + 2) s)) (unhex s) i b (omega arith) (cc (unhex-pair s (2 * i) (omega arith))) in
+    let f =
+    fill_step c.loop-i.value (unhex (drop (2 * i + 2) s)) (unhex s) i b (omega arith)
+    (cc (unhex-pair s (2 * i) (omega arith))) in
     (simp length-set c.loop-i.invariant.0, rw n (c.loop-i.invariant.1 ∙ digit-pair s (2 * i) (omega arith) d e), rw n f)
 
 pub returns : goal.returns
 returns c =
     let s = c.args.s.now in
     let i = c.loop-i.i in
-    let v : c.loop-i.value ≡ unhex s = fill_end c.loop-i.value (unhex s) i (omega arith) (cc (unhex-end s (2 * i) (omega arith))) in
+    let v : c.loop-i.value ≡ unhex s =
+    fill_end c.loop-i.value (unhex s) i (omega arith) (cc (unhex-end s (2 * i) (omega arith))) in
     rw v (sym (digest_some s (omega arith) (c.loop-i.invariant.1 ∙ digits_none s (2 * i) (omega arith))))

@@ -1,4 +1,5 @@
--- `lines::line::lacks_newline` meets its contract: where no newline was met, the next one is the same from the offset passed on.
+-- `lines::line::lacks_newline` meets its contract: where no newline was met, the next one is the
+-- same from the offset passed on.
 use mathlib.Core.Path.{◌≡◌, refl, sym}
 use mathlib.Core.Bool.{Bool, true, false, ◌||◌, false≢true}
 use Prim.Native.Nat.{ℕ, ◌+◌, ◌<◌}
@@ -12,8 +13,10 @@ use borrow.Author.Tests.{eqb-false}
 use Rattle.lines.proofs.line.lacks_newline.Goals as goal
 
 -- one byte more
-step : (s : Bytes) (at k : ℕ) (hit : Bool) → at + k < length s → (hit ≡ false → at + k + length (before newline (drop (at + k) s)) ≡ at + length (before newline (drop at s)))
-    → (hit || eqb (get_or s (at + k) 0) 10) ≡ false → at + (k + 1) + length (before newline (drop (at + (k + 1)) s)) ≡ at + length (before newline (drop at s))
+step : (s : Bytes) (at k : ℕ) (hit : Bool) → at + k < length s
+    → (hit ≡ false → at + k + length (before newline (drop (at + k) s)) ≡ at + length (before newline (drop at s)))
+    → (hit || eqb (get_or s (at + k) 0) 10) ≡ false
+    → at + (k + 1) + length (before newline (drop (at + (k + 1)) s)) ≡ at + length (before newline (drop at s))
 step s at k true h v e = absurd (false≢true (sym e))
 step s at k false h v e =
     let n : at + (k + 1) ≡ at + k + 1 = omega arith in

@@ -1,4 +1,5 @@
--- `lines::line::lacks_newline` meets its contract: where no newline was met, the next one is the same from the offset passed on.
+-- `lines::line::lacks_newline` meets its contract: where no newline was met, the next one is the
+-- same from the offset passed on.
 use mathlib.Core.Path.{◌≡◌}
 use mathlib.Core.Bool.{false}
 use Prim.Native.Nat.{◌+◌}

@@ -1,4 +1,5 @@
--- `lines::line::line_end` meets its contract: the offset passed and what stands before the newline from there on stay the answer.
+-- `lines::line::line_end` meets its contract: the offset passed and what stands before the newline
+-- from there on stay the answer.
 use mathlib.Core.Path.{◌≡◌}
 use Prim.Native.Nat.{◌+◌, ◌≤◌}
 use lib.ListN.{length, drop}

@@ -14,7 +14,9 @@ use Rattle.lines.proofs.number.read_number.Goals as goal
 use Rattle.lines.proofs.number.read_number.Goals.{then-s-gt1+else-s-eq48, else-s-gt1}
 
 pub returns-then-is_empty : goal.returns-then-is_empty
-returns-then-is_empty c = let a = c.args in sym (number_empty a.bound a.s.now (eqb-true _ _ (sym c.if-is_empty.ensures)))
+returns-then-is_empty c =
+    let a = c.args in
+    sym (number_empty a.bound a.s.now (eqb-true _ _ (sym c.if-is_empty.ensures)))
 
 pub returns-then-s-eq48 : goal.returns-then-s-eq48
 returns-then-s-eq48 c = let a = c.args in sym (number_zero a.bound a.s.now (omega arith) (omega arith))
@@ -42,18 +44,21 @@ returns-in_err-checked_mul c =
     let a = c.args in
     let h = c.in_err-checked_mul.ensures in
     ap option_of c.from_residual.ensures
-    ∙ sym (c.loop-b.invariant.1 ∙ digits-beyond a.bound a.s.now c.loop-b.b-index c.loop-b.value (omega arith) (omega arith))
+    ∙ sym (c.loop-b.invariant.1 ∙ digits-beyond a.bound a.s.now c.loop-b.b-index c.loop-b.value (omega arith)
+    (omega arith))
 
 pub returns-in_err-value : goal.returns-in_err-value
 returns-in_err-value c =
     let a = c.args in
     ap option_of c.from_residual-in_err-value.ensures
-    ∙ sym (c.loop-b.invariant.1 ∙ digits-beyond a.bound a.s.now c.loop-b.b-index c.loop-b.value (omega arith) (omega arith))
+    ∙ sym (c.loop-b.invariant.1 ∙ digits-beyond a.bound a.s.now c.loop-b.b-index c.loop-b.value (omega arith)
+    (omega arith))
 
 pub returns-then-bound-value : goal.returns-then-bound-value
 returns-then-bound-value c =
     let a = c.args in
-    sym (c.loop-b.invariant.1 ∙ digits-beyond a.bound a.s.now c.loop-b.b-index c.loop-b.value (omega arith) (omega arith))
+    sym (c.loop-b.invariant.1 ∙ digits-beyond a.bound a.s.now c.loop-b.b-index c.loop-b.value (omega arith)
+    (omega arith))
 
 pub loop-b-preserved : goal.loop-b-preserved
 unfolding is_digit
@@ -69,4 +74,5 @@ loop-b-preserved c =
 pub returns : goal.returns
 returns c =
     let a = c.args in
-    sym (c.loop-b.invariant.1 ∙ digits-end a.bound a.s.now c.loop-b.b-index c.loop-b.value (omega arith) c.loop-b.invariant.0)
+    sym (c.loop-b.invariant.1 ∙ digits-end a.bound a.s.now c.loop-b.b-index c.loop-b.value (omega arith)
+    c.loop-b.invariant.0)

@@ -41,5 +41,6 @@ pub returns : goal.returns
 returns c =
     let a = c.args in
     let o = room_ends a.out.now a.at a.s.now _ refl _ c.end_within.ensures _ c.in_ok-end.was in
-    let p = put_part a.out.now a.at a.s.now c.in_ok-end.end c.copy_from_slice.new.self o.is c.copy_from_slice.ensures.after in
+    let p =
+    put_part a.out.now a.at a.s.now c.in_ok-end.end c.copy_from_slice.new.self o.is c.copy_from_slice.ensures.after in
     record { offset = o.offset; bytes = p ∙ sym o.bytes }

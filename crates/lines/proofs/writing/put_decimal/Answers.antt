@@ -27,8 +27,13 @@ loop-rest-preserved c =
     let n = c.args.n in
     let p = digits-room n l.rest l.digits l.first l.invariant.0 l.invariant.3 (omega arith) (omega arith) in
     let k : l.first - 1 + 1 ≡ l.first = omega arith in
-    let s = digits-stored n l.rest l.digits l.first l.invariant.0 l.invariant.3 (omega arith) in
-    (omega (arith, length-set l.digits l.first (48 + l.rest % 10)), simp length-set l.invariant.1, l.invariant.2, rw k s)
+    let s = digits-stored n l.rest l.digits l.first l.invariant.0 l.invariant.3 (omega arith) in (
+      omega (arith, length-set l.digits l.first (48 + l.rest % 10)),
+      simp length-set l.invariant.1,
+      l.invariant.2,
+      rw k
+          s,
+    )
 
 pub returns : goal.returns
 returns c =
@@ -36,5 +41,7 @@ returns c =
     let p = c.put_bytes.ensures.offset in
     let b = c.put_bytes.ensures.bytes in
     let i = c.loop-rest.first in
-    let w = digits-whole a.n c.loop-rest.rest c.loop-rest.digits i c.loop-rest.invariant.0 c.loop-rest.invariant.3 (20 - i) (omega arith) (omega arith) in
+    let w =
+    digits-whole a.n c.loop-rest.rest c.loop-rest.digits i c.loop-rest.invariant.0 c.loop-rest.invariant.3 (20 - i)
+    (omega arith) (omega arith) in
     record { offset = p ∙ ap (offset_after a.out.now a.at) w; bytes = b ∙ ap (put_at a.out.now a.at) w }

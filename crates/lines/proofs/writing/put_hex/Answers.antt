@@ -19,7 +19,8 @@ length-field s p = ap length (hex_field_some s p) ∙ length_hex s
 pub returns-then-is_empty : goal.returns-then-is_empty
 returns-then-is_empty c =
     let b = c.put_bytes.ensures in
-    rw (hex_field_none c.args.s.now (eqb-true _ _ (sym c.if-is_empty.ensures))) (record { offset = b.offset; bytes = b.bytes })
+    rw (hex_field_none c.args.s.now (eqb-true _ _ (sym c.if-is_empty.ensures)))
+    (record { offset = b.offset; bytes = b.bytes })
 
 pub returns-in_err-end : goal.returns-in_err-end
 returns-in_err-end c =

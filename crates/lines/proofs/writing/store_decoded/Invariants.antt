@@ -1,4 +1,4 @@
--- `lines::writing::store_spelled` meets its contract: the bytes that the digits from 2i on encode,
+-- `lines::writing::store_decoded` meets its contract: the bytes that the digits from 2i on encode,
 -- stored into what is there, make all bytes in their place.
 use mathlib.Core.Path.{◌≡◌}
 use Prim.Native.Nat.{◌+◌, ◌*◌}

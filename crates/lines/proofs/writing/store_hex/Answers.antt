@@ -23,9 +23,16 @@ loop-i-preserved c =
     let high = hex_digit (get_or s i 0 / 16) in
     let low = hex_digit (get_or s i 0 % 16) in
     let rest = hex (drop (i + 1) s) in
-    let m = sets_next c.loop-i.out (hex (drop i s)) (low ∷ rest) (a.at + 2 * i) (a.at + 2 * i + 1) high refl (hex_at s i (omega arith)) in
-    let n = sets_next (set c.loop-i.out (a.at + 2 * i) high) (low ∷ rest) rest (a.at + 2 * i + 1) (a.at + 2 * (i + 1)) low (omega arith) refl in
-    (simp length-set c.loop-i.invariant.0, rw (c.hex_digit.ensures, c.hex_digit-in-loop-i.ensures) (c.loop-i.invariant.1 ∙ m ∙ n))
+    let m =
+    sets_next c.loop-i.out (hex (drop i s)) (low ∷ rest) (a.at + 2 * i) (a.at + 2 * i + 1) high refl
+    (hex_at s i (omega arith)) in
+    let n =
+    sets_next (set c.loop-i.out (a.at + 2 * i) high) (low ∷ rest) rest (a.at + 2 * i + 1) (a.at + 2 * (i + 1)) low
+    (omega arith) refl in (
+      simp length-set c.loop-i.invariant.0,
+      rw (c.hex_digit.ensures, c.hex_digit-in-loop-i.ensures)
+          (c.loop-i.invariant.1 ∙ m ∙ n),
+    )
 
 pub returns : goal.returns
 returns c =

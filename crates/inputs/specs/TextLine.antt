@@ -1,0 +1,16 @@
+-- The line of a text at an offset, and what a reader makes of it.
+use Rattle.std.specs.Prelude.{ℕ, ◌-◌, take, drop}
+use Rattle.std.proofs.Math.Option.{Option, some, bind as ◌>>=◌}
+use Rattle.lists.specs.Lists.{Bytes}
+use Rattle.lines.specs.Cursor.{line_at}
+
+-- what a reader makes of the line at an offset, and the offset after it
+unfoldable pub read_from : {A : Type 0} → (Bytes → Option A) → Bytes → ℕ → Option (A × ℕ)
+read_from read s at = do
+  (stop, next) ← line_at s at
+  a ← read (take (stop - at) (drop at s))
+  some (a, next)
+
+-- the line itself, and the offset after it
+abbrev pub line_from : Bytes → ℕ → Option (Bytes × ℕ)
+line_from s at = read_from some s at
