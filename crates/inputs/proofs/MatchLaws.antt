@@ -1,5 +1,5 @@
 -- Laws of what a method of an option promises by its cases.
-use mathlib.Core.Path.{◌≡◌, refl, sym}
+use mathlib.Core.Path.{◌≡◌, refl}
 use mathlib.Core.Option.{Option, none, some, map, none-ne-some}
 use Rattle.std.specs.Prelude.{MatchOption, Some, None, Option as CodeOption}
 
@@ -11,10 +11,6 @@ matched {A} o N P G m n s = go o refl m
     go : (i : CodeOption A) → o ≡ i → MatchOption i N P → G
     go None e m = n e m
     go (Some a) e m = s a e m
-
--- what holds where there is no value
-pub unmatched : {A : Type 0} (o : CodeOption A) (N : Type 0) (P : A → Type 0) → MatchOption o N P → o ≡ None → N
-unmatched o N P m e = rw e at m
 
 -- what is made of nothing is made of no value
 pub map_none : {A B : Type 0} (f : A → B) (o : Option A) → none ≡ map f o → o ≡ none

@@ -2,13 +2,14 @@
 -- `end` line ends them, the text ends there too, and each lookup follows an entry.
 use mathlib.Core.Path.{◌≡◌, refl, sym, ◌∙◌, ap}
 use mathlib.Core.Bool.{Bool, true, false, ◌&&◌}
-use mathlib.Core.List.{List, [], ◌∷◌}
+use mathlib.Core.List.{List, []}
 use mathlib.Core.Option.{Option, none, some}
 use Prim.Native.Nat.{ℕ, ◌≤◌, ◌<◌}
 use native.Mathlib.Omega.{arith}
 use lib.Dec.{eqb, ltb}
 use lib.ListN.{length, drop}
 use borrow.Author.Tests.{eq-eqb, eqb-true, ltb-true, ltb-false}
+use Rattle.std.proofs.lemmas.List.{nil_from_length}
 use Rattle.lists.specs.Choice.{◌>>◌}
 use Rattle.lists.specs.Lists.{Bytes, same}
 use Rattle.lists.proofs.ChoiceLaws.{and_holds, holds_and, test_true, test_some}
@@ -31,11 +32,6 @@ use Rattle.inputs.specs.ResponseSections.{SectionOf}
 none_otherwise : {A : Type 0} (o : Option A) → ((a : A) → o ≡ some a → ⊥) → o ≡ none
 none_otherwise none h = refl
 none_otherwise (some a) h = absurd (h a refl)
-
--- a list of no length is empty
-empty_length : {A : Type 0} (xs : List A) → length xs ≡ 0 → xs ≡ []
-empty_length [] e = refl
-empty_length (x ∷ xs) e = absurd (omega arith)
 
 module _
     (s : Bytes) (h : Header) (steps entries nodes ends : Section)
@@ -120,7 +116,7 @@ module _
     pub parts_more : ends.part.stop < length s → parts_after s h ≡ none
     parts_more l =
         none_otherwise (parts_after s h)
-        (λ p q. let f = parts_fit p q in line_more s ends.part.stop l (empty_length (ended_lines (drop ends.part.stop s)) f.nothing_more) f.nothing_open)
+        (λ p q. let f = parts_fit p q in line_more s ends.part.stop l (nil_from_length (ended_lines (drop ends.part.stop s)) f.nothing_more) f.nothing_open)
 
     module _ (n : ltb 0 (length (loose_in (drop steps.part.stop s))) ≡ false) (o : ends.count ≡ 1) (w : length s ≤ ends.part.stop) where
       -- in all other cases the sections make the response
@@ -160,6 +156,6 @@ module _
         record {
           steps = a.whole;
           entries = b.whole;
-          none_loose = empty_length (loose_in (part_of s entries.part)) (omega (arith, loose-section));
+          none_loose = nil_from_length (loose_in (part_of s entries.part)) (omega (arith, loose-section));
           nodes = c.whole;
         }

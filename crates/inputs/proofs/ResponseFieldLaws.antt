@@ -16,7 +16,6 @@ use Rattle.lines.specs.Readings.{part_of}
 use Rattle.lines.specs.declared.part.Part.{Part}
 use Rattle.rules.specs.Response.{search}
 use Rattle.rules.specs.ResponseText.{target_form}
-use Rattle.inputs.specs.declared.response_lines.Kind.{Kind}
 use Rattle.inputs.specs.declared.response_lines.Kind.TheVariants.{Search}
 use Rattle.inputs.specs.declared.response_lines.Target.{Target}
 use Rattle.inputs.specs.declared.response_lines.KtLine.{KtLine}

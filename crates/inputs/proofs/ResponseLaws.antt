@@ -1,17 +1,14 @@
 -- Laws of reading a response from its offsets (specs/ResponseHeader.antt): the lines before the
 -- sections, one after the other.
-use mathlib.Core.Path.{◌≡◌, refl, sym, ◌∙◌, ap, ap₂}
+use mathlib.Core.Path.{◌≡◌, refl, ◌∙◌, ap, ap₂}
 use mathlib.Core.List.{List, [], ◌∷◌}
-use mathlib.Core.Option.{Option, none, some, bind, map, some-injective, none-ne-some}
-use Prim.Native.Nat.{ℕ, ◌-◌, ◌≤◌}
-use native.Mathlib.Omega.{arith}
-use lib.ListN.{length, take, drop}
+use mathlib.Core.Option.{Option, none, some, bind, map, some-injective}
+use Prim.Native.Nat.{ℕ, ◌≤◌}
+use lib.ListN.{length, drop}
 use Rattle.lists.specs.Choice.{◌>>◌}
 use Rattle.lists.specs.Lists.{Bytes, same}
-use Rattle.lists.proofs.ChoiceLaws.{provided_then, test_none, bind_some, map_some}
+use Rattle.lists.proofs.ChoiceLaws.{provided_then, test_none, bind_some}
 use Rattle.lines.specs.Line.{Read as ReadForm, ended_lines, open_rest, read_lines, read_line}
-use Rattle.lines.specs.Cursor.{line_at}
-use Rattle.lines.proofs.SectionLaws.{LineHere, line_here, line_none}
 use Rattle.rules.specs.Response.{Kind, search, monitor, Finding, searched, monitored, Parts}
 use Rattle.rules.specs.ResponseText.{kt_form, head_form, target_form, read_body, read_rest, read_parts}
 use Rattle.rules.specs.ResponseText.{read_response}

@@ -148,7 +148,7 @@ module _ (l : Bytes) where
 
   module _ (fits : ℕ → Bool) (at : ℕ) (r : CodeOption (ℕ × Part)) (e : (fits : ℕ → Bool) → last_bytes_of l fits r ≡ read_fields (bytes fits ∷ []) (fields_from l at)) where
     -- a last byte string is given if its length fits
-    pub last-given : (n : ℕ) (p : Part) → r ≡ Some (n, p) → is_some (read_fields (bytes fits ∷ []) (fields_from l at)) ≡ fits n
+    last-given : (n : ℕ) (p : Part) → r ≡ Some (n, p) → is_some (read_fields (bytes fits ∷ []) (fields_from l at)) ≡ fits n
     last-given n p i = ap is_some (sym (e fits)) ∙ ap (λ (x : CodeOption (ℕ × Part)). is_some (last_bytes_of l fits x)) i ∙ given_provided (fits n) (decoded (part_of l p), tt)
 
     -- so it is where a judgement of it says so
@@ -159,10 +159,6 @@ module _ (l : Bytes) where
         go : (o : CodeOption (ℕ × Part)) → r ≡ o → MatchOption o (b ≡ false) P → b ≡ is_some (read_fields (bytes fits ∷ []) (fields_from l at))
         go None i q = q ∙ sym (none_given (read_fields (bytes fits ∷ []) (fields_from l at)) (sym (e fits) ∙ ap (last_bytes_of l fits) i))
         go (Some (n, p)) i q = h n p q ∙ sym (last-given n p i)
-
-    -- none is given where there is none
-    pub last-missing : r ≡ None → is_some (read_fields (bytes fits ∷ []) (fields_from l at)) ≡ false
-    last-missing i = none_given (read_fields (bytes fits ∷ []) (fields_from l at)) (sym (e fits) ∙ ap (last_bytes_of l fits) i)
 
   -- ---- a first line
 

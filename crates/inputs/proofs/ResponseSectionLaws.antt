@@ -3,7 +3,7 @@
 use mathlib.Core.Path.{◌≡◌, refl, sym, ◌∙◌, ap}
 use mathlib.Core.Bool.{Bool, true, false, not, false≢true}
 use mathlib.Core.List.{List, [], ◌∷◌, ◌++◌, append-nil}
-use mathlib.Core.Option.{Option, none, some, bind, map, none-ne-some}
+use mathlib.Core.Option.{Option, none, some, bind, map}
 use Prim.Native.Nat.{ℕ, suc, ◌+◌, ◌-◌, ◌≤◌}
 use native.Mathlib.Omega.{arith}
 use lib.Dec.{ltb}
@@ -12,12 +12,11 @@ use borrow.Author.Tests.{lt-ltb}
 use Rattle.std.specs.Bool.{then_some}
 use Rattle.lists.specs.Choice.{is_some, or_else}
 use Rattle.lists.specs.Lists.{Bytes}
-use Rattle.lists.proofs.ChoiceLaws.{map_some, given_some, given_none}
+use Rattle.lists.proofs.ChoiceLaws.{map_some, given_none}
 use Rattle.lines.specs.Line.{Read as ReadForm, ended_lines, read_line, leading}
-use Rattle.lines.specs.Cursor.{line_at}
 use Rattle.lines.specs.Readings.{part_of}
-use Rattle.lines.proofs.LineLaws.{leading_end, leading-none, leading-some}
-use Rattle.lines.proofs.SectionLaws.{line_here, line_none, Section, section_start, section_next}
+use Rattle.lines.proofs.LineLaws.{leading_end, leading-some}
+use Rattle.lines.proofs.SectionLaws.{Section, section_start, section_next}
 use Rattle.lines.proofs.SectionLaws.{section-lines, section-rest, section-part, section-closed}
 use Rattle.lines.proofs.SectionLaws.{leading-append, leading-snoc}
 use Rattle.rules.specs.Response.{Entry, Lookup}
@@ -29,7 +28,7 @@ use Rattle.inputs.specs.declared.response.Role.TheVariants.{Begins, Continues}
 use Rattle.inputs.specs.TextLine.{read_from}
 use Rattle.inputs.specs.Response.{loose_in}
 use Rattle.inputs.specs.ResponseSections.{Element, read_element, begins_element, read_role, role_of, count_of, SectionOf}
-use Rattle.inputs.proofs.TextLineLaws.{from_some, ReadHere, from-was}
+use Rattle.inputs.proofs.TextLineLaws.{ReadHere, from-was, from-unmapped, none-leads}
 
 -- ---- one line
 
@@ -81,19 +80,7 @@ module _ (sort : Sort) (s : Bytes) (at : ℕ) where
 
   -- where there is none, no line that reads leads
   role_not : read_from (read_role sort) s at ≡ none → leading (read_element sort) (ended_lines (drop at s)) ≡ ([], ended_lines (drop at s))
-  role_not e = go (line_at s at) refl
-    where
-      step : (stop next : ℕ) → line_at s at ≡ some (stop, next) → (o : Option (Element sort)) → read_element sort (take (stop - at) (drop at s)) ≡ o
-          → leading (read_element sort) (ended_lines (drop at s)) ≡ ([], ended_lines (drop at s))
-      step stop next q none n =
-          rw (line_here s at stop next q).lines (leading-none (read_element sort) (take (stop - at) (drop at s)) (ended_lines (drop next s)) n)
-      step stop next q (some x) r =
-          let b = begins_element sort x in
-          absurd (none-ne-some (b, next) (sym e ∙ from_some (read_role sort) s at stop next b q (ap (map (begins_element sort)) r)))
-
-      go : (o : Option (ℕ × ℕ)) → line_at s at ≡ o → leading (read_element sort) (ended_lines (drop at s)) ≡ ([], ended_lines (drop at s))
-      go none q = rw (line_none s at q).0 (leading_end (read_element sort))
-      go (some (stop, next)) q = step stop next q (read_element sort (take (stop - at) (drop at s))) refl
+  role_not e = none-leads (read_element sort) s at (from-unmapped (begins_element sort) (read_element sort) s at e)
 
 -- ---- how many
 

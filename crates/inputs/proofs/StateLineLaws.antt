@@ -1,7 +1,6 @@
 -- Laws of the single lines of a state's text, read field by field (specs/StateReader.antt): one law
 -- for each way in which a reading ends.
 use mathlib.Core.Path.{◌≡◌, refl, sym, ◌∙◌, ap}
-use mathlib.Core.Bool.{true}
 use mathlib.Core.List.{List, [], ◌∷◌}
 use mathlib.Core.Option.{Option, none, some, bind, map, some-injective, none-ne-some}
 use Prim.Native.Nat.{ℕ, ◌-◌, ◌≤◌, ◌<◌}

@@ -1,7 +1,7 @@
 -- Laws of a state's text (specs/StateReader.antt): what was read fills the struct of the state that
 -- the rules read of the text, and is refused where they read none.
 use mathlib.Core.Path.{◌≡◌, refl, sym, ◌∙◌, ap}
-use mathlib.Core.Bool.{Bool, true, false, false≢true}
+use mathlib.Core.Bool.{Bool, true, false}
 use mathlib.Core.List.{List, [], ◌∷◌, flatten, Memᴰ}
 use mathlib.Core.Option.{Option, none, some, Option-elim, bind, map, some-injective, none-ne-some}
 use Prim.Native.Nat.{ℕ, ◌-◌, ◌≤◌, ◌<◌}
@@ -20,9 +20,8 @@ use Rattle.lines.specs.Line.{Read, ended_lines, open_rest, read_lines, read_line
 use Rattle.lines.proofs.LineLaws.{leading-each}
 use Rattle.lines.proofs.SectionLaws.{line_end, line_more}
 use Rattle.tree.specs.LogHead.{level_limit}
-use Rattle.rules.specs.Limits.{label_limit, hash_length, map_limit, values_block_length, state_text_limit}
-use Rattle.rules.specs.State.{MapEntry, State, positions, versions, is_valid, empty_state, NumberedState}
-use Rattle.rules.specs.State.{new_state}
+use Rattle.rules.specs.Limits.{hash_length, map_limit, values_block_length, state_text_limit}
+use Rattle.rules.specs.State.{MapEntry, State, positions, versions, is_valid}
 use Rattle.rules.specs.Refusals.{valid_state}
 use Rattle.rules.specs.StateText.{size_form, read_keep, read_pair, read_state_lines, read_state, read_state_text}
 use Rattle.rules.proofs.StateLaws.{valid_was, values_few}

@@ -3,7 +3,6 @@
 -- values of all that lead; where no further line leads, the values so far are all.
 use mathlib.Core.Path.{◌≡◌, refl, sym, ◌∙◌, ap}
 use mathlib.Core.Logic.{◌⊎◌, inl, inr}
-use mathlib.Core.Bool.{true, false, false≢true}
 use mathlib.Core.List.{List, [], ◌∷◌, ◌++◌, map, flatten, append_assoc, append-nil, map-append}
 use mathlib.Core.Option.{Option, none, some, some-injective}
 use Prim.Native.Nat.{ℕ, ◌+◌, ◌-◌, ◌*◌, ◌≤◌, ◌<◌}
@@ -14,10 +13,9 @@ use borrow.Author.Tests.{eqb-true}
 use Rattle.lists.specs.Lists.{Bytes}
 use Rattle.lists.proofs.ChoiceLaws.{bind_some}
 use Rattle.lines.specs.Line.{Read, ended_lines, open_rest, read_line, leading}
-use Rattle.lines.specs.Cursor.{line_at}
 use Rattle.lines.specs.Writing.{put_at}
-use Rattle.lines.proofs.LineLaws.{line_read, leading_end, leading-none, leading-some}
-use Rattle.lines.proofs.SectionLaws.{LineHere, line_none, line_end}
+use Rattle.lines.proofs.LineLaws.{line_read, leading-some}
+use Rattle.lines.proofs.SectionLaws.{LineHere}
 use Rattle.tree.specs.LogHead.{level_limit}
 use Rattle.rules.specs.Limits.{hash_length, map_limit, values_block_length}
 use Rattle.rules.specs.State.{MapEntry, positions, versions}

@@ -45,10 +45,6 @@ module _ {A : Type 0} (read : Bytes → Option A) (s : Bytes) (at : ℕ) where
   pub from_some : (stop next : ℕ) (a : A) → line_at s at ≡ some (stop, next) → read (take (stop - at) (drop at s)) ≡ some a → read_from read s at ≡ some (a, next)
   from_some stop next a e q = from-line stop next e ∙ ap (map (followed_by next)) q
 
-  -- where it does not, nothing is read
-  pub from_none : (stop next : ℕ) → line_at s at ≡ some (stop, next) → read (take (stop - at) (drop at s)) ≡ none → read_from read s at ≡ none
-  from_none stop next e q = from-line stop next e ∙ ap (map (followed_by next)) q
-
   -- it is the first of the ended lines from there on
   pub from_first : first read (ended_lines (drop at s)) ≡ map (lines_from s) (read_from read s at)
   unfolding first
@@ -106,6 +102,25 @@ module _ {A : Type 0} (read : Bytes → Option A) (s : Bytes) (at : ℕ) where
           let m = take (stop - at) (drop at s) in
           let p : (m, after) ≡ (l, next) = some-injective (m, after) (l, next) (sym (from_some some s at stop after m q refl) ∙ e) in
           from-line read s at stop after q ∙ ap (λ (x : Bytes × ℕ). map (followed_by x.1) (read x.0)) p
+
+  -- what is made of it is read there
+  pub from-told : (l : Bytes) (next : ℕ) → line_from s at ≡ some (l, next) → (o : Option A) → o ≡ read l → map (followed_by next) o ≡ read_from read s at
+  from-told l next e o q = sym (from-its-line l next e ∙ ap (map (followed_by next)) (sym q))
+
+-- where nothing is made of what is read, nothing is read
+pub from-unmapped : {A B : Type 0} (f : A → B) (read : Bytes → Option A) (s : Bytes) (at : ℕ) → read_from (λ (l : Bytes). map f (read l)) s at ≡ none
+    → read_from read s at ≡ none
+unfolding read_from bind
+from-unmapped {A} {B} f read s at e = go (line_at s at) e
+  where
+    step : (next : ℕ) (o : Option A) → bind (map f o) (λ (b : B). some (followed_by next b)) ≡ none → bind o (λ (a : A). some (followed_by next a)) ≡ none
+    step next none e = refl
+    step next (some a) e = absurd (none-ne-some (f a, next) (sym e))
+
+    go : (o : Option (ℕ × ℕ)) → bind o (λ (x : ℕ × ℕ). bind (map f (read (take (x.0 - at) (drop at s)))) (λ (b : B). some (followed_by x.1 b))) ≡ none
+        → bind o (λ (x : ℕ × ℕ). bind (read (take (x.0 - at) (drop at s))) (λ (a : A). some (followed_by x.1 a))) ≡ none
+    go none e = refl
+    go (some (stop, next)) e = step next (read (take (stop - at) (drop at s))) e
 
 -- where none is read, no line leads
 pub none-leads : {A : Type 0} (read : Bytes → Option A) (s : Bytes) (at : ℕ) → read_from read s at ≡ none

@@ -9,8 +9,7 @@ use mathlib.Core.Option.{Option, Option-elim, none, some}
 use Prim.Native.Nat.{ℕ, zero, suc, ◌+◌, ◌*◌, ◌^◌, ◌/◌, ◌%◌, ◌≤◌, ◌<◌}
 use native.Mathlib.Omega.{arith}
 use lib.Dec.{eqb, ltb}
-use lib.ListN.{length, take, drop, get_or, length-map, length-take, length-drop, get_or-map}
-use lib.Seq.{drop-drop, take-take}
+use lib.ListN.{length, take, drop, get_or, length-map, length-drop, get_or-map}
 use borrow.Author.Tests.{eq-eqb, ne_eqb, eqb-true, lt-ltb, le-ltb, ltb-true}
 use Rattle.lists.specs.Choice.{is_some}
 use Rattle.lists.specs.Lists.{Bytes, select, first, rising, runs}
@@ -19,7 +18,6 @@ use Rattle.lists.proofs.ListLaws.{at_member, member_at, first_here, first_later,
 use Rattle.lists.proofs.ListLaws.{select_here, select_later, select_fewer}
 use Rattle.lists.proofs.RisingLaws.{rising_at, rising_two, short_rises, rising_first, rising_tail}
 use Rattle.lines.proofs.OffsetLaws.{at_cons}
-use Rattle.rules.specs.Limits.{vrf_output_length}
 use Rattle.rules.specs.Encoding.{uint, bytes_after}
 use Rattle.rules.specs.VrfOutputs.{VrfOutput, record_length, read_record, read_records, read_outputs, has_output}
 use Rattle.rules.specs.VrfOutputs.{output_of}

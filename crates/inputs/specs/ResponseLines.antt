@@ -1,5 +1,5 @@
--- What the readers of single lines of a response give back, from what is read. All but `encoded`
--- and `Spells` is for contracts of private functions alone.
+-- What the readers of single lines of a response give back, from what is read. All but `decoded`
+-- and `Decodes` is for contracts of private functions alone.
 use Rattle.std.specs.Prelude.{◌≡◌, Bool, true, [], ◌∷◌, ℕ, ◌≤◌, length, Some, None, Option as CodeOption}
 use Rattle.std.proofs.Math.Option.{Option, none, some, get_or, bind}
 use Rattle.lists.specs.Choice.{provided, is_some}

@@ -16,6 +16,7 @@ ghost use Rattle.inputs.specs.ResponseLines.{KtStands, TargetStands, NextPartSta
 ghost use Rattle.inputs.specs.ResponseLines.{LastPartsStand};
 
 use crate::state::State;
+use crate::text_line::after_word;
 use lines::cursor::Cursor;
 use lines::layout::Word;
 use lines::part::Part;
@@ -129,8 +130,7 @@ pub(crate) fn is_lookup(l: &[u8]) -> bool
 pub(crate) fn is_node(l: &[u8]) -> bool
     ensures { result ≡ is_some (read_node l.now) }
 {
-    Cursor { at: 0 }
-        .word(l, &Word::NODE)
+    after_word(l, &Word::NODE)
         .and_then(|next| last_bytes(l, next))
         .is_some_and(|(length, _)| length == HASH)
 }
@@ -139,9 +139,7 @@ pub(crate) fn is_node(l: &[u8]) -> bool
 pub(crate) fn is_end(l: &[u8]) -> bool
     ensures { result ≡ is_some (read_line end_form l.now) }
 {
-    Cursor { at: 0 }
-        .word(l, &Word::END)
-        .is_some_and(|next| l.len() < next.at)
+    after_word(l, &Word::END).is_some_and(|next| l.len() < next.at)
 }
 
 // A first line of one kind, whose word is given.
@@ -150,7 +148,7 @@ fn kind_line(l: &[u8], kind: Kind, word: &[u8]) -> Option<KtLine>
     ensures read { kt_of l.now result ≡ read_kind_line (kind_of kind) l.now }
     ensures stands { KtStands l.now result }
 {
-    let at_kind = Cursor { at: 0 }.word(l, &Word::KT)?;
+    let at_kind = after_word(l, &Word::KT)?;
     let next = at_kind.word(l, word)?;
     let (identifier, label) = last_parts(l, next, KtLine::IDENTIFIER, State::LABEL)?;
     Some(KtLine {
@@ -188,7 +186,7 @@ fn ends_with_siblings(l: &[u8], c: Cursor) -> bool
 fn number_after(l: &[u8], word: &[u8], bound: u64) -> Option<(u64, Cursor)>
     ensures { read_of result ≡ number_after word.now bound l.now }
 {
-    Cursor { at: 0 }.word(l, word)?.number(l, bound)
+    after_word(l, word)?.number(l, bound)
 }
 
 // The field at a cursor as a byte string of a certain length, by the part that it fills.

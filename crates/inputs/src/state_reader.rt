@@ -16,7 +16,7 @@ ghost use Rattle.inputs.specs.StateReader.{KeepsFrom, PairsFrom, ReadAs, if_vali
 
 use crate::refusal::Refusal;
 use crate::state::{KeptLog, Label, MonitoringMap, Refused, State};
-use crate::text_line::line_from;
+use crate::text_line::{after_word, line_from};
 use lines::cursor::Cursor;
 use lines::hex::read_digest;
 use lines::layout::Word;
@@ -97,7 +97,7 @@ fn state_from_lines(first: SizeLine, keeps: Keeps, pairs: Pairs) -> Option<State
     ensures { (st : StateRead) → ReadAs first keeps pairs st
         → option_of result ≡ map block_of (if_valid st) }
 {
-    if keeps.count != u64::count_ones(first.size) as usize {
+    if keeps.count != first.size.count_ones() as usize {
         return None;
     }
     if (LogHead::LEVELS as usize) < keeps.count {
@@ -124,7 +124,7 @@ fn state_from_lines(first: SizeLine, keeps: Keeps, pairs: Pairs) -> Option<State
 fn size_line(l: &[u8]) -> Option<SizeLine>
     ensures { option_of result ≡ map size_read (read_line size_form l.now) }
 {
-    let at_size = Cursor { at: 0 }.word(l, &Word::SIZE)?;
+    let at_size = after_word(l, &Word::SIZE)?;
     let (size, at_timestamp) = at_size.number(l, u64::MAX)?;
     let (timestamp, at_label) = at_timestamp.number(l, u64::MAX)?;
     let label = last_label(l, at_label)?;
@@ -156,7 +156,7 @@ fn last_label(l: &[u8], c: Cursor) -> Option<Label>
 fn keep_line(l: &[u8]) -> Option<[u8; 32]>
     ensures { option_of result ≡ read_keep l.now }
 {
-    let next = Cursor { at: 0 }.word(l, &Word::KEEP)?;
+    let next = after_word(l, &Word::KEEP)?;
     if l.len() < next.at {
         return None;
     }
@@ -171,7 +171,7 @@ fn keep_line(l: &[u8]) -> Option<[u8; 32]>
 fn pair_line(l: &[u8]) -> Option<(u64, u32)>
     ensures { pair_of result ≡ read_pair l.now }
 {
-    let at_position = Cursor { at: 0 }.word(l, &Word::PAIR)?;
+    let at_position = after_word(l, &Word::PAIR)?;
     let (position, at_version) = at_position.number(l, u64::MAX)?;
     let (version, next) = at_version.number(l, u32::MAX as u64)?;
     if next.at <= l.len() {

@@ -1,6 +1,8 @@
-// The line of a text at an offset.
+// The line of a text at an offset, and the word with which a line begins.
 ghost use Rattle.std.specs.Prelude.{◌≡◌, MatchOption};
 ghost use Rattle.std.proofs.Math.Option.{none, some};
+ghost use Rattle.lines.specs.Cursor.{word_at};
+ghost use Rattle.lines.specs.Readings.{next_of};
 ghost use Rattle.inputs.specs.TextLine.{line_from};
 
 use lines::cursor::Cursor;
@@ -12,4 +14,11 @@ pub(crate) fn line_from(text: &[u8], at: usize) -> Option<(&[u8], usize)>
 {
     let (stop, next) = Cursor { at }.line(text)?;
     Some((&text[at..stop], next.at))
+}
+
+// The cursor after the word with which a line begins.
+pub(crate) fn after_word(line: &[u8], word: &[u8]) -> Option<Cursor>
+    ensures { next_of result ≡ word_at word.now line.now 0 }
+{
+    Cursor { at: 0 }.word(line, word)
 }

@@ -6,29 +6,20 @@ use Rattle.inputs.proofs.ResponseBodyLaws.{parts_loose, parts-unended, parts_mor
 use Rattle.inputs.proofs.ResponseBodyLaws.{parts-counted, parts-ordered, parts-filled}
 use Rattle.inputs.proofs.response.read_body.Goals as goal
 
-pub returns-then-is_loose : goal.returns-then-is_loose
-returns-then-is_loose c =
-    let a = c.section_from-steps.ensures in
-    let b = c.section_from-entries.ensures in
-    let d = c.section_from-nodes.ensures in
-    let e = c.section_from-end.ensures in
-    record { parts = sym (parts_loose _ _ _ _ _ _ a b d e (sym c.is_loose.ensures ∙ c.if-is_loose.true)); offsets = tt }
+pub returns-then-is_loose-clause-parts : goal.returns-then-is_loose-clause-parts
+returns-then-is_loose-clause-parts c =
+    sym (parts_loose _ _ _ _ _ _ c.section_from-steps.ensures c.section_from-entries.ensures c.section_from-nodes.ensures c.section_from-end.ensures
+    (sym c.is_loose.ensures ∙ c.if-is_loose.true))
 
-pub returns-then-end-ne1 : goal.returns-then-end-ne1
-returns-then-end-ne1 c =
-    let a = c.section_from-steps.ensures in
-    let b = c.section_from-entries.ensures in
-    let d = c.section_from-nodes.ensures in
-    let e = c.section_from-end.ensures in
-    record { parts = sym (parts-unended _ _ _ _ _ _ a b d e c.if-end-ne1.true); offsets = tt }
+pub returns-then-end-ne1-clause-parts : goal.returns-then-end-ne1-clause-parts
+returns-then-end-ne1-clause-parts c =
+    sym (parts-unended _ _ _ _ _ _ c.section_from-steps.ensures c.section_from-entries.ensures c.section_from-nodes.ensures c.section_from-end.ensures
+    c.if-end-ne1.true)
 
-pub returns-then-end-text : goal.returns-then-end-text
-returns-then-end-text c =
-    let a = c.section_from-steps.ensures in
-    let b = c.section_from-entries.ensures in
-    let d = c.section_from-nodes.ensures in
-    let e = c.section_from-end.ensures in
-    record { parts = sym (parts_more _ _ _ _ _ _ a b d e (omega arith)); offsets = tt }
+pub returns-then-end-text-clause-parts : goal.returns-then-end-text-clause-parts
+returns-then-end-text-clause-parts c =
+    sym (parts_more _ _ _ _ _ _ c.section_from-steps.ensures c.section_from-entries.ensures c.section_from-nodes.ensures c.section_from-end.ensures
+    (omega arith))
 
 pub returns : goal.returns
 returns c =

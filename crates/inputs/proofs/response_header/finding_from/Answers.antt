@@ -5,9 +5,6 @@ use Rattle.inputs.specs.Response.{finding_in}
 use Rattle.inputs.specs.ResponseHeader.{read_finding}
 use Rattle.inputs.proofs.response_header.finding_from.Goals as goal
 
-pub returns-in-Search : goal.returns-in-Search
-returns-in-Search c = rw c.in-Search.is (record { read = c.target_from.ensures.read; decodes = c.target_from.ensures.decodes })
-
-pub returns-in-Monitor : goal.returns-in-Monitor
+pub returns-in-Monitor-clause-read : goal.returns-in-Monitor-clause-read
 unfolding finding_in read_finding
-returns-in-Monitor c = rw c.in-Monitor.is (record { read = refl; decodes = tt })
+returns-in-Monitor-clause-read c = rw c.in-Monitor.is refl

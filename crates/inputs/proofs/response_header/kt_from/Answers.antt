@@ -1,10 +1,8 @@
 -- `inputs::response_header::kt_from` meets its contract: the first line is read, and its fields
 -- stand in the text where they stand in the line.
-use mathlib.Core.Path.{sym, ◌∙◌, ap}
-use mathlib.Core.Option.{map}
-use Rattle.inputs.specs.ResponseLines.{kt_of}
+use mathlib.Core.Path.{sym}
 use Rattle.inputs.specs.ResponseHeader.{read_kt}
-use Rattle.inputs.proofs.TextLineLaws.{followed_by, from_nothing, from-its-line}
+use Rattle.inputs.proofs.TextLineLaws.{from_nothing, from-told}
 use Rattle.inputs.proofs.ResponseFieldLaws.{line-opened, opened-decodes}
 use Rattle.inputs.proofs.response_header.kt_from.Goals as goal
 
@@ -13,8 +11,7 @@ returns-in_err-line-clause-read c = rw c.from_residual.ensures (sym (from_nothin
 
 pub returns-in_err-kt_line-clause-read : goal.returns-in_err-kt_line-clause-read
 returns-in_err-kt_line-clause-read c =
-    let e = from-its-line read_kt _ _ _ _ c.in_ok-line.ensures in
-    rw c.from_residual-in_err-kt_line.ensures (sym (e ∙ ap (map (followed_by c.in_ok-line.next)) (sym c.in_err-kt_line.ensures.read)))
+    rw c.from_residual-in_err-kt_line.ensures (from-told read_kt _ _ _ _ c.in_ok-line.ensures _ c.in_err-kt_line.ensures.read)
 
 pub returns-clause-read : goal.returns-clause-read
 returns-clause-read c =

@@ -1,7 +1,7 @@
 -- `inputs::response_header::read_header` meets its contract: each line is read where the one before
 -- it ends.
-use mathlib.Core.Path.{sym, ◌∙◌, ap}
-use Rattle.inputs.specs.ResponseHeader.{opened_of, size_of, finding_of, parts_after}
+use mathlib.Core.Path.{sym}
+use Rattle.inputs.specs.ResponseHeader.{parts_after}
 use Rattle.inputs.proofs.ResponseLaws.{response-unopened, response-unsized, response-unfound}
 use Rattle.inputs.proofs.ResponseLaws.{response-headed, sections-within}
 use Rattle.inputs.proofs.response_header.read_header.Goals as goal

@@ -1,12 +1,10 @@
 -- `inputs::response_header::target_from` meets its contract: the line at the offset is read as a
 -- `target` line, and its fields are moved from the line to the text.
-use mathlib.Core.Path.{sym, ◌∙◌, ap}
-use mathlib.Core.Option.{map}
+use mathlib.Core.Path.{sym}
 use native.Mathlib.Omega.{arith}
 use Rattle.lines.specs.Line.{read_line}
 use Rattle.rules.specs.ResponseText.{target_form}
-use Rattle.inputs.specs.ResponseLines.{target_of}
-use Rattle.inputs.proofs.TextLineLaws.{followed_by, from_nothing, from-its-line}
+use Rattle.inputs.proofs.TextLineLaws.{from_nothing, from-told}
 use Rattle.inputs.proofs.ResponseFieldLaws.{target_unfound, moved-within, target-decodes, target_found}
 use Rattle.inputs.proofs.response_header.target_from.Goals as goal
 
@@ -15,9 +13,8 @@ returns-in_err-line-clause-read c = rw c.from_residual.ensures (sym (target_unfo
 
 pub returns-in_err-found-clause-read : goal.returns-in_err-found-clause-read
 returns-in_err-found-clause-read c =
-    let e = from-its-line (read_line target_form) _ _ _ _ c.in_ok-line.ensures in
-    let f = e ∙ ap (map (followed_by c.in_ok-line.next)) (sym c.in_err-found.ensures.read) in
-    rw c.from_residual-in_err-found.ensures (sym (target_unfound _ _ f))
+    let f = from-told (read_line target_form) _ _ _ _ c.in_ok-line.ensures _ c.in_err-found.ensures.read in
+    rw c.from_residual-in_err-found.ensures (sym (target_unfound _ _ (sym f)))
 
 pub shift-requires : goal.shift-requires
 shift-requires c =

@@ -2,16 +2,15 @@
 use mathlib.Core.Path.{sym, ◌∙◌, ap}
 use mathlib.Core.List.{[]}
 use Rattle.lines.specs.Number.{ascii}
-use Rattle.lines.specs.Readings.{read_of}
 use Rattle.inputs.specs.ResponseLines.{head_of}
 use Rattle.inputs.proofs.ResponseLineLaws.{number-off, head-alone}
 use Rattle.inputs.proofs.response_lines.head_line.Goals as goal
 
 pub returns-in_err-size : goal.returns-in_err-size
 unfolding ascii
-returns-in_err-size c = rw c.from_residual.ensures (sym (number-off _ _ _ [] (sym c.number_after.ensures ∙ ap read_of c.in_err-size.was)))
+returns-in_err-size c = rw c.from_residual.ensures (sym (number-off _ _ _ [] (sym c.in_err-size.ensures)))
 
 pub returns : goal.returns
 unfolding ascii
 returns c =
-    ap head_of c.then_some.ensures ∙ sym (head-alone _ _ _ (sym c.number_after.ensures ∙ ap read_of c.in_ok-size.was))
+    ap head_of c.then_some.ensures ∙ sym (head-alone _ _ _ (sym c.in_ok-size.ensures))

@@ -17,7 +17,7 @@ unfolding ascii
 returns c =
     let l = c.args.l.now in
     matched _ _ _ _ c.is_some_and.ensures
-    (λ i n. n ∙ sym (none_given _ (line-off l _ [] (sym c.word.ensures ∙ ap next_of i))))
+    (λ i n. n ∙ sym (none_given _ (line-off l _ [] (sym c.after_word.ensures ∙ ap next_of i))))
     (λ next i k.
     let q : c.is_some_and.result ≡ ltb (length l) next.at = search rules in
-    q ∙ sym (ap is_some (line_on l _ [] next.at (sym c.word.ensures ∙ ap next_of i) ∙ read-ended l next.at) ∙ given_provided _ _))
+    q ∙ sym (ap is_some (line_on l _ [] next.at (sym c.after_word.ensures ∙ ap next_of i) ∙ read-ended l next.at) ∙ given_provided _ _))

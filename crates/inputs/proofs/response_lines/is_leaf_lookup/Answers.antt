@@ -3,6 +3,7 @@
 use mathlib.Core.Path.{◌≡◌, sym, ◌∙◌, ap}
 use mathlib.Core.List.{[], ◌∷◌}
 use borrow.Author.Rules.{rules}
+use Rattle.std.proofs.lemmas.Option.{MatchOption-at_none}
 use Rattle.lists.specs.Choice.{is_some}
 use Rattle.lists.proofs.ChoiceLaws.{none_given}
 use Rattle.lines.specs.Number.{ascii}
@@ -14,7 +15,7 @@ use Rattle.lines.proofs.FormLaws.{field_off, field-given}
 use Rattle.rules.specs.Limits.{vrf_output_length, hash_length}
 use Rattle.rules.specs.ResponseText.{siblings_field, nl_form}
 use Rattle.inputs.specs.ResponseLines.{next_part_of}
-use Rattle.inputs.proofs.MatchLaws.{matched, unmatched}
+use Rattle.inputs.proofs.MatchLaws.{matched}
 use Rattle.inputs.proofs.ResponseLineLaws.{number-off, number-given}
 use Rattle.inputs.proofs.response_lines.is_leaf_lookup.Goals as goal
 
@@ -27,7 +28,7 @@ returns c =
     let more = exactly hash_length ∷ rest in
     matched _ _ _ _ c.and_then.ensures
     (λ i n.
-    unmatched _ _ _ c.is_some_and.ensures (unmatched _ _ _ c.and_then-2.ensures n)
+    MatchOption-at_none _ _ (MatchOption-at_none _ _ n c.and_then-2.ensures) c.is_some_and.ensures
     ∙ sym (none_given _ (number-off l _ _ (exactly vrf_output_length ∷ more) (e ∙ ap read_of i))))
     (λ (v, next) i k.
     let f : next_part_of l c.and_then.result ≡ read_at (read_field (exactly vrf_output_length)) l next.at = search rules in
@@ -35,7 +36,7 @@ returns c =
     number-given l _ _ (exactly vrf_output_length ∷ more) v next.at (e ∙ ap read_of i) in
     matched _ _ _ _ c.and_then-2.ensures
     (λ j n.
-    unmatched _ _ _ c.is_some_and.ensures n
+    MatchOption-at_none _ _ n c.is_some_and.ensures
     ∙ sym (g ∙ none_given _ (field_off l (exactly vrf_output_length) more next.at (sym f ∙ ap (next_part_of l) j))))
     (λ (o, after) j p.
     let h : next_part_of l c.and_then-2.result ≡ read_at (read_field (exactly hash_length)) l after.at = search rules in

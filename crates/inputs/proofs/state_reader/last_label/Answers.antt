@@ -1,10 +1,8 @@
 -- `inputs::state_reader::last_label` meets its contract: the label is the last field; each test
 -- that fails is a way in which it is not read.
-use mathlib.Core.Path.{◌≡◌, refl, sym, ◌∙◌, ap}
+use mathlib.Core.Path.{refl, sym, ap}
 use mathlib.Core.Option.{map}
 use native.Mathlib.Omega.{arith}
-use Rattle.lists.specs.Choice.{option_of}
-use Rattle.lines.specs.Readings.{read_of}
 use Rattle.inputs.specs.StateReader.{label_read}
 use Rattle.inputs.proofs.StateLineLaws.{label-none, label-long, label-more, label-read}
 use Rattle.inputs.proofs.state_reader.last_label.Goals as goal

@@ -1,6 +1,6 @@
 -- `inputs::state_reader::pair_line` meets its contract: the word, the position and the version are
 -- read one after the other, and nothing may follow.
-use mathlib.Core.Path.{sym, ◌∙◌}
+use mathlib.Core.Path.{sym}
 use native.Mathlib.Omega.{arith}
 use borrow.Author.Rules.{rules}
 use Rattle.lines.specs.Number.{ascii}

@@ -5,7 +5,7 @@ use native.Mathlib.Omega.{arith}
 use borrow.Author.Rules.{rules}
 use Rattle.rules.specs.StateText.{read_keep}
 use Rattle.inputs.proofs.TextLineLaws.{from-was}
-use Rattle.inputs.proofs.StateRunLaws.{keeps-start, keeps-block, keeps-next, keeps-stop}
+use Rattle.inputs.proofs.StateRunLaws.{keeps-start, keeps-next, keeps-stop}
 use Rattle.inputs.proofs.state_reader.read_keeps.Goals as goal
 
 pub loop-keep-init : goal.loop-keep-init

@@ -1,6 +1,6 @@
 -- `inputs::state_reader::read_pairs` meets its contract. The loop's invariant: the lines so far all
 -- lead, and are counted; the first of their positions and versions stand in the arrays.
-use mathlib.Core.Path.{sym, ◌∙◌, ap}
+use mathlib.Core.Path.{sym}
 use native.Mathlib.Omega.{arith}
 use borrow.Author.Rules.{rules}
 use Rattle.rules.specs.StateText.{read_pair}
@@ -12,10 +12,8 @@ use Rattle.inputs.proofs.state_reader.read_pairs.Goals as goal
 pub loop-position-init : goal.loop-position-init
 loop-position-init c = record { few = omega arith; within = omega arith; pairs = pairs_start _ _ }
 
-pub put_pair-requires : goal.put_pair-requires
-put_pair-requires c =
-    let h = (from-was read_pair _ _ _ _ (sym c.in-Some.ensures)).here in
-    record { counts = omega arith; room = pairs-room _ _ _ _ c.loop-position.invariant.pairs }
+pub put_pair-requires-clause-room : goal.put_pair-requires-clause-room
+put_pair-requires-clause-room c = pairs-room _ _ _ _ c.loop-position.invariant.pairs
 
 pub loop-position-smaller : goal.loop-position-smaller
 loop-position-smaller c = let h = (from-was read_pair _ _ _ _ (sym c.in-Some.ensures)).here in search rules

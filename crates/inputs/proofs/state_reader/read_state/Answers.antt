@@ -1,10 +1,8 @@
 -- `inputs::state_reader::read_state` meets its contract: a text that is not too long is read.
 use mathlib.Core.Path.{◌≡◌, sym, ◌∙◌, ap}
 use borrow.Author.Rules.{rules}
-use Rattle.std.specs.Prelude.{Err}
 use Rattle.lists.specs.Choice.{option_of}
-use Rattle.rules.specs.State.{empty_state}
-use Rattle.inputs.specs.State.{block_of, numbered_block, numbered_of}
+use Rattle.inputs.specs.State.{numbered_block, numbered_of}
 use Rattle.inputs.specs.StateReader.{refused_by}
 use Rattle.inputs.proofs.MatchLaws.{matched}
 use Rattle.inputs.proofs.StateReaderLaws.{text_long, text_read, state_given, state_missing}

@@ -1,6 +1,6 @@
 -- `inputs::state_reader::size_line` meets its contract: the word, the size and the time are read
 -- one after the other, and then the label.
-use mathlib.Core.Path.{◌≡◌, refl, sym, ◌∙◌, ap}
+use mathlib.Core.Path.{sym, ◌∙◌, ap}
 use mathlib.Core.Option.{map}
 use Rattle.lines.specs.Number.{ascii}
 use Rattle.inputs.specs.StateReader.{size_read}

@@ -1,11 +1,7 @@
 -- `inputs::state_reader::state_from_lines` meets its contract: with too many values or pairs, or
 -- another number of values than the size tells, no state is valid; else the struct is that of the
 -- state, and is valid where the state is.
-use Prim.Native.Nat.{◌<◌, ◌^◌}
 use mathlib.Core.Path.{◌∙◌, ap}
-use native.Mathlib.Omega.{arith}
-use lib.Count.{ones-le}
-use borrow.Author.Rules.{rules}
 use Rattle.lists.specs.Choice.{option_of}
 use Rattle.inputs.proofs.StateReaderLaws.{invalid-count, invalid-values, invalid-pairs, state-tested}
 use Rattle.inputs.proofs.state_reader.state_from_lines.Goals as goal

@@ -1,12 +1,12 @@
 -- `inputs::state_writer::put_keeps` meets its contract: the lines of the values so far are written,
 -- and those of the values that are left follow them.
-use mathlib.Core.Path.{◌≡◌, sym, ◌∙◌}
+use mathlib.Core.Path.{◌≡◌, ◌∙◌}
 use Prim.Native.Nat.{◌*◌}
 use native.Mathlib.Omega.{arith}
-use lib.ListN.{length, take}
+use lib.ListN.{take}
 use Rattle.rules.specs.Limits.{hash_length}
 use Rattle.rules.specs.StateText.{write_keep}
-use Rattle.inputs.proofs.StateWriterLaws.{TextsTo, values_start, values_next, values_end}
+use Rattle.inputs.proofs.StateWriterLaws.{values_start, values_next, values_end}
 use Rattle.inputs.proofs.StateWriterLaws.{texts-room, texts-step, texts-end}
 use Rattle.inputs.proofs.state_writer.put_keeps.Goals as goal
 

@@ -1,9 +1,7 @@
 -- `inputs::state_writer::put_pairs` meets its contract: the lines of the pairs so far are written,
 -- and those of the pairs that are left follow them.
 use mathlib.Core.Path.{◌≡◌, sym, ◌∙◌}
-use mathlib.Core.List.{List, []}
 use native.Mathlib.Omega.{arith}
-use Prim.Native.Nat.{ℕ}
 use lib.ListN.{length}
 use Rattle.std.proofs.Common.{inl, inr}
 use Rattle.rules.specs.StateText.{write_pair}
