@@ -1,6 +1,6 @@
 -- Laws of what a call leaves to be written (specs/Calls.antt): the text of the new state, where
--- there is room for it.
-use mathlib.Core.Path.{◌≡◌, sym, ap, ◌∙◌}
+-- there is room for it; and what each answer that accepts says.
+use mathlib.Core.Path.{◌≡◌, refl, sym, ap, ◌∙◌}
 use mathlib.Core.Bool.{true}
 use mathlib.Core.Option.{some, map}
 use Prim.Native.Nat.{◌≤◌}
@@ -19,7 +19,9 @@ use Rattle.inputs.specs.declared.state.State.{State as StateBlock}
 use Rattle.inputs.specs.State.{block_of, state_of}
 use Rattle.inputs.specs.StateWriter.{text_for}
 use Rattle.inputs.proofs.StateBlockLaws.{block_stands}
-use Rattle.checks.specs.Calls.{block_after}
+use Rattle.std.specs.Prelude.{Some, None, Option as CodeOption}
+use Rattle.checks.specs.declared.call.Found.{Found}
+use Rattle.checks.specs.Calls.{block_after, accepted_answer}
 
 -- the text of a valid state is written where there is room
 text_for_lem : (s : State) (lent : Bytes) → is_valid s ≡ true → state_text_limit ≤ length lent → text_for (block_of s) lent ≡ some (write_state s)
@@ -34,3 +36,15 @@ pub text_accepted : (b : StateBlock) (i : Inputs) (c : Call) → judge (state_of
 unfolding text_of block_after
 text_accepted b i c q new f lent m =
     ap (λ (x : StateBlock). text_for x lent) (f ∙ ap (block_after b) q) ∙ text_for_lem (next_state c) lent (state_valid (state_of b) i c q) m ∙ sym (ap text_of q)
+
+-- ---- an answer that accepts, with a value or without
+
+-- its number
+pub accepted_number : (b : StateBlock) (f : CodeOption Found) → (accepted_answer b f).number ≡ 0
+accepted_number b None = refl
+accepted_number b (Some f) = refl
+
+-- its state
+pub accepted_state : (b : StateBlock) (f : CodeOption Found) → (accepted_answer b f).state ≡ b
+accepted_state b None = refl
+accepted_state b (Some f) = refl

@@ -27,9 +27,15 @@ use Rattle.rules.proofs.AcceptedLaws.{accepted_call}
 use Rattle.inputs.specs.declared.state.State.{State as StateBlock}
 use Rattle.inputs.specs.State.{state_of}
 use Rattle.inputs.specs.StateWriter.{text_for}
-use Rattle.checks.specs.declared.call.Answer.{Answer}
-use Rattle.checks.specs.Calls.{answer_of}
-use Rattle.checks.proofs.AfterCallLaws.{text_accepted}
+use Rattle.std.specs.Prelude.{Some, None, Ok, Err, Result, Option as CodeOption}
+use Rattle.inputs.specs.Refusal.{refusal_number}
+use Rattle.inputs.specs.declared.state.Refused.{Refused}
+use Rattle.inputs.proofs.RefusalNumberLaws.{above_zero}
+use Rattle.checks.specs.declared.call.Accepted.{Accepted}
+use Rattle.checks.specs.declared.call.Found.{Found}
+use Rattle.checks.specs.Calls.{block_after, Answer, answer_of, accepted_answer, answer_in}
+use Rattle.checks.proofs.AfterCallLaws.{text_accepted, accepted_number, accepted_state}
+use Rattle.kt.specs.Exports.{length_found}
 
 -- ---- the lengths in an answer
 
@@ -61,12 +67,18 @@ value_short s i = go (judge s i) refl
         let (_, h) = accepted_call s i c q in
         found_short c.parts.finding (response_fits c.inputs.response c.parts h.reads).finding
 
+-- an answer that accepts tells how many bytes were found
+length_told : (b : StateBlock) (f : CodeOption Found) → length_found f ≡ (accepted_answer b f).length
+length_told b None = refl
+length_told b (Some f) = refl
+
 -- as its answer says
-pub answer_short : (kind : Option Kind) (a : Arguments) (signed : Bytes) (room : ℕ) (b : StateBlock) (r : Answer)
-    → r ≡ answer_of b (judge_call kind (state_of b) a signed room) → r.length ≤ value_limit
-unfolding answer_of judge_call
-answer_short kind a signed room b r e =
-    rw (ap (λ (x : Answer). x.length) e) (value_short (state_of b) (library_inputs kind a signed room))
+pub answer_short : (kind : Option Kind) (a : Arguments) (signed : Bytes) (room : ℕ) (b : StateBlock) (r : Result Accepted Refused)
+    → answer_in r ≡ answer_of b (judge_call kind (state_of b) a signed room) → (x : Accepted) → r ≡ Ok x → length_found x.found ≤ value_limit
+unfolding answer_in answer_of judge_call
+answer_short kind a signed room b r e x q =
+    let h : accepted_answer x.state x.found ≡ answer_of b (judge_call kind (state_of b) a signed room) = ap answer_in (sym q) ∙ e in
+    rw (length_told x.state x.found ∙ ap (λ (y : Answer). y.length) h) (value_short (state_of b) (library_inputs kind a signed room))
 
 -- ---- the state's text
 
@@ -123,31 +135,36 @@ module _ (kind : Option Kind) (text : Bytes) (a : Arguments) (signed output new_
           text-fits text _ l ∙ choose_true (leb state_text_limit (length new_text)) _ _ (le-leb state_text_limit (length new_text) m)
           ∙ ap (λ (o : Option State). judge_call kind o a signed (length output)) (sym s)
 
-      module _ (r : Answer) (output' : Bytes) (e : r ≡ answer_of b made) (f : output' ≡ output_after output made) where
+      module _ (r : Result Accepted Refused) (output' : Bytes) (e : answer_in r ≡ answer_of b made) (f : output' ≡ output_after output made) where
         -- the output bytes are those that the rules say
         output-after : output' ≡ output_after output judged
         output-after = f ∙ ap (output_after output) (sym call-judged)
 
-        -- a number that is not 0 is a refusal
-        pub call-refused : (r.number ≡ 0 → ⊥) → Answers r.number output' new_text
-        unfolding answer_of
-        call-refused z =
-            let q = call-judged ∙ number_refused made r.number (ap (λ (x : Answer). x.number) e) z in
-            let (w, (_, t)) = refusal r.number q in
+        -- a refusal is answered by its number
+        pub call-refused : (d : Refused) → r ≡ Err d → Answers (refusal_number d.refusal) output' new_text
+        unfolding answer_in answer_of
+        call-refused d q =
+            let k : refusal_number d.refusal ≡ number_of made = ap (λ (x : Answer). x.number) (ap answer_in (sym q) ∙ e) in
+            let z = above_zero d.refusal in
+            let j = call-judged ∙ number_refused made (refusal_number d.refusal) k (λ x. omega arith) in
+            let (w, (_, t)) = refusal (refusal_number d.refusal) j in
             (w, (output-after, t))
 
-        -- 0 is acceptance: the lengths of the value and of the new text are told, and the text is
+        -- of an acceptance the lengths of the value and of the new text are told, and the text is
         -- written
-        pub call-answered : r.number ≡ 0 → (n : ℕ) (new_text' : Bytes) → n ≡ length (get_or (text_for r.state new_text) [])
-            → new_text' ≡ written_first new_text (text_for r.state new_text) → Answers (r.length * 2 ^ 8 + n * 2 ^ 32) output' new_text'
-        unfolding answer_word text_after answer_of judge_call
-        call-answered z n new_text' h k =
+        pub call-answered : (x : Accepted) → r ≡ Ok x → (n : ℕ) (new_text' : Bytes) → n ≡ length (get_or (text_for x.state new_text) [])
+            → new_text' ≡ written_first new_text (text_for x.state new_text) → Answers (length_found x.found * 2 ^ 8 + n * 2 ^ 32) output' new_text'
+        unfolding answer_word text_after answer_in answer_of judge_call
+        call-answered x p n new_text' h k =
             let i : Inputs = library_inputs kind a signed (length output) in
             let j : Judgement = judge (state_of b) i in
-            let en : r.number ≡ number_of j = ap (λ (x : Answer). x.number) e in
-            let ev : r.length ≡ length (get_or (value_of j) []) = ap (λ (x : Answer). x.length) e in
-            let (c, q) = zero_accepts (state_of b) i (sym en ∙ z) in
-            let t : text_for r.state new_text ≡ text_of j = text_accepted b i c q r.state (ap (λ (x : Answer). x.state) e) new_text m in
+            let y : Answer = accepted_answer x.state x.found in
+            let g : y ≡ answer_of b j = ap answer_in (sym p) ∙ e in
+            let z : number_of j ≡ 0 = sym (ap (λ (u : Answer). u.number) g) ∙ accepted_number x.state x.found in
+            let ev : length_found x.found ≡ length (get_or (value_of j) []) = length_told x.state x.found ∙ ap (λ (u : Answer). u.length) g in
+            let st : x.state ≡ block_after b j = sym (accepted_state x.state x.found) ∙ ap (λ (u : Answer). u.state) g in
+            let (c, q) = zero_accepts (state_of b) i z in
+            let t : text_for x.state new_text ≡ text_of j = text_accepted b i c q x.state st new_text m in
             let d : n ≡ length (get_or (text_of j) []) = h ∙ ap (λ (o : Option Bytes). length (get_or o [])) t in
-            let w : r.length * 2 ^ 8 + n * 2 ^ 32 ≡ answer_word j = omega (arith, en, z, ev, d) in
+            let w : length_found x.found * 2 ^ 8 + n * 2 ^ 32 ≡ answer_word j = omega (arith, z, ev, d) in
             (w ∙ ap answer_word (sym call-judged), (output-after, k ∙ ap (written_first new_text) t ∙ ap (text_after new_text) (sym call-judged)))

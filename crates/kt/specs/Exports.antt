@@ -1,9 +1,10 @@
 -- What the functions that C programs call answer, and what they leave in the bytes lent to them.
-use Rattle.std.specs.Prelude.{cond, ℕ, leb, length, drop}
+use Rattle.std.specs.Prelude.{cond, ℕ, leb, length, drop, Some, None, Option as CodeOption}
 use mathlib.Core.List.{List, ◌++◌, flat_map}
 use Rattle.hash.specs.Bytes.{big_endian}
 use Rattle.hash.specs.Sha256.{digest_length, sha256}
 use Rattle.tree.specs.Ladder.{ladder_within}
+use Rattle.checks.specs.declared.call.Found.{Found}
 
 -- kt_sha256, lent the bytes d: the digest's length, or 0 where it does not fit
 unfoldable pub sha256_answer : List ℕ → ℕ
@@ -34,3 +35,10 @@ unfoldable pub ladder_output : ℕ → List ℕ → List ℕ
 ladder_output version d =
     cond (leb (length (ladder_bytes version)) (length d))
     (ladder_bytes version ++ drop (length (ladder_bytes version)) d) d
+
+-- ==== for contracts of private functions alone
+
+-- how many bytes the value that was found fills; 0 where none was
+abbrev pub length_found : CodeOption Found → ℕ
+length_found None = 0
+length_found (Some f) = f.length

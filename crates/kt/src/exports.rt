@@ -6,11 +6,12 @@ ghost use Rattle.rules.specs.Calls.{output_after, kt_call, kt_search, kt_monitor
 ghost use Rattle.rules.specs.Calls.{answer_word};
 ghost use Rattle.checks.specs.Calls.{asked_kind, arguments_of};
 ghost use Rattle.kt.specs.Exports.{sha256_answer, sha256_output, version_length, ladder_answer};
-ghost use Rattle.kt.specs.Exports.{ladder_output};
+ghost use Rattle.kt.specs.Exports.{ladder_output, length_found};
 
-use checks::call::{AskedKind, judge};
-use checks::signed_text::signed_text;
+use checks::call::{Found, judge};
+use checks::signed_text::{kind_numbered, signed_text};
 use inputs::refusal::Refusal;
+use inputs::response_lines::Kind;
 use inputs::state::State;
 use inputs::state_reader::state_in;
 use inputs::state_writer::write_state;
@@ -52,7 +53,8 @@ pub extern "C" fn kt_ladder(version: u32, versions: &mut [u8]) -> u64
     if versions.len() < VERSION_LENGTH * length {
         return 0;
     }
-    for (i, v) in ladder.versions[..length].iter().enumerate() {
+    let all = &ladder.versions[..length];
+    for (i, v) in all.iter().enumerate() {
         put_version(versions, VERSION_LENGTH * i, *v);
     }
     length as u64
@@ -90,7 +92,7 @@ pub extern "C" fn kt_search(
         signed_text.now output.old new_state.old) }
 {
     answered(
-        AskedKind::Search,
+        Some(Kind::Search),
         response,
         configuration,
         state,
@@ -127,7 +129,7 @@ pub extern "C" fn kt_monitor(
 {
     let mut output = [0u8; 1];
     answered(
-        AskedKind::Monitor,
+        Some(Kind::Monitor),
         response,
         configuration,
         state,
@@ -142,7 +144,7 @@ pub extern "C" fn kt_monitor(
 
 // Checks a response to a call of a kind: what kt_search and kt_monitor share.
 fn answered(
-    asked: AskedKind,
+    asked: Option<Kind>,
     response: &[u8],
     configuration: &[u8],
     state: &[u8],
@@ -169,13 +171,13 @@ fn answered(
         signed_text.now (length output.old) new_state.old) }
 {
     if State::TEXT < state.len() {
-        return Refusal::LENGTH;
+        return Refusal::Length.number();
     }
     if new_state.len() < State::TEXT {
-        return Refusal::LENGTH;
+        return Refusal::Length.number();
     }
     let held = state_in(state);
-    let answer = judge(
+    match judge(
         asked,
         response,
         configuration,
@@ -185,14 +187,21 @@ fn answered(
         vrf_outputs,
         signed_text,
         output,
-    );
-    if answer.number != 0 {
-        return answer.number;
+    ) {
+        Ok(accepted) => {
+            let value = length_found(accepted.found) as u64;
+            let text = write_state(accepted.state, new_state) as u64;
+            value * VALUE_UNIT + text * TEXT_UNIT
+        }
+        Err(refused) => refused.refusal.number(),
     }
-    let value = answer.length as u64;
-    let new = answer.state;
-    let text = write_state(new, new_state) as u64;
-    value * VALUE_UNIT + text * TEXT_UNIT
+}
+
+// How many bytes the value that was found fills; 0 where none was.
+fn length_found(found: Option<Found>) -> usize
+    ensures { result ≡ length_found found }
+{
+    found.map_or(0, |value| value.length)
 }
 
 // Checks a response to a search (kind 0) or to monitoring (kind 1), without the signed text: writes
@@ -220,11 +229,11 @@ pub extern "C" fn kt_signed_text(
         buffer.old offset).1 }
 {
     if State::TEXT < state.len() {
-        return Refusal::LENGTH;
+        return Refusal::Length.number();
     }
     let held = state_in(state);
-    signed_text(
-        kind,
+    match signed_text(
+        kind_numbered(kind),
         response,
         configuration,
         held,
@@ -233,7 +242,10 @@ pub extern "C" fn kt_signed_text(
         vrf_outputs,
         buffer,
         offset,
-    )
+    ) {
+        Ok(length) => length,
+        Err(refusal) => refusal.number(),
+    }
 }
 
 // Writes a version as 4 bytes from an offset on.

@@ -35,7 +35,10 @@ pub(crate) fn judge(
     let line = &line[..outcome.line];
     match outcome.judged {
         Ok(written) => {
-            let value = written.value.map(|length| &value[..length]);
+            let value = match written.value {
+                Some(length) => Some(&value[..length]),
+                None => None,
+            };
             if let Err(failure) = accept(rt, line, value, &text[..written.text]) {
                 failure.tell(rt);
             }

@@ -25,7 +25,7 @@ impl Failure {
 }
 
 // Names what failed.
-fn named(done: io::Result<()>, what: &'static str) -> Result<(), Failure> {
+fn name_failure(done: io::Result<()>, what: &'static str) -> Result<(), Failure> {
     done.map_err(|error| Failure { what, error })
 }
 
@@ -36,9 +36,9 @@ pub(crate) fn write_file(
     part: &'static str,
     bytes: &[u8],
 ) -> Result<(), Failure> {
-    named(write_part(rt, part, bytes), part)?;
-    named(move_part(rt, part, name), name)?;
-    named(sync_folder(rt), ".")
+    name_failure(write_part(rt, part, bytes), part)?;
+    name_failure(move_part(rt, part, name), name)?;
+    name_failure(sync_folder(rt), ".")
 }
 
 // Writes a file under that other name; what is not whole is removed.
@@ -73,7 +73,7 @@ fn sync_folder(rt: &impl Files) -> io::Result<()> {
 
 // Prints the line.
 pub(crate) fn print(rt: &impl Print, line: &[u8]) -> Result<(), Failure> {
-    named(rt.write_all(line), "standard output")
+    name_failure(rt.write_all(line), "standard output")
 }
 
 // What stands before a text's first such part; all of it where it has none.

@@ -14,7 +14,9 @@ use Rattle.lists.specs.Lists.{Bytes, same}
 use Rattle.lists.proofs.ChoiceLaws.{provided_true}
 use Rattle.lines.specs.Line.{newline, tab, before}
 use Rattle.lines.specs.Cursor.{line_at, field_at, read_at, word_at}
-use Rattle.lines.proofs.OffsetLaws.{at_end}
+use Rattle.lists.proofs.SameLaws.{slices_same}
+use borrow.Author.Tests.{not-true, not-false}
+use Rattle.lines.proofs.OffsetLaws.{at_end, before_at}
 
 -- ---- the line at an offset
 
@@ -77,3 +79,8 @@ module _ (w l : Bytes) (at : ℕ) where
       → word_at w l at ≡ some (at + length f + 1)
   unfolding word_at
   word_same f e h d = rw (read_some (one_word w) l at f e h tt (provided_true (same f w) tt d)) refl
+
+-- what the code at a cursor is proved by
+pub ruleset at_cursor = (line-ended, line-open, field_within, before_at, read-beyond, read_none, read_some)
+
+pub ruleset words = (word-beyond, word-other, word_same, slices_same, not-true, not-false)

@@ -120,3 +120,6 @@ before_lacks k (b ∷ p) s h = before_byte k b (p ++ k ∷ s) h.0 ∙ ap (λ (t 
 pub after_lacks : (k : ℕ) (p s : Bytes) → Lacks k p → after k (p ++ k ∷ s) ≡ s
 after_lacks k [] s h = after_stop k k s refl
 after_lacks k (b ∷ p) s h = after_byte k b (p ++ k ∷ s) h.0 ∙ after_lacks k p s h.1
+
+-- what the code that looks for a byte is proved by
+pub ruleset spans = (span-stop, span_more, span_past)

@@ -196,3 +196,7 @@ fill_step r ys vs k v h e = rw (add-one, take-suc-set r k v h, append_snoc) e
 -- a list filled to its end is the whole
 pub fill_end : (r vs : List ℕ) (k : ℕ) → length r ≤ k → take k r ++ [] ≡ vs → r ≡ vs
 fill_end r vs k h e = sym (append-nil r) ∙ (rw (take_all k r h) at e)
+
+-- what the code that reads numbers is proved by
+pub ruleset numbers =
+    (number_empty, number_zero, number_one, number_many, digits-end, digits-other, digits-beyond, digits_more)

@@ -15,7 +15,7 @@ use borrow.Rule.Slice.PartMut.{put_mid}
 use Rattle.std.specs.Prelude.{Some, None, Option as CodeOption}
 use Rattle.lists.specs.Choice.{choose, provided, option_of}
 use Rattle.lists.specs.Lists.{Bytes, written}
-use Rattle.lists.proofs.ChoiceLaws.{provided_some, provided_none}
+use Rattle.lists.proofs.ChoiceLaws.{provided_some, provided_none, provided_true, provided_false}
 use Rattle.lines.specs.Number.{ascii, decimal}
 use Rattle.lines.specs.Hex.{dash, hex_digit, hex, hex_field}
 use Rattle.lines.specs.Writing.{offset_after, put_at, offset_after_any, put_any}
@@ -186,3 +186,6 @@ pub hex_field_none : (s : Bytes) → length s ≡ 0 → hex_field s ≡ 45 ∷ [
 unfolding hex_field dash ascii
 hex_field_none [] h = refl
 hex_field_none (b ∷ s) h = absurd (omega arith)
+
+-- what the code that finds room is proved by
+pub ruleset room = (provided_true, provided_false, le-leb, lt-leb)

@@ -18,6 +18,7 @@ pub struct Cursor {
 
 impl Cursor {
     // How many bytes of a text are left from here on.
+    #[tactic(auto, unfolding(crate::specs::Cursor::left_at))]
     pub fn left(self, text: &[u8]) -> usize
         ensures { result ≡ left_at text.now self.at }
     {
@@ -25,6 +26,7 @@ impl Cursor {
     }
 
     // The line that begins here in a text, by the offset of the newline that ends it.
+    #[tactic(auto, using(crate::proofs::CursorLaws::at_cursor))]
     pub fn line(self, text: &[u8]) -> Option<(usize, Cursor)>
         ensures { read_of result ≡ line_at text.now self.at }
     {
@@ -36,6 +38,7 @@ impl Cursor {
     }
 
     // The offset after a line that was read here; this one, where no newline ended it.
+    #[tactic(auto, unfolding(crate::specs::Cursor::past))]
     pub fn past(self, line: Option<(usize, Cursor)>) -> usize
         ensures { result ≡ past (read_of line) self.at }
     {
@@ -46,6 +49,7 @@ impl Cursor {
     }
 
     // The field that begins here in a line: the part of the line that it fills.
+    #[tactic(auto, using(crate::proofs::CursorLaws::at_cursor))]
     pub fn field(self, line: &[u8]) -> &[u8]
         ensures { result.now ≡ field_at line.now self.at }
     {
@@ -72,6 +76,7 @@ impl Cursor {
     }
 
     // The field that begins here in a line, as a word.
+    #[tactic(auto, using(crate::proofs::CursorLaws::words))]
     pub fn word(self, line: &[u8], word: &[u8]) -> Option<Cursor>
         ensures { next_of result ≡ word_at word.now line.now self.at }
     {
@@ -83,6 +88,7 @@ impl Cursor {
     }
 
     // The same as a decimal number not above a bound.
+    #[tactic(auto, using(crate::proofs::CursorLaws::at_cursor))]
     pub fn number(self, line: &[u8], bound: u64) -> Option<(u64, Cursor)>
         ensures { read_of result ≡ read_at (read_number bound) line.now self.at }
     {
@@ -91,6 +97,7 @@ impl Cursor {
     }
 
     // The same as a byte string in hex.
+    #[tactic(auto, using(crate::proofs::CursorLaws::at_cursor))]
     pub fn bytes(self, line: &[u8]) -> Option<(usize, Cursor)>
         ensures { read_of result ≡ read_at decoded_length line.now self.at }
     {

@@ -52,6 +52,7 @@ pub fn read_digest(s: &[u8]) -> Option<[u8; 32]>
 }
 
 // Whether a byte is a digit.
+#[tactic(auto, using(crate::proofs::HexLaws::digit_rules))]
 fn is_hex_digit(b: u8) -> bool
     ensures { result ≡ is_hex_digit b }
 {
@@ -59,6 +60,7 @@ fn is_hex_digit(b: u8) -> bool
 }
 
 // The value of a digit.
+#[tactic(auto, using(crate::proofs::HexLaws::digit_rules))]
 pub(crate) fn digit_value(b: u8) -> u8
     requires { is_hex_digit b ≡ true }
     ensures { (result ≡ digit_value b) × (result < 16) }

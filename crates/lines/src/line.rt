@@ -11,6 +11,7 @@ const NARROW: usize = 16;
 
 // The offset of the first byte stop from an offset on, or the end where there is none; an offset
 // beyond the end is answered itself.
+#[tactic(auto, using(crate::proofs::OffsetLaws::spans))]
 pub fn span(s: &[u8], at: usize, stop: u8) -> usize
     ensures value { result ≡ at + length (before stop (drop at s.now)) }
     ensures within { (at ≤ result) × (result - at ≤ length s.now - at) }
@@ -24,6 +25,7 @@ pub fn span(s: &[u8], at: usize, stop: u8) -> usize
 }
 
 // The same of a newline. Short lines end within the first bytes; long ones are passed in steps.
+#[tactic(auto, using(crate::proofs::OffsetLaws::spans))]
 pub fn line_end(s: &[u8], at: usize) -> usize
     ensures value { result ≡ at + length (before newline (drop at s.now)) }
     ensures within { (at ≤ result) × (result - at ≤ length s.now - at) }

@@ -12,6 +12,7 @@ pub struct Part {
 
 impl Part {
     // The bytes of the part, as far as the text reaches.
+    #[tactic(auto, using(crate::proofs::PartLaws::part_within))]
     pub fn of(self, text: &[u8]) -> &[u8]
         ensures { result.now ≡ part_of text.now self }
     {

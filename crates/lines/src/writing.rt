@@ -65,6 +65,7 @@ pub fn put_decoded(out: &mut [u8], at: usize, field: &[u8]) -> Option<usize>
 }
 
 // The offset after so many bytes, if they fit into a room from an offset on.
+#[tactic(auto, using(crate::proofs::WritingLaws::room))]
 fn end_within(room: usize, at: usize, count: usize) -> Option<usize>
     ensures { option_of result ≡ provided (leb (at + count) room) (at + count) }
 {
@@ -88,6 +89,7 @@ fn store_hex(out: &mut [u8], at: usize, s: &[u8])
 }
 
 // The digit of a value.
+#[tactic(auto, using(crate::proofs::HexLaws::digit_rules))]
 fn hex_digit(d: u8) -> u8
     requires { d < 16 }
     ensures { result ≡ hex_digit d }

@@ -3,9 +3,8 @@ ghost use Rattle.std.specs.Prelude.{◌≡◌, ◌+◌, ◌-◌, ◌<◌, ◌≤
 ghost use Rattle.hash.specs.Bytes.{padded};
 ghost use Rattle.tree.specs.Ladder.{halve, ladder, ladder_within, ladder_capacity};
 
-// The versions in their order with zeros after them, and how many they are. The type stays beside
-// Frontier's, which has 64-bit entries: a generic struct holds no array of a type parameter, and the
-// project has no heap.
+// The versions in their order with zeros after them, and how many they are.
+// Beside Frontier: a generic struct holds no array of a type parameter, and there is no heap.
 #[derive(Clone, Copy)]
 pub struct Ladder {
     pub versions: [u32; Ladder::CAPACITY],

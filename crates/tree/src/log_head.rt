@@ -33,6 +33,7 @@ impl LogHead {
 }
 
 // Whether the shown positions rise and are below the size.
+// A loop over offsets: an iterator over entry lines would need a contract of its own, no plainer.
 fn rising_below(text: &[u8], tree_size: u64) -> bool
     ensures { result ≡ rising_below tree_size (positions (shown_in text.now)) }
 {

@@ -52,6 +52,7 @@ fn put_value(block: &mut [u8; LogHead::BLOCK], i: usize, value: [u8; 32])
 
 // The walk over the entries from start on up to tree_size. The values of the full subtrees of all
 // entries that are among them go into a block, after so many others.
+// A block with a count beside it: the project has no heap.
 pub(crate) fn spine(
     log: &KnownLog<'_>,
     tree_size: u64,
@@ -101,6 +102,7 @@ pub(crate) fn spine(
 }
 
 // The same walk for where it ends alone.
+// Beside spine, for the reason given at subtree_end.
 pub(crate) fn spine_end(
     text: &[u8],
     kept_size: u64,

@@ -25,6 +25,7 @@ pub enum Source {
 
 // Whether a whole block is a full subtree of kept_size entries: the last one of its width, and the
 // left one of its pair.
+// Start and width stay numbers: Whole has their level, which the invariant of a struct would hide.
 fn is_full(kept_size: u64, start: u64, width: u64) -> bool
     requires { Whole start width }
     ensures { result ≡ is_full kept_size (range start width) }
@@ -83,7 +84,7 @@ impl KnownLog<'_> {
     {
         stored_at(
             self.kept,
-            u64::count_ones(self.kept_size / (2 * width)) as usize,
+            (self.kept_size / (2 * width)).count_ones() as usize,
         )
     }
 
@@ -195,6 +196,7 @@ pub(crate) fn subtree(log: &KnownLog<'_>, start: u64, width: u64, cursor: &WalkC
 }
 
 // The same walk for where it ends alone.
+// Beside subtree: a trait of what a walk yields would need a contract for each step, no plainer.
 pub(crate) fn subtree_end(
     text: &[u8],
     kept_size: u64,

@@ -19,11 +19,11 @@ pub(crate) fn power(x: u64) -> u64
     requires { 0 < x }
     ensures { result ≡ Tree.power x }
 {
-    1u64 << (63 - u64::leading_zeros(x))
+    1u64 << (63 - x.leading_zeros())
 }
 
-// The entries of a frontier from left to right with zeros after them, and how many they are. The type
-// stays beside Ladder's, as is said there.
+// The entries of a frontier from left to right with zeros after them, and how many they are.
+// Beside Ladder, for the reason given there.
 #[derive(Clone, Copy)]
 pub struct Frontier {
     pub positions: [u64; Frontier::CAPACITY],
@@ -40,7 +40,7 @@ impl Frontier {
         ensures { (result.positions ≡ padded Tree.frontier_capacity (Tree.frontier tree_size))
             × (result.length ≡ length (Tree.frontier tree_size)) }
     {
-        let length = u64::count_ones(tree_size) as usize;
+        let length = tree_size.count_ones() as usize;
         let mut positions = [0u64; Frontier::CAPACITY];
         let mut from: u64 = 0;
         for i in 0..length {
@@ -67,10 +67,7 @@ pub fn next_right_ancestor(tree_size: u64, p: u64, x: u64) -> u64
     if tree_size <= p {
         return tree_size;
     }
-    if x <= p {
-        return right_ancestor_from(tree_size, p, p + 1);
-    }
-    right_ancestor_from(tree_size, p, x)
+    right_ancestor_from(tree_size, p, x.max(p + 1))
 }
 
 // The same for x above p: x with the digits below the highest in which p and x differ replaced by
@@ -128,7 +125,7 @@ fn parting(x: u64, y: u64) -> u32
     requires { x < y }
     ensures { (result < 64) × (x / 2 ^ result % 2 ≡ 0) × (y / 2 ^ result ≡ x / 2 ^ result + 1) }
 {
-    63 - u64::leading_zeros(x ^ y)
+    63 - (x ^ y).leading_zeros()
 }
 
 // p with its k low digits replaced by ones.

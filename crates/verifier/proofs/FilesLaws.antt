@@ -29,14 +29,21 @@ use Rattle.rules.proofs.ProgramLaws.{cut_judged}
 use Rattle.inputs.specs.declared.state.State.{State as StateBlock}
 use Rattle.inputs.specs.State.{log_block, map_block, block_of, state_of}
 use Rattle.inputs.specs.StateWriter.{text_for, Wrote}
-use Rattle.checks.specs.declared.call.Answer.{Answer}
-use Rattle.checks.specs.Calls.{asked_kind, block_after, version_of, answer_of}
-use Rattle.checks.proofs.AfterCallLaws.{text_accepted}
+use Rattle.std.specs.Prelude.{Some, None, Ok, Err, Result, Option as CodeOption}
+use Rattle.inputs.specs.declared.refusal.Refusal.{Refusal}
+use Rattle.inputs.specs.Refusal.{refusal_number}
+use Rattle.inputs.specs.declared.state.Refused.{Refused}
+use Rattle.inputs.proofs.RefusalNumberLaws.{above_zero}
+use Rattle.checks.specs.declared.call.Accepted.{Accepted}
+use Rattle.checks.specs.declared.call.Found.{Found}
+use Rattle.checks.specs.Calls.{asked_kind, block_after, version_of, Answer, answer_of, accepted_answer, answer_in}
+use Rattle.checks.proofs.AfterCallLaws.{text_accepted, accepted_number, accepted_state}
 use Rattle.verifier.specs.declared.request.Request.{Request as RequestBlock}
 use Rattle.verifier.specs.Request.{request_in}
 use Rattle.verifier.specs.declared.files.Outcome.{Outcome}
-use Rattle.verifier.specs.Files.{file_read, files_read, outcome_of, are_within, Left, IsRefusal}
-use Rattle.verifier.specs.Files.{accepted_line}
+use Rattle.verifier.specs.Files.{file_read, files_read, Outcome as Numbers, outcome_of, accepted_outcome, outcome_in, are_within, length_found}
+use Rattle.verifier.specs.Files.{Left, IsRefusal}
+use Rattle.verifier.specs.Files.{accepted_line, version_field}
 
 -- what is written from byte 0 on stops at its length
 stop_at : (line text line' : Bytes) (stop : ℕ) → Wrote line 0 text stop line' → stop ≡ length text
@@ -45,9 +52,9 @@ stop_at line text line' stop w = omega arith
 -- ---- a refusal
 
 -- its line is written, and it has no value nor new text
-pub refusal_written : (k stop : ℕ) (line line' : Bytes) → Wrote line 0 (line_of (ascii "no" ∷ decimal k ∷ [])) stop line'
-    → IsRefusal k (record { number = k; line = stop; found = false; value = 0; text = 0 }) line line'
-unfolding outcome_of number_of printed value_of text_of is_some
+pub refusal_written : (k : Refusal) (stop : ℕ) (line line' : Bytes) → Wrote line 0 (line_of (ascii "no" ∷ decimal (refusal_number k) ∷ [])) stop line'
+    → IsRefusal (refusal_number k) (record { line = stop; judged = Err k }) line line'
+unfolding outcome_in outcome_of number_of printed value_of text_of is_some
 refusal_written k stop line line' w = (rw (stop_at line _ line' stop w) refl, w.bytes)
 
 -- a refusal leaves the bytes lent for the value as they were
@@ -76,7 +83,8 @@ version_printed (some t) = refl
 
 -- the line of an answer
 abbrev accepting : Answer → Bytes
-accepting r = accepted_line r.found r.version r.state.log.size r.state.map.count
+accepting r =
+    line_of (ascii "yes" ∷ cond r.found (decimal r.version) (ascii "-") ∷ decimal r.state.log.size ∷ decimal r.state.map.count ∷ [])
 
 -- that of an accepted call is printed
 accepting_printed : (b : StateBlock) (c : Call) → accepting (answer_of b (passed c)) ≡ printed (passed c)
@@ -85,51 +93,71 @@ accepting_printed b c =
     ap (λ (v : Bytes). line_of (ascii "yes" ∷ v ∷ decimal c.parts.tree_size ∷ decimal (length (map_after c)) ∷ []))
     (version_printed (target_of c.parts.finding))
 
+-- the line of an answer that accepts
+accepted_said : (b : StateBlock) (f : CodeOption Found) → accepted_line f b.log.size b.map.count ≡ accepting (accepted_answer b f)
+accepted_said b None = refl
+accepted_said b (Some f) = refl
+
+-- and its lengths, with those of the line and of the new text
+abbrev lengths : ℕ → Answer → ℕ → Numbers
+lengths stop r n = record { number = 0; line = stop; found = r.found; value = r.length; text = n }
+
+accepted_lengths : (b : StateBlock) (f : CodeOption Found) (stop n : ℕ)
+    → accepted_outcome stop (length_found f) n ≡ lengths stop (accepted_answer b f) n
+accepted_lengths b None stop n = refl
+accepted_lengths b (Some f) stop n = refl
+
 -- ---- a call
 
 module _ (kind : Option Kind) (b : StateBlock) (a : Arguments) (signed value : Bytes) (l : length value ≡ value_limit)
-    (r : Answer) (value' : Bytes) (er : r ≡ answer_of b (judge_call kind (state_of b) a signed (length value)))
+    (r : Result Accepted Refused) (value' : Bytes) (er : answer_in r ≡ answer_of b (judge_call kind (state_of b) a signed (length value)))
     (ev : value' ≡ output_after value (judge_call kind (state_of b) a signed (length value))) where
   -- it is given room for every value
   abbrev made : Judgement
   made = judge_call kind (state_of b) a signed value_limit
 
   -- the answer
-  answer-made : r ≡ answer_of b made
-  answer-made = subst (λ (n : ℕ). r ≡ answer_of b (judge_call kind (state_of b) a signed n)) l er
+  answer-made : answer_in r ≡ answer_of b made
+  answer-made = subst (λ (n : ℕ). answer_in r ≡ answer_of b (judge_call kind (state_of b) a signed n)) l er
 
   -- the bytes lent for the value
   value_made : value' ≡ output_after value made
   value_made = subst (λ (n : ℕ). value' ≡ output_after value (judge_call kind (state_of b) a signed n)) l ev
 
   -- it is refused
-  pub call-refused : (r.number ≡ 0 → ⊥) → (o : Outcome) (line text line' : Bytes) → IsRefusal r.number o line line'
+  pub call-refused : (d : Refused) → r ≡ Err d → (o : Outcome) (line text line' : Bytes) → IsRefusal (refusal_number d.refusal) o line line'
       → Left made o line value text line' value' text
-  unfolding answer_of
-  call-refused z o line text line' h =
-      refusal_left made r.number o line value text line' value'
-      (number_refused made r.number (ap (λ (x : Answer). x.number) answer-made) z) h value_made
+  unfolding answer_in answer_of
+  call-refused d q o line text line' h =
+      let k : refusal_number d.refusal ≡ number_of made = ap (λ (x : Answer). x.number) (ap answer_in (sym q) ∙ answer-made) in
+      let z = above_zero d.refusal in
+      refusal_left made (refusal_number d.refusal) o line value text line' value'
+      (number_refused made (refusal_number d.refusal) k (λ e. omega arith)) h value_made
 
   -- it is accepted: its line and the text of its new state are written
-  pub call-accepted : r.number ≡ 0 → (stop n : ℕ) (line text line' text' : Bytes) → Wrote line 0 (accepting r) stop line'
-      → state_text_limit ≤ length text → n ≡ length (get_or (text_for r.state text) [])
-      → text' ≡ written_first text (text_for r.state text)
-      → Left made (record { number = 0; line = stop; found = r.found; value = r.length; text = n }) line value text line' value' text'
-  unfolding outcome_of answer_of text_after judge_call
-  call-accepted z stop n line text line' text' w m en et =
+  pub call-accepted : (x : Accepted) → r ≡ Ok x → (stop n : ℕ) (line text line' text' : Bytes)
+      → Wrote line 0 (accepted_line x.found x.state.log.size x.state.map.count) stop line'
+      → state_text_limit ≤ length text → n ≡ length (get_or (text_for x.state text) [])
+      → text' ≡ written_first text (text_for x.state text)
+      → Left made (record { line = stop; judged = Ok (record { value = length_found x.found; text = n }) }) line value text line' value' text'
+  unfolding outcome_in outcome_of answer_in answer_of text_after judge_call
+  call-accepted x e stop n line text line' text' w m en et =
       let i : Inputs = library_inputs kind a signed value_limit in
       let j : Judgement = judge (state_of b) i in
-      let k : r.number ≡ number_of j = ap (λ (x : Answer). x.number) answer-made in
-      let g : r.found ≡ is_some (value_of j) = ap (λ (x : Answer). x.found) answer-made in
-      let v : r.length ≡ length (get_or (value_of j) []) = ap (λ (x : Answer). x.length) answer-made in
-      let (c, q) = zero_accepts (state_of b) i (sym k ∙ z) in
-      let t : text_for r.state text ≡ text_of j = text_accepted b i c q r.state (ap (λ (x : Answer). x.state) answer-made) text m in
-      let p : accepting r ≡ printed j =
-      ap accepting (answer-made ∙ ap (answer_of b) q) ∙ accepting_printed b c ∙ sym (ap printed q) in
+      let y : Answer = accepted_answer x.state x.found in
+      let h : y ≡ answer_of b j = ap answer_in (sym e) ∙ answer-made in
+      let k : number_of j ≡ 0 = sym (ap (λ (z : Answer). z.number) h) ∙ accepted_number x.state x.found in
+      let g : y.found ≡ is_some (value_of j) = ap (λ (z : Answer). z.found) h in
+      let v : y.length ≡ length (get_or (value_of j) []) = ap (λ (z : Answer). z.length) h in
+      let s' : x.state ≡ block_after b j = sym (accepted_state x.state x.found) ∙ ap (λ (z : Answer). z.state) h in
+      let (c, q) = zero_accepts (state_of b) i k in
+      let t : text_for x.state text ≡ text_of j = text_accepted b i c q x.state s' text m in
+      let p : accepted_line x.found x.state.log.size x.state.map.count ≡ printed j =
+      accepted_said x.state x.found ∙ ap accepting (h ∙ ap (answer_of b) q) ∙ accepting_printed b c ∙ sym (ap printed q) in
       let s : stop ≡ length (printed j) = stop_at line _ line' stop w ∙ ap length p in
       let d : n ≡ length (get_or (text_of j) []) = en ∙ ap (λ (o : Option Bytes). length (get_or o [])) t in
       record {
-        outcome = rw (s, g, v, d, ← k, z) refl;
+        outcome = accepted_lengths x.state x.found stop n ∙ rw (s, g, v, d, k) refl;
         is_line = w.bytes ∙ ap (written line 0) p;
         is_value = value_made;
         is_text = et ∙ ap (written_first text) t;
@@ -160,7 +188,7 @@ module _ (unread : Bool) (request response settings state sheet signed : Bytes) 
   -- what comes of the files, as it is told
   abbrev pub Told : Outcome → Bytes → Bytes → Bytes → Bytes → Bytes → Bytes → Type 0
   Told r line value text line' value' text' =
-      (r ≡ outcome_of judged) × ((line' ≡ written line 0 (printed judged)) × ((value' ≡ output_after value judged) × (text' ≡ text_after text judged)))
+      (outcome_in r ≡ outcome_of judged) × ((line' ≡ written line 0 (printed judged)) × ((value' ≡ output_after value judged) × (text' ≡ text_after text judged)))
 
   -- all of it
   left-told : (r : Outcome) (line value text line' value' text' : Bytes) → Left judged r line value text line' value' text'

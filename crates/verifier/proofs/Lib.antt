@@ -6,6 +6,5 @@ pub mod HeldLaws
 pub mod ReaderTakenLaws
 pub mod CursorAskedLaws
 pub mod ReaderMadeLaws
-pub mod ReaderPastLaws
 pub mod ReadOnLaws
 pub mod ReadOnExamples

@@ -5,12 +5,12 @@ use Prim.Native.Nat.{ℕ}
 use lib.ListN.{length, drop}
 use Rattle.lists.specs.Lists.{Bytes}
 use Rattle.lines.specs.Cursor.{left_at, line_at, past}
-use Rattle.lines.specs.Readings.{line_of}
+use Rattle.lines.specs.Readings.{read_of}
 use Rattle.verifier.specs.Reading.{ReadOn, read_on, read_on_of}
 use Rattle.verifier.specs.declared.reading.ReadOn.{ReadOn as ReadOnBlock}
 
 module _ (s : Bytes) (at : ℕ) (r : ReadOnBlock) (e : read_on_of r ≡ read_on s at) where
-  pub read_line_lem : line_of r.line ≡ line_at s at
+  pub read_line_lem : read_of r.line ≡ line_at s at
   unfolding read_on_of read_on
   read_line_lem = ap (λ (x : ReadOn). x.line) e
 

@@ -3,7 +3,7 @@ use Rattle.std.proofs.Math.Option.{Option}
 use Rattle.std.specs.Prelude.{ℕ}
 use Rattle.lists.specs.Lists.{Bytes}
 use Rattle.lines.specs.Cursor.{left_at, line_at, past}
-use Rattle.lines.specs.Readings.{line_of}
+use Rattle.lines.specs.Readings.{read_of}
 use Rattle.verifier.specs.declared.reading.ReadOn.{ReadOn as ReadOnBlock}
 
 -- a line, if a newline ends it: where it stops and where the next one begins; the offset after it;
@@ -22,4 +22,4 @@ read_on s at =
 
 -- as the struct has it
 unfoldable pub read_on_of : ReadOnBlock → ReadOn
-read_on_of r = record { line = line_of r.line; offset = r.offset; left = r.left }
+read_on_of r = record { line = read_of r.line; offset = r.offset; left = r.left }

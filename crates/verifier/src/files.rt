@@ -5,14 +5,15 @@ ghost use Rattle.lists.specs.Lists.{written};
 ghost use Rattle.rules.specs.Limits.{value_limit};
 ghost use Rattle.rules.specs.Calls.{judge_call, output_after, text_after};
 ghost use Rattle.rules.specs.Program.{requested, judge_files, printed};
+ghost use Rattle.inputs.specs.Refusal.{refusal_number};
 ghost use Rattle.inputs.specs.State.{state_of};
 ghost use Rattle.checks.specs.Calls.{asked_kind};
 ghost use Rattle.verifier.specs.Request.{identifier_room, request_in};
-ghost use Rattle.verifier.specs.Files.{files_read, outcome_of, are_within, Left, IsRefusal};
+ghost use Rattle.verifier.specs.Files.{files_read, outcome_of, outcome_in, are_within, length_found, Left, IsRefusal};
 
 use crate::answer_line::{LINE, put_accepted, put_refusal};
 use crate::request::{Request, read_request};
-use checks::call::judge;
+use checks::call::{Found, judge};
 use checks::limits::InputLimit;
 use inputs::refusal::Refusal;
 use inputs::response_lines::Target;
@@ -20,14 +21,17 @@ use inputs::state::State;
 use inputs::state_reader::state_in;
 use inputs::state_writer::write_state;
 
-// 0 for acceptance, or the number of the refusal; how many bytes of the line, of the value and of
-// the new state's text were written, and whether there is a value.
+// How many bytes of the line were written; what was written of an acceptance, or the refusal.
 #[derive(Clone, Copy)]
 pub struct Outcome {
-    pub number: u64,
     pub line: usize,
-    pub found: bool,
-    pub value: usize,
+    pub judged: Result<Written, Refusal>,
+}
+
+// How many bytes were written of the value, if there is one, and of the new state's text.
+#[derive(Clone, Copy)]
+pub struct Written {
+    pub value: Option<usize>,
     pub text: usize,
 }
 
@@ -64,7 +68,7 @@ pub fn check_files(
     value: &mut [u8; Outcome::VALUE],
     text: &mut [u8; State::TEXT],
 ) -> Outcome
-    ensures outcome { result
+    ensures outcome { outcome_in result
         ≡ outcome_of (judge_files
         (files_read unread request.now response.now configuration.now
         state.now outputs.now signed.now)) }
@@ -82,10 +86,10 @@ pub fn check_files(
         configuration.now state.now outputs.now signed.now)) }
 {
     if unread {
-        return refused(Refusal::LENGTH, line);
+        return refused(Refusal::Length, line);
     }
     if !files_fit(request, response, configuration, state, outputs, signed) {
-        return refused(Refusal::LENGTH, line);
+        return refused(Refusal::Length, line);
     }
     let asked = read_request(request);
     let held = state_in(state);
@@ -151,49 +155,45 @@ fn judged(
         result line.old value.old text.old line.new
         value.new text.new }
 {
-    let asked = request.asked;
     let identifier = request.identifier;
-    let length = request.length;
-    let answer = judge(
-        asked,
+    match judge(
+        request.asked,
         response,
         configuration,
         state,
-        &identifier[..length],
+        &identifier[..request.length],
         request.clock,
         outputs,
         signed,
         value,
-    );
-    if answer.number != 0 {
-        return refused(answer.number, line);
-    }
-    let new = answer.state;
-    let stop = put_accepted(
-        line,
-        answer.found,
-        answer.version,
-        new.log.size,
-        new.map.count,
-    );
-    Outcome {
-        number: 0,
-        line: stop,
-        found: answer.found,
-        value: answer.length,
-        text: write_state(new, text),
+    ) {
+        Ok(accepted) => {
+            let new = accepted.state;
+            Outcome {
+                line: put_accepted(line, accepted.found, new.log.size, new.map.count),
+                judged: Ok(Written {
+                    value: length_found(accepted.found),
+                    text: write_state(new, text),
+                }),
+            }
+        }
+        Err(answer) => refused(answer.refusal, line),
     }
 }
 
+// How many bytes the value that was found has.
+fn length_found(found: Option<Found>) -> Option<usize>
+    ensures { result ≡ length_found found }
+{
+    found.map(|value| value.length)
+}
+
 // The outcome of a refusal.
-fn refused(number: u64, line: &mut [u8; Outcome::LINE]) -> Outcome
-    ensures { IsRefusal number result line.old line.new }
+fn refused(refusal: Refusal, line: &mut [u8; Outcome::LINE]) -> Outcome
+    ensures { IsRefusal (refusal_number refusal) result line.old line.new }
 {
     Outcome {
-        number,
-        line: put_refusal(line, number),
-        found: false,
-        value: 0,
-        text: 0,
+        line: put_refusal(line, refusal.number()),
+        judged: Err(refusal),
     }
 }

@@ -2,10 +2,10 @@
 // the program reads a response on, line by line.
 ghost use Rattle.std.specs.Prelude.{◌≡◌};
 ghost use Rattle.lines.specs.Cursor.{left_at, line_at, past};
-ghost use Rattle.lines.specs.Readings.{line_of};
+ghost use Rattle.lines.specs.Readings.{read_of};
 ghost use Rattle.verifier.specs.Reading.{read_on, read_on_of};
 
-use lines::cursor::{Cursor, NextLine};
+use lines::cursor::Cursor;
 
 // A text, and an offset from which it is read on.
 #[derive(Clone, Copy)]
@@ -17,7 +17,7 @@ pub struct Reader<'a> {
 // A line that was read, the reader's offset after it, and how many bytes are left from there on.
 #[derive(Clone, Copy)]
 pub struct ReadOn {
-    pub line: NextLine,
+    pub line: Option<(usize, Cursor)>,
     pub offset: usize,
     pub left: usize,
 }
@@ -31,16 +31,16 @@ impl<'a> Reader<'a> {
     }
 
     // The line that begins at the offset.
-    pub fn line(self) -> NextLine
-        ensures { line_of result ≡ line_at self.entry.text.now self.entry.at }
+    pub fn line(self) -> Option<(usize, Cursor)>
+        ensures { read_of result ≡ line_at self.entry.text.now self.entry.at }
     {
         Cursor { at: self.at }.line(self.text)
     }
 
     // The reader after a line that was read at the offset; at the offset, where no newline ended
     // it.
-    pub fn past(self, line: NextLine) -> Reader<'a>
-        ensures { (result.text ≡ self.entry.text) × (result.at ≡ past (line_of line) self.entry.at) }
+    pub fn past(self, line: Option<(usize, Cursor)>) -> Reader<'a>
+        ensures { (result.text ≡ self.entry.text) × (result.at ≡ past (read_of line) self.entry.at) }
     {
         let at = Cursor { at: self.at }.past(line);
         Reader {

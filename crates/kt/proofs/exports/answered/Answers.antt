@@ -1,6 +1,6 @@
 -- `kt::exports::answered` meets its contract: the state is read, the call judged, the new state
 -- written.
-use Rattle.std.proofs.Common.{length, arith}
+use Rattle.std.proofs.Common.{◌∙◌, ap, ℕ, ◌+◌, ◌*◌, ◌^◌, length, arith}
 use Rattle.checks.specs.Calls.{asked_kind, arguments_of}
 use Rattle.kt.proofs.CallExportLaws.{text_short, answer_short, call-over, call-unplaced, call-refused}
 use Rattle.kt.proofs.CallExportLaws.{call-answered}
@@ -12,7 +12,7 @@ pub returns-then-state-gt-TEXT-clause-answer : goal.returns-then-state-gt-TEXT-c
 returns-then-state-gt-TEXT-clause-answer c =
     let a = c.args in
     let given = arguments_of a.response.now a.configuration.now a.identifier.now a.clock a.vrf_outputs.now in
-    (call-over (asked_kind a.asked) a.state.now given a.signed_text.now a.output.now a.new_state.now (omega arith)).0
+    c.number.ensures ∙ (call-over (asked_kind a.asked) a.state.now given a.signed_text.now a.output.now a.new_state.now (omega arith)).0
 
 pub returns-then-state-gt-TEXT-clause-output : goal.returns-then-state-gt-TEXT-clause-output
 returns-then-state-gt-TEXT-clause-output c =
@@ -32,7 +32,7 @@ pub returns-then-new_state-lt-TEXT-clause-answer : goal.returns-then-new_state-l
 returns-then-new_state-lt-TEXT-clause-answer c =
     let a = c.args in
     let given = arguments_of a.response.now a.configuration.now a.identifier.now a.clock a.vrf_outputs.now in
-    (call-unplaced (asked_kind a.asked) a.state.now given a.signed_text.now a.output.now a.new_state.now (omega arith) (omega arith)).0
+    c.number-then-new_state-lt-TEXT.ensures ∙ (call-unplaced (asked_kind a.asked) a.state.now given a.signed_text.now a.output.now a.new_state.now (omega arith) (omega arith)).0
 
 pub returns-then-new_state-lt-TEXT-clause-output : goal.returns-then-new_state-lt-TEXT-clause-output
 returns-then-new_state-lt-TEXT-clause-output c =
@@ -48,29 +48,29 @@ returns-then-new_state-lt-TEXT-clause-state c =
 
 -- ---- the call is refused
 
-pub returns-then-answer-ne0-clause-answer : goal.returns-then-answer-ne0-clause-answer
-returns-then-answer-ne0-clause-answer c =
+pub returns-in-Err-clause-answer : goal.returns-in-Err-clause-answer
+returns-in-Err-clause-answer c =
     let a = c.args in
-    let r = c.judge-answer in
+    let r = c.judge in
     let given = arguments_of a.response.now a.configuration.now a.identifier.now a.clock a.vrf_outputs.now in
-    (call-refused (asked_kind a.asked) a.state.now given a.signed_text.now a.output.now a.new_state.now (omega arith) (omega arith)
-    c.state_in-held.result c.state_in-held.ensures r.result r.new.output r.ensures.answer r.ensures.bytes c.if-answer-ne0.true).0
+    c.number-in-Err.ensures ∙ (call-refused (asked_kind a.asked) a.state.now given a.signed_text.now a.output.now a.new_state.now (omega arith) (omega arith)
+    c.state_in-held.result c.state_in-held.ensures r.result r.new.output r.ensures.answer r.ensures.bytes _ c.in-Err.is).0
 
-pub returns-then-answer-ne0-clause-output : goal.returns-then-answer-ne0-clause-output
-returns-then-answer-ne0-clause-output c =
+pub returns-in-Err-clause-output : goal.returns-in-Err-clause-output
+returns-in-Err-clause-output c =
     let a = c.args in
-    let r = c.judge-answer in
+    let r = c.judge in
     let given = arguments_of a.response.now a.configuration.now a.identifier.now a.clock a.vrf_outputs.now in
     (call-refused (asked_kind a.asked) a.state.now given a.signed_text.now a.output.now a.new_state.now (omega arith) (omega arith)
-    c.state_in-held.result c.state_in-held.ensures r.result r.new.output r.ensures.answer r.ensures.bytes c.if-answer-ne0.true).1.0
+    c.state_in-held.result c.state_in-held.ensures r.result r.new.output r.ensures.answer r.ensures.bytes _ c.in-Err.is).1.0
 
-pub returns-then-answer-ne0-clause-state : goal.returns-then-answer-ne0-clause-state
-returns-then-answer-ne0-clause-state c =
+pub returns-in-Err-clause-state : goal.returns-in-Err-clause-state
+returns-in-Err-clause-state c =
     let a = c.args in
-    let r = c.judge-answer in
+    let r = c.judge in
     let given = arguments_of a.response.now a.configuration.now a.identifier.now a.clock a.vrf_outputs.now in
     (call-refused (asked_kind a.asked) a.state.now given a.signed_text.now a.output.now a.new_state.now (omega arith) (omega arith)
-    c.state_in-held.result c.state_in-held.ensures r.result r.new.output r.ensures.answer r.ensures.bytes c.if-answer-ne0.true).1.1
+    c.state_in-held.result c.state_in-held.ensures r.result r.new.output r.ensures.answer r.ensures.bytes _ c.in-Err.is).1.1
 
 -- ---- the lengths in the answer are not too large
 
@@ -78,13 +78,13 @@ pub overflow_mul-result : goal.overflow_mul-result
 overflow_mul-result c =
     let a = c.args in
     let given = arguments_of a.response.now a.configuration.now a.identifier.now a.clock a.vrf_outputs.now in
-    let value = answer_short (asked_kind a.asked) given a.signed_text.now (length a.output.now) c.state_in-held.result c.judge-answer.result c.judge-answer.ensures.answer in
-    omega (arith, value)
+    let value = answer_short (asked_kind a.asked) given a.signed_text.now (length a.output.now) c.state_in-held.result c.judge.result c.judge.ensures.answer _ c.in-Ok.is in
+    omega (arith, value, c.length_found-value.ensures)
 
-pub overflow_mul-result-2 : goal.overflow_mul-result-2
-overflow_mul-result-2 c =
+pub overflow_mul-result-in-Ok : goal.overflow_mul-result-2
+overflow_mul-result-in-Ok c =
     let w = c.write_state-text in
-    let text = text_short c.judge-answer.result.state c.args.new_state.now w.result w.ensures.answer in
+    let text = text_short c.in-Ok.accepted.state c.args.new_state.now w.result w.ensures.answer in
     omega (arith, text)
 
 pub overflow_add-result : goal.overflow_add-result
@@ -92,38 +92,39 @@ overflow_add-result c =
     let a = c.args in
     let w = c.write_state-text in
     let given = arguments_of a.response.now a.configuration.now a.identifier.now a.clock a.vrf_outputs.now in
-    let value = answer_short (asked_kind a.asked) given a.signed_text.now (length a.output.now) c.state_in-held.result c.judge-answer.result c.judge-answer.ensures.answer in
-    let text = text_short c.judge-answer.result.state a.new_state.now w.result w.ensures.answer in
-    omega (arith, value, text)
+    let value = answer_short (asked_kind a.asked) given a.signed_text.now (length a.output.now) c.state_in-held.result c.judge.result c.judge.ensures.answer _ c.in-Ok.is in
+    let text = text_short c.in-Ok.accepted.state a.new_state.now w.result w.ensures.answer in
+    omega (arith, value, text, c.length_found-value.ensures)
 
 -- ---- the call is accepted
 
-pub returns-clause-answer : goal.returns-clause-answer
-returns-clause-answer c =
+pub returns-in-Ok-clause-answer : goal.returns-in-Ok-clause-answer
+returns-in-Ok-clause-answer c =
     let a = c.args in
-    let r = c.judge-answer in
+    let r = c.judge in
     let w = c.write_state-text in
     let given = arguments_of a.response.now a.configuration.now a.identifier.now a.clock a.vrf_outputs.now in
-    (call-answered (asked_kind a.asked) a.state.now given a.signed_text.now a.output.now a.new_state.now (omega arith) (omega arith)
-    c.state_in-held.result c.state_in-held.ensures r.result r.new.output r.ensures.answer r.ensures.bytes c.if-answer-ne0.false
+    ap (λ (n : ℕ). n * 2 ^ 8 + w.result * 2 ^ 32) c.length_found-value.ensures
+    ∙ (call-answered (asked_kind a.asked) a.state.now given a.signed_text.now a.output.now a.new_state.now (omega arith) (omega arith)
+    c.state_in-held.result c.state_in-held.ensures r.result r.new.output r.ensures.answer r.ensures.bytes _ c.in-Ok.is
     w.result w.new.lent w.ensures.answer w.ensures.bytes).0
 
-pub returns-clause-output : goal.returns-clause-output
-returns-clause-output c =
+pub returns-in-Ok-clause-output : goal.returns-in-Ok-clause-output
+returns-in-Ok-clause-output c =
     let a = c.args in
-    let r = c.judge-answer in
+    let r = c.judge in
     let w = c.write_state-text in
     let given = arguments_of a.response.now a.configuration.now a.identifier.now a.clock a.vrf_outputs.now in
     (call-answered (asked_kind a.asked) a.state.now given a.signed_text.now a.output.now a.new_state.now (omega arith) (omega arith)
-    c.state_in-held.result c.state_in-held.ensures r.result r.new.output r.ensures.answer r.ensures.bytes c.if-answer-ne0.false
+    c.state_in-held.result c.state_in-held.ensures r.result r.new.output r.ensures.answer r.ensures.bytes _ c.in-Ok.is
     w.result w.new.lent w.ensures.answer w.ensures.bytes).1.0
 
-pub returns-clause-state : goal.returns-clause-state
-returns-clause-state c =
+pub returns-in-Ok-clause-state : goal.returns-in-Ok-clause-state
+returns-in-Ok-clause-state c =
     let a = c.args in
-    let r = c.judge-answer in
+    let r = c.judge in
     let w = c.write_state-text in
     let given = arguments_of a.response.now a.configuration.now a.identifier.now a.clock a.vrf_outputs.now in
     (call-answered (asked_kind a.asked) a.state.now given a.signed_text.now a.output.now a.new_state.now (omega arith) (omega arith)
-    c.state_in-held.result c.state_in-held.ensures r.result r.new.output r.ensures.answer r.ensures.bytes c.if-answer-ne0.false
+    c.state_in-held.result c.state_in-held.ensures r.result r.new.output r.ensures.answer r.ensures.bytes _ c.in-Ok.is
     w.result w.new.lent w.ensures.answer w.ensures.bytes).1.1

@@ -1,6 +1,7 @@
 -- `kt::exports::kt_ladder` meets its contract: the first i versions of the ladder are written to
 -- the front of the bytes lent.
 use Rattle.std.proofs.Common.{◌≡◌, ℕ, ◌*◌, ◌+◌, ◌<◌, ◌≤◌, List, length, ap, ◌∙◌, arith, refl}
+use Rattle.std.proofs.lemmas.List.{get_or-take}
 use Rattle.std.proofs.lemmas.List.Edits.{sets}
 use Rattle.hash.specs.Bytes.{big_endian}
 use Rattle.tree.specs.Ladder.{ladder_within, ladder_capacity}
@@ -13,6 +14,9 @@ use Rattle.kt.proofs.exports.kt_ladder.Goals as goal
 
 pub overflow_mul-length : goal.overflow_mul-length
 overflow_mul-length c = omega (arith, c.of-ladder.ensures.1, within_fits c.args.version)
+
+pub shared_ref_as_front-all : goal.shared_ref_as_front-all
+shared_ref_as_front-all c = omega (arith, c.of-ladder.ensures.1, within_fits c.args.version)
 
 pub returns-then-versions-length : goal.returns-then-versions-length
 returns-then-versions-length c =
@@ -33,7 +37,8 @@ loop-i-preserved c =
     let i : ℕ = c.loop-i.i in
     let h : i < length ladder = omega arith in
     let room : version_length * length ladder ≤ length a.versions.now = omega (arith, e, c.if-versions-length.false) in
-    let x = filled_at ladder_capacity i ladder c.of-ladder.result.versions c.of-ladder.ensures.0 h in
+    let x = get_or-take c.of-ladder.result.length c.of-ladder.result.versions i 0 (omega (arith, e, h))
+    ∙ filled_at ladder_capacity i ladder c.of-ladder.result.versions c.of-ladder.ensures.0 h in
     let w =
     c.put_version.ensures ∙ ap (λ (v : ℕ). sets c.loop-i.versions (version_length * i) (big_endian version_length v)) x
     ∙ written_next ladder a.versions.now c.loop-i.versions i h room c.loop-i.invariant.3 in

@@ -12,7 +12,7 @@ returns-then-digest-lt-DIGEST_LENGTH c = digest_refused c.args.message.now c.arg
 pub copy_from_slice-requires : goal.copy_from_slice-requires
 copy_from_slice-requires c =
     length-take-le 32 c.args.digest.now (omega arith)
-    ∙ sym (ap length c.digest-d.ensures ∙ length_digest c.args.message.now)
+    ∙ sym (ap length c.digest.ensures ∙ length_digest c.args.message.now)
 
 pub returns : goal.returns
-returns c = digest_copied c.args.message.now c.args.digest.now c.digest-d.result c.copy_from_slice.new.self (omega arith) c.digest-d.ensures c.copy_from_slice.ensures.after
+returns c = digest_copied c.args.message.now c.args.digest.now c.digest.result c.copy_from_slice.new.self (omega arith) c.digest.ensures c.copy_from_slice.ensures.after

@@ -1,6 +1,6 @@
 -- `kt::exports::kt_signed_text` meets its contract: the state is read, and the signed text placed.
-use Rattle.std.proofs.Common.{arith}
-use Rattle.checks.specs.Calls.{arguments_of}
+use Rattle.std.proofs.Common.{◌∙◌, sym, ap, arith}
+use Rattle.checks.specs.Calls.{asked_kind, arguments_of, length_in}
 use Rattle.kt.proofs.SignedTextExportLaws.{signed-text-over, signed-text-answered}
 use Rattle.kt.proofs.exports.kt_signed_text.Goals as goal
 
@@ -8,7 +8,7 @@ pub returns-then-state-gt-TEXT-clause-answer : goal.returns-then-state-gt-TEXT-c
 returns-then-state-gt-TEXT-clause-answer c =
     let a = c.args in
     let given = arguments_of a.response.now a.configuration.now a.identifier.now a.clock a.vrf_outputs.now in
-    (signed-text-over a.kind a.state.now given a.buffer.now a.offset (omega arith)).0
+    c.number.ensures ∙ (signed-text-over a.kind a.state.now given a.buffer.now a.offset (omega arith)).0
 
 pub returns-then-state-gt-TEXT-clause-bytes : goal.returns-then-state-gt-TEXT-clause-bytes
 returns-then-state-gt-TEXT-clause-bytes c =
@@ -16,18 +16,38 @@ returns-then-state-gt-TEXT-clause-bytes c =
     let given = arguments_of a.response.now a.configuration.now a.identifier.now a.clock a.vrf_outputs.now in
     (signed-text-over a.kind a.state.now given a.buffer.now a.offset (omega arith)).1
 
-pub returns-clause-answer : goal.returns-clause-answer
-returns-clause-answer c =
+pub returns-in-Ok-clause-answer : goal.returns-in-Ok-clause-answer
+unfolding length_in
+returns-in-Ok-clause-answer c =
     let a = c.args in
     let t = c.signed_text in
     let given = arguments_of a.response.now a.configuration.now a.identifier.now a.clock a.vrf_outputs.now in
-    (signed-text-answered a.kind a.state.now given a.buffer.now a.offset (omega arith)
-    c.state_in-held.result c.state_in-held.ensures t.result t.new.buffer (t.ensures.answer, t.ensures.bytes)).0
+    (signed-text-answered a.kind a.state.now given a.buffer.now a.offset (omega arith) c.state_in-held.result c.state_in-held.ensures
+    (asked_kind c.kind_numbered.result) c.kind_numbered.ensures _ t.new.buffer (ap length_in (sym c.in-Ok.is) ∙ t.ensures.answer, t.ensures.bytes)).0
 
-pub returns-clause-bytes : goal.returns-clause-bytes
-returns-clause-bytes c =
+pub returns-in-Ok-clause-bytes : goal.returns-in-Ok-clause-bytes
+unfolding length_in
+returns-in-Ok-clause-bytes c =
     let a = c.args in
     let t = c.signed_text in
     let given = arguments_of a.response.now a.configuration.now a.identifier.now a.clock a.vrf_outputs.now in
-    (signed-text-answered a.kind a.state.now given a.buffer.now a.offset (omega arith)
-    c.state_in-held.result c.state_in-held.ensures t.result t.new.buffer (t.ensures.answer, t.ensures.bytes)).1
+    (signed-text-answered a.kind a.state.now given a.buffer.now a.offset (omega arith) c.state_in-held.result c.state_in-held.ensures
+    (asked_kind c.kind_numbered.result) c.kind_numbered.ensures _ t.new.buffer (ap length_in (sym c.in-Ok.is) ∙ t.ensures.answer, t.ensures.bytes)).1
+
+pub returns-in-Err-clause-answer : goal.returns-in-Err-clause-answer
+unfolding length_in
+returns-in-Err-clause-answer c =
+    let a = c.args in
+    let t = c.signed_text in
+    let given = arguments_of a.response.now a.configuration.now a.identifier.now a.clock a.vrf_outputs.now in
+    (signed-text-answered a.kind a.state.now given a.buffer.now a.offset (omega arith) c.state_in-held.result c.state_in-held.ensures
+    (asked_kind c.kind_numbered.result) c.kind_numbered.ensures _ t.new.buffer (c.number-in-Err.ensures ∙ ap length_in (sym c.in-Err.is) ∙ t.ensures.answer, t.ensures.bytes)).0
+
+pub returns-in-Err-clause-bytes : goal.returns-in-Err-clause-bytes
+unfolding length_in
+returns-in-Err-clause-bytes c =
+    let a = c.args in
+    let t = c.signed_text in
+    let given = arguments_of a.response.now a.configuration.now a.identifier.now a.clock a.vrf_outputs.now in
+    (signed-text-answered a.kind a.state.now given a.buffer.now a.offset (omega arith) c.state_in-held.result c.state_in-held.ensures
+    (asked_kind c.kind_numbered.result) c.kind_numbered.ensures _ t.new.buffer (c.number-in-Err.ensures ∙ ap length_in (sym c.in-Err.is) ∙ t.ensures.answer, t.ensures.bytes)).1

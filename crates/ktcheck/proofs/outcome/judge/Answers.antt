@@ -5,17 +5,21 @@ use Rattle.ktcheck.proofs.outcome.judge.Goals as goal
 pub slice_bounds-line-end : goal.slice_bounds-line-end
 slice_bounds-line-end g c = let e = c.check_files-outcome.ensures in (line-counted _ _ e.outcome _ _ e.line).0
 
-pub slice_bounds-report-end : goal.slice_bounds-report-end
-slice_bounds-report-end g c = let e = c.check_files-outcome.ensures in (line-counted _ _ e.outcome _ _ e.line).1
-
-pub slice_bounds-value-end : goal.slice_bounds-value-end
-slice_bounds-value-end g c = let e = c.check_files-outcome.ensures in (value-counted _ _ e.outcome _ _ e.value).0
-
-pub slice_bounds-report-end-2 : goal.slice_bounds-report-end-2
-slice_bounds-report-end-2 g c = let e = c.check_files-outcome.ensures in (value-counted _ _ e.outcome _ _ e.value).1
+pub slice_bounds-line-end-2 : goal.slice_bounds-line-end-2
+slice_bounds-line-end-2 g c = let e = c.check_files-outcome.ensures in (line-counted _ _ e.outcome _ _ e.line).1
 
 pub slice_bounds-text-end : goal.slice_bounds-text-end
-slice_bounds-text-end g c = let e = c.check_files-outcome.ensures in (text-counted _ _ e.outcome _ _ e.text).0
+slice_bounds-text-end g c =
+    let e = c.check_files-outcome.ensures in (text-counted _ _ e.outcome _ _ _ c.in-Ok.is e.text).0
 
-pub slice_bounds-report-end-3 : goal.slice_bounds-report-end-3
-slice_bounds-report-end-3 g c = let e = c.check_files-outcome.ensures in (text-counted _ _ e.outcome _ _ e.text).1
+pub slice_bounds-accept-end : goal.slice_bounds-accept-end
+slice_bounds-accept-end g c =
+    let e = c.check_files-outcome.ensures in (text-counted _ _ e.outcome _ _ _ c.in-Ok.is e.text).1
+
+pub shared_ref_as_front-value : goal.shared_ref_as_front-value
+shared_ref_as_front-value g c =
+    let e = c.check_files-outcome.ensures in (value-counted _ _ e.outcome _ _ _ c.in-Ok.is _ c.in-Some.is e.value).0
+
+pub slice_bounds-value-end : goal.slice_bounds-value-end
+slice_bounds-value-end g c =
+    let e = c.check_files-outcome.ensures in (value-counted _ _ e.outcome _ _ _ c.in-Ok.is _ c.in-Some.is e.value).1

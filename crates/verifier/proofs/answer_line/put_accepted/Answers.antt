@@ -2,8 +2,8 @@
 -- and monitoring has its own.
 use Rattle.verifier.proofs.answer_line.put_accepted.Goals as goal
 
-pub returns-then-found : goal.returns-then-found
-returns-then-found c = rw c.if-found.true c.put_found.ensures
+pub returns-in-Some : goal.returns-in-Some
+returns-in-Some c = rw c.in-Some.is c.put_found.ensures
 
-pub returns : goal.returns
-returns c = rw c.if-found.false c.put_monitored.ensures
+pub returns-in-None : goal.returns-in-None
+returns-in-None c = rw c.in-None.is c.put_monitored.ensures

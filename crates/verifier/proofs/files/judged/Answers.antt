@@ -12,22 +12,22 @@ use Rattle.verifier.proofs.FilesLaws.{call-refused, call-accepted}
 use borrow.Author.Rules.{rules}
 use Rattle.verifier.proofs.files.judged.Goals as goal
 
-pub slice_bounds-identifier-end : goal.slice_bounds-identifier-end
-slice_bounds-identifier-end c = (let within0 : (c.args.request.length ≤ length c.args.request.identifier) = let e0 : length c.args.request.identifier ≡ identifier_room = search rules in omega (arith, c.requires) in within0)
-
 pub slice_bounds-judge-end : goal.slice_bounds-judge-end
-slice_bounds-judge-end c = sym (length-take-le _ _ (let within0 : (c.args.request.length ≤ length c.args.request.identifier) = let e0 : length c.args.request.identifier ≡ identifier_room = search rules in omega (arith, c.requires) in within0))
+slice_bounds-judge-end c =
+    let within : c.args.request.length ≤ length c.args.request.identifier =
+    let e : length c.args.request.identifier ≡ identifier_room = search rules in omega (arith, c.requires) in
+    sym (length-take-le _ _ within)
 
-pub returns-then-answer-ne0 : goal.returns-then-answer-ne0
+pub returns-in-Err : goal.returns-in-Err
 unfolding arguments_of requested request_in
-returns-then-answer-ne0 c =
-    let r = c.judge-answer.ensures in
-    call-refused _ _ _ _ _ (omega arith) _ _ r.answer r.bytes c.if-answer-ne0.true _ _ _ _ c.refused.ensures
+returns-in-Err c =
+    let r = c.judge.ensures in
+    call-refused _ _ _ _ _ (omega arith) _ _ r.answer r.bytes _ c.in-Err.is _ _ _ _ c.refused.ensures
 
-pub returns : goal.returns
+pub returns-in-Ok : goal.returns-in-Ok
 unfolding arguments_of requested request_in
-returns c =
+returns-in-Ok c =
     let w = c.write_state.ensures in
-    let accepted = c.if-answer-ne0.false in
-    let r = c.judge-answer.ensures in
-    call-accepted _ _ _ _ _ (omega arith) _ _ r.answer r.bytes accepted _ _ _ _ _ _ c.put_accepted-stop.ensures (omega arith) w.answer w.bytes
+    let r = c.judge.ensures in
+    rw c.length_found.ensures
+    (call-accepted _ _ _ _ _ (omega arith) _ _ r.answer r.bytes _ c.in-Ok.is _ _ _ _ _ _ c.put_accepted.ensures (omega arith) w.answer w.bytes)
