@@ -89,7 +89,7 @@ module _ (asked : CodeOption KindBlock) (text configuration : Bytes) (b : StateB
           state-is = stands_for b c.state i.state
 
           -- refused with 6 to 13
-          six-refused : (e : Refusal) → Is6to13Tried asked text k b identifier outputs (Err e)
+          six-refused : (e : Refusal) → Is6to13Tried asked text k identifier b outputs (Err e)
               → refusal_number e ≡ number_tried checks c
           unfolding contents label_in map_in inputs_within arguments_of
           six-refused e g =
@@ -98,7 +98,7 @@ module _ (asked : CodeOption KindBlock) (text configuration : Bytes) (b : StateB
               (ap (λ (y : State). y.label) state-is) (ap (λ (y : State). y.monitoring_map) state-is) e g
 
           -- what is left of 6 to 14 is 14
-          walk-told : (t : Tried) → Is6to13Tried asked text k b identifier outputs (Ok t)
+          walk-told : (t : Tried) → Is6to13Tried asked text k identifier b outputs (Ok t)
               → (r : Result Checked Refusal) → Is14Tried text k t b.log.values r block
               → Tells r checks c (λ y. Leaves c k y block)
           unfolding contents label_in log_in map_in inputs_within arguments_of
@@ -120,10 +120,10 @@ module _ (asked : CodeOption KindBlock) (text configuration : Bytes) (b : StateB
             q ∙ number_refused (tried checks c) (refusal_number e) (f room c i) (refusal_numbered e)
 
         -- refused with 6 to 13
-        pub state-refused : (e : Refusal) → Is6to13Tried asked text k b identifier outputs (Err e) → Told (Err e)
+        pub state-refused : (e : Refusal) → Is6to13Tried asked text k identifier b outputs (Err e) → Told (Err e)
         state-refused e g = told-refused e (λ room c i. six-refused room c i e g)
 
-        module _ (t : Tried) (g : Is6to13Tried asked text k b identifier outputs (Ok t)) where
+        module _ (t : Tried) (g : Is6to13Tried asked text k identifier b outputs (Ok t)) where
           -- refused with 14
           pub walk-refused : (e : Refusal) → Is14Tried text k t b.log.values (Err e) block → Told (Err e)
           walk-refused e w = told-refused e (λ room c i. (walk-told room c i t g (Err e) w).0)

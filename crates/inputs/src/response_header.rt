@@ -101,6 +101,7 @@ fn shift(part: Part, at: usize) -> Part
 }
 
 // The target of a response that has none.
+// An Option in its place is no plainer: whoever reads a target has matched the kind before, and needs no test of it.
 fn no_target() -> Target {
     Target {
         version: 0,

@@ -43,6 +43,18 @@ pub struct KtLine {
     pub label: Part,
 }
 
+impl Kind {
+    // The second word of a first line of the kind.
+    fn second_word(self) -> &'static [u8]
+        ensures { result.now ≡ kind_word (kind_of self) }
+    {
+        match self {
+            Kind::Search => &Word::SEARCH,
+            Kind::Monitor => &Word::MONITOR,
+        }
+    }
+}
+
 impl Target {
     // The length of an opening (001, 15.1).
     pub const OPENING: usize = 16;
@@ -70,11 +82,7 @@ pub(crate) fn kt_line(l: &[u8]) -> Option<KtLine>
         ≡ or_else (read_kind_line search l.now) (read_kind_line monitor l.now) }
     ensures stands { KtStands l.now result }
 {
-    kind_line(l, Kind::Search, &Word::SEARCH).or_else(|| kind_line(
-        l,
-        Kind::Monitor,
-        &Word::MONITOR,
-    ))
+    kind_line(l, Kind::Search).or_else(|| kind_line(l, Kind::Monitor))
 }
 
 // A `head` line: n.
@@ -142,14 +150,13 @@ pub(crate) fn is_end(l: &[u8]) -> bool
     after_word(l, &Word::END).is_some_and(|next| l.len() < next.at)
 }
 
-// A first line of one kind, whose word is given.
-fn kind_line(l: &[u8], kind: Kind, word: &[u8]) -> Option<KtLine>
-    requires { word.now ≡ kind_word (kind_of kind) }
+// A first line of one kind.
+fn kind_line(l: &[u8], kind: Kind) -> Option<KtLine>
     ensures read { kt_of l.now result ≡ read_kind_line (kind_of kind) l.now }
     ensures stands { KtStands l.now result }
 {
     let at_kind = after_word(l, &Word::KT)?;
-    let next = at_kind.word(l, word)?;
+    let next = at_kind.word(l, kind.second_word())?;
     let (identifier, label) = last_parts(l, next, KtLine::IDENTIFIER, State::LABEL)?;
     Some(KtLine {
         kind,

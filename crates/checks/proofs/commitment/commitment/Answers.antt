@@ -1,6 +1,6 @@
 -- `checks::commitment::commitment` meets its contract: what the fields encode stands in zeros, and
 -- its length is told.
-use mathlib.Core.Path.{◌≡◌, refl, ◌∙◌}
+use mathlib.Core.Path.{◌≡◌, refl, sym, ap, ◌∙◌}
 use native.Mathlib.Omega.{arith}
 use lib.ListN.{length}
 use Rattle.hash.proofs.BytesLaws.{padded_full}
@@ -9,12 +9,19 @@ use Rattle.inputs.specs.ResponseLines.{decoded}
 use Rattle.checks.proofs.CommitmentLaws.{decoded-room, decoded-front}
 use Rattle.checks.proofs.commitment.commitment.Goals as goal
 
-pub slice_bounds-committed-end : goal.slice_bounds-committed-end
-slice_bounds-committed-end c =
+pub slice_bounds-shown-end : goal.slice_bounds-shown-end
+slice_bounds-shown-end c =
     let (l, n, _) =
     decoded-front value_limit c.args.value.now c.requires.value _ c.put_decoded-2.ensures.bytes _
     c.put_decoded-2.ensures.offset _ c.unwrap_or-length.ensures in
     omega (arith, l, n, c.requires.value)
+
+pub slice_bounds-committed-end : goal.slice_bounds-committed-end
+slice_bounds-committed-end c =
+    let (l, _, shown) =
+    decoded-front value_limit c.args.value.now c.requires.value _ c.put_decoded-2.ensures.bytes _
+    c.put_decoded-2.ensures.offset _ c.unwrap_or-length.ensures in
+    l ∙ sym (ap length shown)
 
 pub committed-requires : goal.committed-requires
 committed-requires c =

@@ -15,6 +15,11 @@ slice_bounds-room-end c =
     let e : length c.put_decoded.new.out ≡ label_limit = search rules in
     omega (arith, put-within label_limit _ _ (sym c.in-Some.ensures.offset))
 
+pub slice_bounds-eq-end : goal.slice_bounds-eq-end
+slice_bounds-eq-end c =
+    let e : length c.put_decoded.new.out ≡ label_limit = search rules in
+    part_count _ _ (omega (arith, put-within label_limit _ _ (sym c.in-Some.ensures.offset)))
+
 pub returns-in-Some : goal.returns-in-Some
 returns-in-Some c =
     c.eq.ensures ∙ slices_same _ _

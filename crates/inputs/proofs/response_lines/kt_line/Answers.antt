@@ -3,20 +3,11 @@
 use mathlib.Core.Path.{◌≡◌, refl}
 use borrow.Author.Rules.{rules}
 use Rattle.lists.specs.Choice.{or_else}
-use Rattle.lines.specs.Number.{ascii}
 use Rattle.rules.specs.Response.{search as searched_kind, monitor}
 use Rattle.rules.specs.ResponseText.{read_kind_line}
 use Rattle.inputs.specs.ResponseLines.{kt_of}
 use Rattle.inputs.proofs.MatchLaws.{matched}
 use Rattle.inputs.proofs.response_lines.kt_line.Goals as goal
-
-pub kind_line-requires : goal.kind_line-requires
-unfolding ascii
-kind_line-requires c = refl
-
-pub or_else-requires : goal.or_else-requires
-unfolding ascii
-or_else-requires c = search rules
 
 pub returns-clause-read : goal.returns-clause-read
 unfolding or_else

@@ -26,8 +26,17 @@ put_keep-offset-requires c =
 pub loop-value-preserved : goal.loop-value-preserved
 loop-value-preserved c =
     let s = c.in-Some.ensures.steps in
-    let (k, e, t) = values_next _ _ _ _ _ (s.1.1 ∙ c.loop-value.invariant.0) (rw s.1.0 at c.loop-value.invariant.1) in
-    (s.0 ∙ c.loop-value.invariant.0, record { left = k; whole = e; texts = texts-step write_keep _ _ _ t c.put_keep-offset.ensures })
+    let (k, e, t) = values_next _ _ _ _ _ (s.1.1 ∙ c.loop-value.invariant.0) (rw s.1.0 at c.loop-value.invariant.1) in (
+      s.0 ∙ c.loop-value.invariant.0,
+      record {
+        left = k;
+        whole = e;
+        texts =
+            texts-step write_keep _ _ _ t c.put_keep-offset.ensures;
+      },
+    )
 
 pub returns : goal.returns
-returns c = texts-end write_keep _ (values_end _ _ _ _ (let s = c.in-None.ensures.steps in let z = c.loop-value.invariant.0 in omega arith) c.loop-value.invariant.1)
+returns c =
+    texts-end write_keep _ (values_end _ _ _ _ (let s = c.in-None.ensures.steps in let z = c.loop-value.invariant.0 in
+    omega arith) c.loop-value.invariant.1)
