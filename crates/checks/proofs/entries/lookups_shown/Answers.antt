@@ -1,7 +1,5 @@
 -- `checks::entries::lookups_shown` meets its contract: the lookups passed so far were compared with
 -- the versions wanted, and counted.
-use native.Mathlib.Omega.{arith}
-use Rattle.checks.proofs.EntryLaws.{compared-start}
 use Rattle.checks.proofs.EntryLaws.{compared-next, compared-all}
 use Rattle.checks.proofs.entries.lookups_shown.Goals as goal
 

@@ -1,14 +1,12 @@
 -- `checks::entries::monitored_entry` meets its contract: the lookups are compared with the versions
 -- of the largest pair, or there is no pair.
-use mathlib.Core.Path.{refl, sym, ◌∙◌}
-use mathlib.Core.Logic.{inl, inr}
+use mathlib.Core.Path.{sym, ◌∙◌}
 use lib.ListN.{drop}
 use Rattle.hash.proofs.BytesLaws.{filled_front}
 use Rattle.inputs.specs.Response.{loose_in}
 use Rattle.inputs.proofs.PairLaws.{version_within}
 use Rattle.checks.specs.Sections.{AfterLookups}
 use Rattle.checks.proofs.EntryAskedLaws.{told_if, shown_all, shown_none}
-use borrow.Author.Rules.{rules}
 use Rattle.checks.proofs.entries.monitored_entry.Goals as goal
 
 pub versions_not_above-shown-requires : goal.versions_not_above-shown-requires

@@ -1,15 +1,14 @@
 -- `checks::monitoring::monitoring_asked` meets its contract: what is asked of monitoring, section
 -- by section.
-use mathlib.Core.Path.{refl, sym, ap, ◌∙◌}
+use mathlib.Core.Path.{refl, ap, ◌∙◌}
 use mathlib.Core.List.{List}
 use Prim.Native.Nat.{ℕ, ◌≤◌}
 use native.Mathlib.Omega.{arith}
 use lib.ListN.{length}
-use lib.Seq.{length-take-le}
 use Rattle.lists.proofs.ListLaws.{first_alike}
 use Rattle.rules.specs.Limits.{map_limit}
 use Rattle.checks.specs.MonitoredVersions.{counted}
-use Rattle.checks.proofs.ShapeLaws.{part_short, first_marks, marks_within, marks_again}
+use Rattle.checks.proofs.ShapeLaws.{part_short, first_marks}
 use Rattle.checks.proofs.ShapeLaws.{monitoring-not, monitoring-unasked, monitoring-shape}
 use Rattle.checks.proofs.monitoring.monitoring_asked.Goals as goal
 

@@ -2,7 +2,7 @@
 -- looked up below one, and their commitments are placed.
 use native.Mathlib.Omega.{arith}
 use borrow.Author.Rules.{rules}
-use Rattle.checks.proofs.MonitoringStepLaws.{stepping_start, pairs-length, wanted-below}
+use Rattle.checks.proofs.MonitoringStepLaws.{stepping_start}
 use Rattle.checks.proofs.MonitoringStepLaws.{stepping-end, stepping-other, stepping-next}
 use Rattle.checks.proofs.monitoring.monitoring_steps.Goals as goal
 

@@ -2,7 +2,6 @@
 use mathlib.Core.Path.{◌≡◌, refl, ◌∙◌}
 use native.Mathlib.Omega.{arith}
 use lib.ListN.{take}
-use Rattle.hash.specs.Bytes.{padded}
 use Rattle.hash.proofs.BytesLaws.{filled_front, part_count}
 use Rattle.tree.specs.Ladder.{ladder}
 use Rattle.tree.proofs.LadderFillLaws.{within_some}
