@@ -55,5 +55,5 @@ answer_state kind b a signed room = block_after_lem b (library_inputs kind a sig
 -- the part of the output that the answer tells is the value
 pub value_shown : (b : StateBlock) (output : Bytes) (j : Judgement) (v : Bytes) → value_of j ≡ some v
     → take (answer_of b j).length (output_after output j) ≡ v
-unfolding answer_of output_after written_first written Option-elim get_or
+unfolding answer_of output_after written_first written Option-elim
 value_shown b output j v e = rw e (take_at v (drop (0 + length v) output) (length v) refl)

@@ -1,4 +1,4 @@
--- Laws of the times of entries (specs/Entries.antt): one after the other, and near the clock.
+-- Laws of the times of entries (specs/Entries.antt), one after the other.
 use mathlib.Core.Path.{◌≡◌, refl, sym, ◌∙◌, ap}
 use mathlib.Core.Bool.{Bool, true, false, ◌&&◌, and-true, and-false}
 use mathlib.Core.List.{List, [], ◌∷◌}
@@ -84,32 +84,3 @@ timestamps_all size timestamp es t h =
         ∙ ap (λ (n : ℕ). (timestamps_over log.size n no_timestamps es).fit) (sym q)
         ∙ timestamps_fit log no_timestamps es
         ∙ ap (λ (b : Bool). b && all (timestamp_fits log) es) (any_after_zero (timestamps_of es))
-
--- ---- near the clock
-
-module _ (timestamp clock ahead behind : ℕ) where
-  -- a time ahead of the clock is near where it is not too far ahead
-  pub near-ahead : clock < timestamp → leb (timestamp - clock) ahead ≡ near_clock timestamp clock ahead behind
-  near-ahead h =
-      let a = leb timestamp (clock + ahead) in
-      let b = leb clock (timestamp + behind) in
-      same_test (leb (timestamp - clock) ahead) (a && b)
-      (λ e.
-      let l = leb-true (timestamp - clock) ahead e in
-      holds_and a b (le-leb timestamp (clock + ahead) (omega arith)) (le-leb clock (timestamp + behind) (omega arith)))
-      (λ e.
-      let l = leb-true timestamp (clock + ahead) (and_holds a b e).0 in
-      le-leb (timestamp - clock) ahead (omega arith))
-
-  -- any other is near where it is not too far behind
-  pub near-behind : timestamp ≤ clock → leb (clock - timestamp) behind ≡ near_clock timestamp clock ahead behind
-  near-behind h =
-      let a = leb timestamp (clock + ahead) in
-      let b = leb clock (timestamp + behind) in
-      same_test (leb (clock - timestamp) behind) (a && b)
-      (λ e.
-      let l = leb-true (clock - timestamp) behind e in
-      holds_and a b (le-leb timestamp (clock + ahead) (omega arith)) (le-leb clock (timestamp + behind) (omega arith)))
-      (λ e.
-      let l = leb-true clock (timestamp + behind) (and_holds a b e).1 in
-      le-leb (clock - timestamp) behind (omega arith))

@@ -153,20 +153,14 @@ fn entries_judged(entries: &[u8], sought: Sought) -> Results
 {
     let mut at: usize = 0;
     let mut results = Results::start();
-    loop {
-        match next_entry(entries, at) {
-            Some(first) => {
-                let root = prefix_root_at(entries, at + Layout::ENTRY);
-                let position = position_at(entries, at + Layout::ENTRY);
-                let summed = lookups_judged(entries, first, root, sought);
-                results = results.next(position, summed.summary, sought.ladder.len());
-                at = summed.next;
-            }
-            None => {
-                return results;
-            }
-        }
+    while let Some(first) = next_entry(entries, at) {
+        let root = prefix_root_at(entries, at + Layout::ENTRY);
+        let position = position_at(entries, at + Layout::ENTRY);
+        let summed = lookups_judged(entries, first, root, sought);
+        results = results.next(position, summed.summary, sought.ladder.len());
+        at = summed.next;
     }
+    results
 }
 
 impl Results {
@@ -207,17 +201,11 @@ fn lookups_judged(entries: &[u8], from: usize, root: [u8; 32], sought: Sought) -
 {
     let mut at = from;
     let mut summary = Summary::start(root);
-    loop {
-        match next_lookup(entries, at) {
-            Some((stop, next)) => {
-                summary = summary.next(&entries[at..stop], sought);
-                at = next;
-            }
-            None => {
-                return Summed { summary, next: at };
-            }
-        }
+    while let Some((stop, next)) = next_lookup(entries, at) {
+        summary = summary.next(&entries[at..stop], sought);
+        at = next;
     }
+    Summed { summary, next: at }
 }
 
 impl Summary {

@@ -25,14 +25,9 @@ use Rattle.inputs.specs.Configuration.{uint64, read_front, read_times}
 
 -- ---- numbers
 
--- a number of fewer than 8 bytes and one byte more have 64 bits
-pub byte_room : (i n b : ℕ) → i < uint64 → n < 256 ^ i → b < 256 → n * 256 + b < 2 ^ 64
-byte_room i n b l h k =
-    let p : 256 ^ suc i ≤ 256 ^ uint64 = pow-le-pow_right {n = 256} (omega arith) l in
-    omega (arith, byte_fits i n b h k)
-
 -- the number grows by the byte at an offset
-pub byte_taken : (s : Bytes) (i n : ℕ) → i < length s → bytes_after n (drop i s) ≡ bytes_after (n * 256 + get_or s i 0) (drop (i + 1) s)
+pub byte_taken : (s : Bytes) (i n : ℕ) → i < length s → bytes_after n (drop i s)
+    ≡ bytes_after (n * 256 + get_or s i 0) (drop (i + 1) s)
 byte_taken s i n h = ap (bytes_after n) (at_cons s i h) ∙ after_byte n (get_or s i 0) (drop (i + 1) s)
 
 -- and is whole at the end
@@ -62,11 +57,13 @@ module _ (k : ℕ) (s : Bytes) (at : ℕ) where
     no-opaque h = rw e (bytes_short n (drop start s) (omega (arith, length-drop start s)))
 
     -- one where enough follow
-    pub opaque-there : (p : Part) → p.start ≡ start → p.stop ≡ start + n → p.stop ≤ length s → read_opaque k (drop at s) ≡ some (part_of s p, drop p.stop s)
+    pub opaque-there : (p : Part) → p.start ≡ start → p.stop ≡ start + n → p.stop ≤ length s → read_opaque k (drop at s)
+        ≡ some (part_of s p, drop p.stop s)
     unfolding read_opaque bind part_of
     opaque-there p a z h =
         let m : p.stop - p.start ≡ n = omega arith in
-        rw e (bytes_front n (drop start s) (omega (arith, length-drop start s)) ∙ rw (m, a, z, drop-drop n start s) refl)
+        rw e (bytes_front n (drop start s) (omega (arith, length-drop start s))
+        ∙ rw (m, a, z, drop-drop n start s) refl)
 
 -- ---- optional numbers
 
@@ -80,7 +77,8 @@ no-present (suc (suc n)) s h k = refl
 -- ---- the configuration
 
 -- steps in two groups are the steps one by one
-bind_assoc : {A B C : Type 0} (o : Option A) (f : A → Option B) (g : B → Option C) → bind (bind o f) g ≡ bind o (λ a. bind (f a) g)
+bind_assoc : {A B C : Type 0} (o : Option A) (f : A → Option B) (g : B → Option C) → bind (bind o f) g
+    ≡ bind o (λ a. bind (f a) g)
 unfolding bind
 bind_assoc none f g = refl
 bind_assoc (some a) f g = refl
@@ -114,13 +112,15 @@ module _ (s : Bytes) where
   unfolding bind
   no_front e = sym (in_groups s) ∙ rw e refl
 
-  module _ (suite mode : ℕ) (signature_key vrf_key s4 : Bytes) (e1 : read_front s ≡ some (suite, mode, signature_key, vrf_key, s4)) where
+  module _ (suite mode : ℕ) (signature_key vrf_key s4 : Bytes) (e1 : read_front s
+      ≡ some (suite, mode, signature_key, vrf_key, s4)) where
     -- nor without the times
     pub no-times : read_times s4 ≡ none → read_configuration s ≡ none
     unfolding bind
     no-times e = sym (in_groups s) ∙ rw (e1, e) refl
 
-    module _ (ahead behind window : ℕ) (lifetime : Option ℕ) (end : ℕ) (e2 : read_times s4 ≡ some (ahead, behind, window, lifetime, drop end s)) where
+    module _ (ahead behind window : ℕ) (lifetime : Option ℕ) (end : ℕ) (e2 : read_times s4
+        ≡ some (ahead, behind, window, lifetime, drop end s)) where
       -- nor where anything follows them
       pub more-after : end < length s → read_configuration s ≡ none
       unfolding bind taken ◌>>◌
@@ -132,7 +132,8 @@ module _ (s : Bytes) where
         -- nor with another suite
         pub other-suite : (suite ≡ p256_suite → ⊥) → read_configuration s ≡ none
         unfolding bind taken ◌>>◌
-        other-suite n = sym (in_groups s) ∙ rw (e1, e2, equal_same (drop end s) [] (at_end s end h), ne_eqb suite p256_suite n) refl
+        other-suite n = sym (in_groups s)
+            ∙ rw (e1, e2, equal_same (drop end s) [] (at_end s end h), ne_eqb suite p256_suite n) refl
 
         module _ (q : suite ≡ p256_suite) where
           -- nor with another mode
@@ -140,7 +141,13 @@ module _ (s : Bytes) where
           unfolding bind taken ◌>>◌
           other-mode n =
               sym (in_groups s)
-              ∙ rw (e1, e2, equal_same (drop end s) [] (at_end s end h), eq-eqb suite p256_suite q, ne_eqb mode contact_monitoring n) refl
+              ∙ rw (
+                e1,
+                e2,
+                equal_same (drop end s) [] (at_end s end h),
+                eq-eqb suite p256_suite q,
+                ne_eqb mode contact_monitoring n,
+              ) refl
 
           -- else it is read
           pub configuration-there : mode ≡ contact_monitoring
@@ -159,4 +166,10 @@ module _ (s : Bytes) where
           unfolding bind taken ◌>>◌
           configuration-there m =
               sym (in_groups s)
-              ∙ rw (e1, e2, equal_same (drop end s) [] (at_end s end h), eq-eqb suite p256_suite q, eq-eqb mode contact_monitoring m) refl
+              ∙ rw (
+                e1,
+                e2,
+                equal_same (drop end s) [] (at_end s end h),
+                eq-eqb suite p256_suite q,
+                eq-eqb mode contact_monitoring m,
+              ) refl

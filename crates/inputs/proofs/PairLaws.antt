@@ -63,13 +63,16 @@ module _ (size : ℕ) (ps vs : List ℕ) (least : ℕ) where
     unfolding all
     pairs_next l h g =
         let n = left.as_many in
-        let r : between (q + 1) size qs ≡ between least size (q ∷ qs) = rw (add-one q, le-leb least q l, lt-ltb q size h) refl in
+        let r : between (q + 1) size qs ≡ between least size (q ∷ qs) =
+        rw (add-one q, le-leb least q l, lt-ltb q size h) refl in
         let v : all is_not_too_great ws ≡ all is_not_too_great (w ∷ ws) = rw (le-leb w greatest_version g) refl in
         record { rise = r ∙ left.rise; versions_fit = v ∙ left.versions_fit; as_many = omega arith }
 
 -- where no version is too great, the one at an offset is not
-pub version_within : (vs : List ℕ) (i : ℕ) → all is_not_too_great vs ≡ true → i < length vs → get_or vs i 0 ≤ greatest_version
-version_within vs i a h = leb-true (get_or vs i 0) greatest_version (all_at is_not_too_great vs (get_or vs i 0) a (at_member vs i 0 h))
+pub version_within : (vs : List ℕ) (i : ℕ) → all is_not_too_great vs ≡ true → i < length vs
+    → get_or vs i 0 ≤ greatest_version
+version_within vs i a h =
+    leb-true (get_or vs i 0) greatest_version (all_at is_not_too_great vs (get_or vs i 0) a (at_member vs i 0 h))
 
 -- ---- pairs by their positions and their versions
 
@@ -106,7 +109,8 @@ map_none (p ∷ ps) vs e = absurd (omega arith)
 
 -- the pairs from an index on are the one there and those after it
 pub pairs_from_lem : (ps vs : List ℕ) (i : ℕ) → i < length ps → i < length vs
-    → map_of (drop i ps) (drop i vs) ≡ record { position = get_or ps i 0; version = get_or vs i 0 } ∷ map_of (drop (i + 1) ps) (drop (i + 1) vs)
+    → map_of (drop i ps) (drop i vs)
+    ≡ record { position = get_or ps i 0; version = get_or vs i 0 } ∷ map_of (drop (i + 1) ps) (drop (i + 1) vs)
 unfolding map_of
 pairs_from_lem ps vs i h l = ap₂ map_of (at_cons ps i h) (at_cons vs i l)
 

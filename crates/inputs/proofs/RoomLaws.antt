@@ -77,4 +77,5 @@ joined_padded k n m vs e h = rw (← e) (runs-joined k vs (replicate (m - length
 
 -- runs within the list have their length
 pub runs_whole : (n k : ℕ) (s : Bytes) → k * n ≤ length s → all (λ (v : Bytes). eqb (length v) k) (runs n k s) ≡ true
-runs_whole n k s h = at_all (λ (v : Bytes). eqb (length v) k) (runs n k s) (λ v m. eq-eqb (length v) k (runs-sized n k s h v m))
+runs_whole n k s h =
+    at_all (λ (v : Bytes). eqb (length v) k) (runs n k s) (λ v m. eq-eqb (length v) k (runs-sized n k s h v m))

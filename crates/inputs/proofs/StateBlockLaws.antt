@@ -65,7 +65,15 @@ room_was b e =
     let (m, e4) = every_cons _ _ e3 in
     let (p, e5) = every_cons _ _ e4 in
     let (q, e6) = every_cons _ _ e5 in
-    record { label_length = leb-true _ _ l; label_ends = z; values_end = v; pairs_count = leb-true _ _ m; positions_end = p; versions_end = q }
+    record {
+      label_length = leb-true _ _ l;
+      label_ends = z;
+      values_end = v;
+      pairs_count =
+          leb-true _ _ m;
+      positions_end = p;
+      versions_end = q;
+    }
 
 -- a struct that passes each test has zeros in its room
 room_is : (b : StateBlock) → RoomFits b → room_is_zero b ≡ true
@@ -77,14 +85,16 @@ room_is b r =
 
 -- as many positions and versions are used as it says that there are pairs
 pairs_used : (b : StateBlock) → Sized b → RoomFits b
-    → (length (take b.map.count b.map.positions) ≡ b.map.count) × (length (take b.map.count b.map.positions) ≡ length (take b.map.count b.map.versions))
+    → (length (take b.map.count b.map.positions) ≡ b.map.count)
+    × (length (take b.map.count b.map.positions) ≡ length (take b.map.count b.map.versions))
 pairs_used b z r =
     let p = length-take-le b.map.count b.map.positions (omega (arith, r.pairs_count, z.positions_room)) in
     let v = length-take-le b.map.count b.map.versions (omega (arith, r.pairs_count, z.versions_room)) in
     (p, p ∙ sym v)
 
 -- the values of a valid state, joined, take as much room as its size says
-values_length : (s : State) → Valid s → (length s.log.values ≡ ones s.log.size) × (length (flatten s.log.values) ≡ hash_length * ones s.log.size)
+values_length : (s : State) → Valid s → (length s.log.values ≡ ones s.log.size)
+    × (length (flatten s.log.values) ≡ hash_length * ones s.log.size)
 values_length s v =
     let n = v.values_count ∙ full_length s.log.size in
     (n, length-joined hash_length s.log.values v.value_length ∙ ap (λ (k : ℕ). hash_length * k) n)
@@ -96,10 +106,15 @@ block_room s v =
     record {
       label_length = v.label_fits;
       label_ends = padded_room label_limit (length s.label) s.label refl;
-      values_end = padded_room values_block_length (hash_length * ones s.log.size) (flatten s.log.values) (values_length s v).1;
+      values_end =
+          padded_room values_block_length (hash_length * ones s.log.size) (flatten s.log.values) (values_length s v).1;
       pairs_count = v.map_fits;
-      positions_end = padded_room map_limit (length s.monitoring_map) (positions s.monitoring_map) (length-map s.monitoring_map (λ (x : MapEntry). x.position));
-      versions_end = padded_room map_limit (length s.monitoring_map) (versions s.monitoring_map) (length-map s.monitoring_map (λ (x : MapEntry). x.version));
+      positions_end =
+          padded_room map_limit (length s.monitoring_map) (positions s.monitoring_map)
+          (length-map s.monitoring_map (λ (x : MapEntry). x.position));
+      versions_end =
+          padded_room map_limit (length s.monitoring_map) (versions s.monitoring_map)
+          (length-map s.monitoring_map (λ (x : MapEntry). x.version));
     }
 
 -- what fills the struct of a label is the label
@@ -109,7 +124,8 @@ label_contents label = take_padded label_limit (length label) label refl
 
 -- what fills that of a log is the log, if it has as many values as its size tells, each of its
 -- length
-pub log_contents : (k : KeptLog) → length k.values ≡ ones k.size → ((v : Bytes) → Memᴰ v k.values → length v ≡ hash_length)
+pub log_contents : (k : KeptLog) → length k.values ≡ ones k.size
+    → ((v : Bytes) → Memᴰ v k.values → length v ≡ hash_length)
     → log_in (log_block k) ≡ k
 unfolding log_in log_block
 log_contents k n h = rw (joined_padded hash_length (ones k.size) values_block_length k.values n h) refl
@@ -133,7 +149,8 @@ pub block_state : (s : State) → is_valid s ≡ true → state_of (block_of s) 
 unfolding state_of
 block_state s e =
     let v = valid_was s e in
-    provided_true (room_is_zero (block_of s)) (contents (block_of s)) (room_is (block_of s) (block_room s v)) ∙ ap some (block_contents s (values_length s v).0 v.value_length)
+    provided_true (room_is_zero (block_of s)) (contents (block_of s)) (room_is (block_of s) (block_room s v))
+    ∙ ap some (block_contents s (values_length s v).0 v.value_length)
 
 -- the struct of the label that fills a struct is that struct
 label_block_lem : (b : StateBlock) → Sized b → RoomFits b → label_block (label_in b.label) ≡ b.label
@@ -144,7 +161,8 @@ label_block_lem b z r =
     rw (l, room_padded label_limit b.label.length b.label.bytes z.label_room r.label_length r.label_ends) refl
 
 -- so is that of the log, under a size that is not too large
-log_block_lem : (b : StateBlock) → Sized b → RoomFits b → b.log.size ≤ tree_size_limit → log_block (log_in b.log) ≡ b.log
+log_block_lem : (b : StateBlock) → Sized b → RoomFits b → b.log.size ≤ tree_size_limit → log_block (log_in b.log)
+    ≡ b.log
 unfolding log_in log_block
 log_block_lem b z r f =
     let n = hash_length * ones b.log.size in
@@ -199,7 +217,8 @@ given_valid true s = given_provided (is_valid s) s
 given_valid false s = refl
 
 -- where a struct fits and the state that fills it is valid, the tests hold
-valid_tested : (b : StateBlock) → Sized b → RoomFits b → Valid (contents b) → (label_fits b.label && log_fits b.log && map_fits b.log.size b.map) ≡ true
+valid_tested : (b : StateBlock) → Sized b → RoomFits b → Valid (contents b)
+    → (label_fits b.label && log_fits b.log && map_fits b.log.size b.map) ≡ true
 unfolding contents label_in log_in map_in label_fits log_fits pairs_fit map_fits
 valid_tested b z r v =
     let ps = take b.map.count b.map.positions in
@@ -211,9 +230,23 @@ valid_tested b z r v =
     let a : leb b.label.length label_limit ≡ true = le-leb _ _ r.label_length in
     let c : leb b.log.size tree_size_limit ≡ true = le-leb _ _ v.size_fits in
     let d : leb b.map.count map_limit ≡ true = le-leb _ _ r.pairs_count in
-    let f = all_mapped (λ (p : ℕ). ltb p b.log.size) (λ (x : MapEntry). x.position) m (λ x i. lt-ltb _ _ (v.position_fits x i)) in
-    let g = all_mapped (λ (n : ℕ). leb n greatest_version) (λ (x : MapEntry). x.version) m (λ x i. le-leb _ _ (v.version_fits x i)) in
-    rw (a, r.label_ends, c, v.timestamp_fits, r.values_end, d, r.positions_end, r.versions_end, rw ep at v.map_rises, rw ep at f, rw ev at g) refl
+    let f = all_mapped (λ (p : ℕ). ltb p b.log.size) (λ (x : MapEntry). x.position) m
+    (λ x i. lt-ltb _ _ (v.position_fits x i)) in
+    let g = all_mapped (λ (n : ℕ). leb n greatest_version) (λ (x : MapEntry). x.version) m
+    (λ x i. le-leb _ _ (v.version_fits x i)) in
+    rw (
+      a,
+      r.label_ends,
+      c,
+      v.timestamp_fits,
+      r.values_end,
+      d,
+      r.positions_end,
+      r.versions_end,
+      rw ep at v.map_rises,
+      rw ep at f,
+      rw ev at g,
+    ) refl
 
 -- what the tests of a struct say
 record Tested (b : StateBlock) : Type 0 where
@@ -264,9 +297,12 @@ tested_valid b z h t =
     let vals = runs (ones b.log.size) hash_length b.log.values in
     let (k, e) = pairs_used b z t.room in
     let f : length (map_of ps vs) ≤ map_limit = omega (arith, map_length ps vs e, t.room.pairs_count) in
-    let o : hash_length * ones b.log.size ≤ length b.log.values = omega (arith, ones_limit level_limit b.log.size (omega arith) t.size_fits, z.values_room) in
-    let l : length (take b.label.length b.label.bytes) ≤ label_limit = omega (arith, length-take b.label.length b.label.bytes, t.room.label_length) in
-    let n : length vals ≡ length (full_subtrees b.log.size) = length_runs (ones b.log.size) hash_length b.log.values ∙ sym (full_length b.log.size) in
+    let o : hash_length * ones b.log.size ≤ length b.log.values =
+    omega (arith, ones_limit level_limit b.log.size (omega arith) t.size_fits, z.values_room) in
+    let l : length (take b.label.length b.label.bytes) ≤ label_limit =
+    omega (arith, length-take b.label.length b.label.bytes, t.room.label_length) in
+    let n : length vals ≡ length (full_subtrees b.log.size) = length_runs (ones b.log.size) hash_length b.log.values
+    ∙ sym (full_length b.log.size) in
     rw (
       le-leb (length (take b.label.length b.label.bytes)) label_limit l,
       le-leb b.log.size tree_size_limit t.size_fits,
@@ -284,12 +320,16 @@ tested_valid b z h t =
     refl
 
 -- the tests decide whether a struct stands for a valid state
-pub block_valid : (b : StateBlock) → Sized b → b.log.timestamp ≤ number_bound → (label_fits b.label && log_fits b.log && map_fits b.log.size b.map) ≡ is_some (valid_state (state_of b))
+pub block_valid : (b : StateBlock) → Sized b → b.log.timestamp ≤ number_bound
+    → (label_fits b.label && log_fits b.log && map_fits b.log.size b.map) ≡ is_some (valid_state (state_of b))
 unfolding state_of
 block_valid b z h =
-    same_test (label_fits b.label && log_fits b.log && map_fits b.log.size b.map) (room_is_zero b && is_valid (contents b))
-    (λ e. let t = tested_was b e in holds_and (room_is_zero b) (is_valid (contents b)) (room_is b t.room) (tested_valid b z h t))
-    (λ e. let (r, v) = and_holds (room_is_zero b) (is_valid (contents b)) e in valid_tested b z (room_was b r) (valid_was (contents b) v))
+    same_test (label_fits b.label && log_fits b.log && map_fits b.log.size b.map)
+    (room_is_zero b && is_valid (contents b))
+    (λ e. let t = tested_was b e in
+    holds_and (room_is_zero b) (is_valid (contents b)) (room_is b t.room) (tested_valid b z h t))
+    (λ e. let (r, v) = and_holds (room_is_zero b) (is_valid (contents b)) e in
+    valid_tested b z (room_was b r) (valid_was (contents b) v))
     ∙ sym (given_valid (room_is_zero b) (contents b))
 
 -- ---- empty states

@@ -31,7 +31,8 @@ pub said_short : (text : Bytes) (s : State) → read_state text ≡ some s → l
 said_short text s q = let t = state_read text s q in rw t.written (state_short s t.valid)
 
 -- what is read of one that says a state is that state, with the number 0
-said_read : (text : Bytes) (s : State) → read_state text ≡ some s → read_state_text text ≡ record { number = 0; state = s }
+said_read : (text : Bytes) (s : State) → read_state text ≡ some s → read_state_text text
+    ≡ record { number = 0; state = s }
 unfolding or_refused Option-elim
 said_read text s q = text_read text (said_short text s q) ∙ ap or_refused q
 
@@ -41,7 +42,8 @@ unfolding read_state_text choose Option-elim
 unsaid_refused text q = go (leb (length text) state_text_limit) (read_state text) q
   where
     go : (t : Bool) (o : Option State) → o ≡ none
-        → (choose t (λ _. Option-elim o (refused_by 3) (λ (s : State). record { number = 0; state = s })) (λ _. refused_by 1)).number ≡ 0 → ⊥
+        → (choose t (λ _. Option-elim o (refused_by 3) (λ (s : State). record { number = 0; state = s }))
+        (λ _. refused_by 1)).number ≡ 0 → ⊥
     go true none e z = omega (arith, z)
     go true (some s) e z = absurd (none-ne-some s (sym e))
     go false o e z = omega (arith, z)
@@ -68,4 +70,5 @@ module _ (text : Bytes) (r : NumberedBlock) (e : r ≡ numbered_block (read_stat
       go : (o : Option State) → read_state text ≡ o → state_of r.state ≡ o
       go none q = absurd (unsaid_refused text q (sym number_read ∙ z))
       go (some s) q =
-          ap (λ (x : NumberedBlock). state_of x.state) (e ∙ ap numbered_block (said_read text s q)) ∙ block_state s (state_read text s q).valid
+          ap (λ (x : NumberedBlock). state_of x.state) (e ∙ ap numbered_block (said_read text s q))
+          ∙ block_state s (state_read text s q).valid

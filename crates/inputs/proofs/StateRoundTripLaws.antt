@@ -21,7 +21,8 @@ use Rattle.inputs.specs.StateWriter.{text_for}
 use Rattle.inputs.proofs.StateBlockLaws.{Sized, state_block, block_stands}
 
 -- a text that reads as a state gives it with the number 0
-text_read : (t : Bytes) (s : State) → length t ≤ state_text_limit → read_state t ≡ some s → read_state_text t ≡ record { number = 0; state = s }
+text_read : (t : Bytes) (s : State) → length t ≤ state_text_limit → read_state t ≡ some s → read_state_text t
+    ≡ record { number = 0; state = s }
 unfolding read_state_text choose Option-elim
 text_read t s h e = rw (le-leb (length t) state_text_limit h, e) refl
 
@@ -34,8 +35,10 @@ written_reads b s z e h =
     rw (text_read (write_state s) s (state_short s v) (read_write s v h), state_block b s z e) refl
 
 -- of a text that reads, with room enough, the same text is written
-pub read_writes : (t lent : Bytes) (s : State) → read_state t ≡ some s → state_text_limit ≤ length lent → text_for (block_of s) lent ≡ some t
+pub read_writes : (t lent : Bytes) (s : State) → read_state t ≡ some s → state_text_limit ≤ length lent
+    → text_for (block_of s) lent ≡ some t
 unfolding text_for
 read_writes t lent s e h =
     let r = state_read t s e in
-    choose_true (leb state_text_limit (length lent)) _ _ (le-leb state_text_limit (length lent) h) ∙ rw (block_stands s r.valid, ← r.written) refl
+    choose_true (leb state_text_limit (length lent)) _ _ (le-leb state_text_limit (length lent) h)
+    ∙ rw (block_stands s r.valid, ← r.written) refl

@@ -1,12 +1,12 @@
 -- Laws of writing a state's text (specs/StateWriter.antt): texts written one after the other, the
 -- pieces of which each line is made, a line for each element of a list, and the room that a valid
 -- state's struct and text have.
-use mathlib.Core.Path.{◌≡◌, refl, sym, ◌∙◌, ap, subst}
+use mathlib.Core.Path.{◌≡◌, refl, sym, ◌∙◌, ap}
 use mathlib.Core.Bool.{true, false}
 use mathlib.Core.List.{List, [], ◌∷◌, ◌++◌, flat_map, append_assoc, append-nil}
 use mathlib.Core.Option
 use mathlib.Core.Option.{Option, none, some, Option-elim}
-use Prim.Native.Nat.{ℕ, zero, suc, ◌+◌, ◌*◌, ◌≤◌, ◌<◌}
+use Prim.Native.Nat.{ℕ, zero, suc, ◌/◌, ◌+◌, ◌*◌, ◌≤◌, ◌<◌}
 use native.Mathlib.Omega.{arith}
 use lib.Count.{ones}
 use lib.Dec.{leb}
@@ -62,6 +62,19 @@ wrote_nothing s at h = record { room = omega arith; offset = omega arith; bytes 
 pub room_first : (t u : Bytes) (at k : ℕ) → at + length (t ++ u) ≤ k → at + length t ≤ k
 room_first t u at k h = omega (arith, length-append t u)
 
+-- room for each of three texts that stand one after the other
+pub record Rooms (t u v : Bytes) (at k : ℕ) : Type 0 where
+  pub first : at + length t ≤ k
+  pub two : at + length (t ++ u) ≤ k
+  pub all : at + length (t ++ u ++ v) ≤ k
+
+-- where there is room for the text that they make, there is room for each
+pub rooms : (t u v w : Bytes) {at k : ℕ} → w ≡ t ++ u ++ v → at + length w ≤ k → Rooms t u v at k
+rooms t u v w {at} {k} e h =
+    let all : at + length (t ++ u ++ v) ≤ k = rw e at h in
+    let two = room_first (t ++ u) v at k all in
+    record { first = room_first t u at k two; two = two; all = all }
+
 -- writing leaves as many bytes as there were
 pub wrote_length : {s : Bytes} {at : ℕ} {t : Bytes} {n : ℕ} {s' : Bytes} → Wrote s at t n s' → length s' ≡ length s
 wrote_length {s} {at} {t} {n} {s'} w = ap length w.bytes ∙ length_written s at t w.room
@@ -77,15 +90,22 @@ module _ {s : Bytes} {at : ℕ} {t : Bytes} {n : ℕ} {s' : Bytes} (u : Bytes) (
       let l = length-append t u in
       let h : at + length t + length u ≤ length s = omega (arith, wrote_length w, w.offset, v.room) in
       let e : written s' n u ≡ written (written s at t) (at + length t) u = rw (w.bytes, w.offset) refl in
-      record { room = omega arith; offset = omega (arith, w.offset, v.offset); bytes = v.bytes ∙ e ∙ written_append s at t u h }
+      record {
+        room = omega arith;
+        offset = omega (arith, w.offset, v.offset);
+        bytes = v.bytes ∙ e
+            ∙ written_append s at t u h;
+      }
 
   -- the second put after the first, where there is room for both, is written with it
-  pub then-put : (o : Option ℕ) → at + length (t ++ u) ≤ length s → {m : ℕ} {s'' : Bytes} → (o ≡ offset_after s' n u) × (s'' ≡ put_at s' n u)
+  pub then-put : (o : Option ℕ) → at + length (t ++ u) ≤ length s → {m : ℕ} {s'' : Bytes} → (o ≡ offset_after s' n u)
+      × (s'' ≡ put_at s' n u)
       → m ≡ Option.get_or o n → Wrote s at (t ++ u) m s''
   then-put o h b f = wrote_then (wrote_put u o (room-then h) b f)
 
 -- two texts that are put one after the other, where there is room for both, are written
-pub both_put : {s : Bytes} {at : ℕ} (t u : Bytes) (o p : Option ℕ) → at + length (t ++ u) ≤ length s → {n : ℕ} {s' : Bytes}
+pub both_put : {s : Bytes} {at : ℕ} (t u : Bytes) (o p : Option ℕ) → at + length (t ++ u) ≤ length s
+    → {n : ℕ} {s' : Bytes}
     → (o ≡ offset_after s at t) × (s' ≡ put_at s at t) → n ≡ Option.get_or o at → {m : ℕ} {s'' : Bytes}
     → (p ≡ offset_after s' n u) × (s'' ≡ put_at s' n u) → m ≡ Option.get_or p n → Wrote s at (t ++ u) m s''
 both_put {s} {at} t u o p h a e b f = then-put u (wrote_put t o (room_first t u at (length s) h) a e) p h b f
@@ -94,7 +114,8 @@ both_put {s} {at} t u o p h a e b f = then-put u (wrote_put t o (room_first t u 
 
 -- a `size` line: its word, the two numbers and the label, each after a tab, and a newline
 pub size_pieces : (m t : ℕ) (l : Bytes)
-    → write_line size_form (m, (t, (l, tt))) ≡ ascii "size" ++ (tab ∷ decimal m) ++ (tab ∷ decimal t) ++ (tab ∷ hex_field l) ++ newline ∷ []
+    → write_line size_form (m, (t, (l, tt)))
+    ≡ ascii "size" ++ (tab ∷ decimal m) ++ (tab ∷ decimal t) ++ (tab ∷ hex_field l) ++ newline ∷ []
 unfolding write_line line joined write_fields write_field ascii
 size_pieces m t l = simp append_assoc
 
@@ -103,15 +124,32 @@ pub keep_pieces : (v : Bytes) → write_keep v ≡ ascii "keep" ++ (tab ∷ hex_
 unfolding write_keep write_line line joined write_fields write_field ascii
 keep_pieces v = simp append_assoc
 
+-- where there is room for a `size` line, there is room for its pieces
+pub size_rooms : (m t : ℕ) (l : Bytes) {at k : ℕ} → at + length (write_line size_form (m, (t, (l, tt)))) ≤ k
+    → Rooms (ascii "size" ++ (tab ∷ decimal m) ++ (tab ∷ decimal t)) (tab ∷ hex_field l) (newline ∷ []) at k
+size_rooms m t l h = rooms _ _ _ _ (size_pieces m t l) h
+
+-- and so for a `keep` line
+pub keep_rooms : (v : Bytes) {at k : ℕ} → at + length (write_keep v) ≤ k
+    → Rooms (ascii "keep") (tab ∷ hex_field v) (newline ∷ []) at k
+keep_rooms v h = rooms _ _ _ _ (keep_pieces v) h
+
 -- a `pair` line: its word, the two numbers, each after a tab, and a newline
-pub pair_pieces : (e : MapEntry) → write_pair e ≡ ascii "pair" ++ (tab ∷ decimal e.position) ++ (tab ∷ decimal e.version) ++ newline ∷ []
+pub pair_pieces : (e : MapEntry) → write_pair e
+    ≡ ascii "pair" ++ (tab ∷ decimal e.position) ++ (tab ∷ decimal e.version) ++ newline ∷ []
 unfolding write_pair write_line line joined write_fields write_field ascii
 pair_pieces e = simp append_assoc
+
+-- where there is room for it, there is room for the newline after the others
+pub pair_room : (e : MapEntry) (at k : ℕ) → at + length (write_pair e) ≤ k
+    → at + length ((ascii "pair" ++ (tab ∷ decimal e.position) ++ (tab ∷ decimal e.version)) ++ newline ∷ []) ≤ k
+pair_room e at k h = rw (pair_pieces e) at h
 
 -- ---- a text for each element of a list
 
 -- texts were written, and those of the elements that are left follow them in the texts of all
-pub record TextsTo {A : Type 0} (f : A → Bytes) (s : Bytes) (at : ℕ) (xs left : List A) (n : ℕ) (s' : Bytes) : Type 0 where
+pub record TextsTo {A : Type 0} (f : A
+    → Bytes) (s : Bytes) (at : ℕ) (xs left : List A) (n : ℕ) (s' : Bytes) : Type 0 where
   pub text : Bytes
   pub wrote : Wrote s at text n s'
   pub whole : text ++ flat_map f left ≡ flat_map f xs
@@ -130,7 +168,8 @@ module _ {A : Type 0} (f : A → Bytes) (xs : List A) where
 
       -- where there is room for all texts, there is room for that of the next element
       pub texts-room : at + length (flat_map f xs) ≤ length s → n + length (f x) ≤ length s'
-      texts-room r = room-then (f x) w.wrote (room_first (w.text ++ f x) (flat_map f left) at (length s) (rw next_whole r))
+      texts-room r =
+          room-then (f x) w.wrote (room_first (w.text ++ f x) (flat_map f left) at (length s) (rw next_whole r))
 
       -- with it one text more is written
       pub texts-step : {m : ℕ} {s'' : Bytes} → Wrote s' n (f x) m s'' → TextsTo f s at xs left m s''
@@ -149,7 +188,8 @@ unfolding runs
 runs_front zero k s = refl
 runs_front (suc n) k s =
     let e : k * suc n ≡ k + k * n = omega arith in
-    rw (take-take k (k * suc n) s (omega arith), e, drop-take k (k * n) s) (ap (λ (vs : List Bytes). take k s ∷ vs) (runs_front n k (drop k s)))
+    rw (take-take k (k * suc n) s (omega arith), e, drop-take k (k * n) s)
+    (ap (λ (vs : List Bytes). take k s ∷ vs) (runs_front n k (drop k s)))
 
 -- the values that are left stand in the bytes that are left
 pub record ValuesTo (s : Bytes) (at : ℕ) (vs : List Bytes) (rest : Bytes) (n : ℕ) (s' : Bytes) : Type 0 where
@@ -157,17 +197,14 @@ pub record ValuesTo (s : Bytes) (at : ℕ) (vs : List Bytes) (rest : Bytes) (n :
   pub whole : length rest ≡ hash_length * left
   pub texts : TextsTo write_keep s at vs (runs left hash_length rest) n s'
 
--- at first all are left
-pub values_start : (s : Bytes) (at count : ℕ) (block : Bytes) → hash_length * count ≤ length block
-    → at + length (flat_map write_keep (runs count hash_length block)) ≤ length s
-    → ValuesTo s at (runs count hash_length block) (take (hash_length * count) block) at s
-values_start s at count block h r =
-    let vs = runs count hash_length block in
-    record {
-      left = count;
-      whole = length-take-le (hash_length * count) block h;
-      texts = subst (λ (left : List Bytes). TextsTo write_keep s at vs left at s) (sym (runs_front count hash_length block)) (texts-start write_keep vs s at r);
-    }
+-- the values of the front of a block, cut off, are those of the block
+pub values_kept : (n : ℕ) (block : Bytes) → hash_length * n ≤ length block
+    → runs (length (take (hash_length * n) block) / hash_length) hash_length (take (hash_length * n) block)
+    ≡ runs n hash_length block
+values_kept n block h =
+    let l = length-take-le (hash_length * n) block h in
+    let e : length (take (hash_length * n) block) / hash_length ≡ n = omega arith in
+    rw e (runs_front n hash_length block)
 
 module _ (s : Bytes) (at : ℕ) (vs : List Bytes) {n : ℕ} {s' : Bytes} where
   -- a value is the first of those that are left
@@ -176,17 +213,21 @@ module _ (s : Bytes) (at : ℕ) (vs : List Bytes) {n : ℕ} {s' : Bytes} where
   unfolding runs
   values_next v rest h w = go w.left w.whole w.texts
     where
-      go : (k : ℕ) → length (v ++ rest) ≡ hash_length * k → TextsTo write_keep s at vs (runs k hash_length (v ++ rest)) n s'
+      go : (k : ℕ) → length (v ++ rest) ≡ hash_length * k
+          → TextsTo write_keep s at vs (runs k hash_length (v ++ rest)) n s'
           → (k : ℕ) × (length rest ≡ hash_length * k) × TextsTo write_keep s at vs (v ∷ runs k hash_length rest) n s'
       go zero e t = absurd (omega (arith, length-append v rest))
-      go (suc k) e t = (k, omega (arith, length-append v rest), rw (take_at v rest hash_length h, drop_at v rest hash_length h) at t)
+      go (suc k) e t =
+          (k, omega (arith, length-append v rest), rw (take_at v rest hash_length h, drop_at v rest hash_length h) at t)
 
   -- where fewer bytes are left than a value has, no value is left
-  pub values_end : (rest : Bytes) → length rest < hash_length → ValuesTo s at vs rest n s' → TextsTo write_keep s at vs [] n s'
+  pub values_end : (rest : Bytes) → length rest < hash_length → ValuesTo s at vs rest n s'
+      → TextsTo write_keep s at vs [] n s'
   unfolding runs
   values_end rest h w = go w.left w.whole w.texts
     where
-      go : (k : ℕ) → length rest ≡ hash_length * k → TextsTo write_keep s at vs (runs k hash_length rest) n s' → TextsTo write_keep s at vs [] n s'
+      go : (k : ℕ) → length rest ≡ hash_length * k → TextsTo write_keep s at vs (runs k hash_length rest) n s'
+          → TextsTo write_keep s at vs [] n s'
       go zero e t = t
       go (suc k) e t = absurd (omega arith)
 
@@ -213,7 +254,9 @@ valid_fits b e =
     record {
       stands = q ∙ ap some (sym i);
       label = leb-true _ _ l;
-      values = rw (length_runs (ones b.log.size) hash_length b.log.values) at (values_fit (contents b) (valid_was (contents b) w));
+      values =
+          rw (length_runs (ones b.log.size) hash_length b.log.values) at
+          (values_fit (contents b) (valid_was (contents b) w));
       pairs = leb-true _ _ p;
       text = state_short (contents b) w;
     }
@@ -233,6 +276,11 @@ pub state_parts : (b : StateBlock) → write_state (contents b) ≡ size_part b 
 unfolding write_state contents label_in log_in map_in
 state_parts b = refl
 
+-- where there is room for the longest text, there is room for each of them
+pub state_rooms : (b : StateBlock) (f : Fitting b) {k : ℕ} → state_text_limit ≤ k
+    → Rooms (size_part b) (keep_part b) (pair_part b) 0 k
+state_rooms b f h = let t = f.text in rooms _ _ _ _ (state_parts b) (omega arith)
+
 -- ---- the text to write
 
 -- none where too few bytes are lent
@@ -248,14 +296,17 @@ text_invalid b lent e =
     choose_by (λ (o : Option Bytes). o ≡ none) (leb state_text_limit (length lent)) _ _ (λ _. n) (λ _. refl)
 
 -- that of a valid state where enough bytes are lent
-pub text_valid : (b : StateBlock) (lent : Bytes) → is_some (valid_state (state_of b)) ≡ true → state_text_limit ≤ length lent
+pub text_valid : (b : StateBlock) (lent : Bytes) → is_some (valid_state (state_of b)) ≡ true
+    → state_text_limit ≤ length lent
     → text_for b lent ≡ some (write_state (contents b))
 unfolding text_for
 text_valid b lent e h =
-    choose_true (leb state_text_limit (length lent)) _ _ (le-leb state_text_limit (length lent) h) ∙ ap (Option.map write_state) (valid_fits b e).stands
+    choose_true (leb state_text_limit (length lent)) _ _ (le-leb state_text_limit (length lent) h)
+    ∙ ap (Option.map write_state) (valid_fits b e).stands
 
 -- where there is none, nothing is written
-pub none_written : (s : Bytes) (o : Option Bytes) → o ≡ none → (0 ≡ length (Option.get_or o [])) × (s ≡ written_first s o)
+pub none_written : (s : Bytes) (o : Option Bytes) → o ≡ none → (0 ≡ length (Option.get_or o []))
+    × (s ≡ written_first s o)
 unfolding written_first Option-elim
 none_written s o e = (rw e refl, rw e refl)
 

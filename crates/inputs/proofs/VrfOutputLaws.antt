@@ -2,7 +2,7 @@
 -- and the search for a version by halving.
 use mathlib.Core.Path.{◌≡◌, refl, sym, ◌∙◌, ap, ap₂, subst}
 use mathlib.Core.Logic.{◌⊎◌, inl, inr, ⊎_elim}
-use mathlib.Core.Bool.{Bool, true, false, ◌&&◌}
+use mathlib.Core.Bool.{Bool, true, false, ◌&&◌, false≢true}
 use mathlib.Core.List.Memᴰ
 use mathlib.Core.List.{List, [], ◌∷◌, map, Memᴰ}
 use mathlib.Core.Option.{Option, Option-elim, none, some}
@@ -48,10 +48,12 @@ smaller v x = ltb x.version v
 -- there are as many records as have room
 length_records : (s : Bytes) → length (read_records s) ≡ length s / record_length
 unfolding read_records
-length_records s = length-map (runs (length s / record_length) record_length s) read_record ∙ length_runs (length s / record_length) record_length s
+length_records s = length-map (runs (length s / record_length) record_length s) read_record
+    ∙ length_runs (length s / record_length) record_length s
 
 -- the record with a number below theirs is the one at its offset
-record_at_lem : (s : Bytes) (i : ℕ) (d : VrfOutput) → i < length s / record_length → get_or (read_records s) i d ≡ record_at s i
+record_at_lem : (s : Bytes) (i : ℕ) (d : VrfOutput) → i < length s / record_length → get_or (read_records s) i d
+    ≡ record_at s i
 unfolding read_records record_at
 record_at_lem s i d h = mapped-run read_record (length s / record_length) record_length s i d h
 
@@ -62,7 +64,8 @@ chunk_runs zero k s = refl
 chunk_runs (suc n) k s = ap (λ (rs : List Bytes). take k s ∷ rs) (chunk_runs n k (drop k s))
 
 -- so a chunk of a record's bytes is the record with its number
-pub chunk_at : (s : Bytes) (cs : List Bytes) (i : ℕ) (d : Bytes) → cs ≡ first_chunks record_length (length s / record_length) s → i < length s / record_length
+pub chunk_at : (s : Bytes) (cs : List Bytes) (i : ℕ) (d : Bytes) → cs
+    ≡ first_chunks record_length (length s / record_length) s → i < length s / record_length
     → read_record (get_or cs i d) ≡ record_at s i
 unfolding record_at
 chunk_at s cs i d e h =
@@ -70,7 +73,8 @@ chunk_at s cs i d e h =
     ∙ ap read_record (runs-at (length s / record_length) record_length s i d h)
 
 -- the version of a record is encoded by its first four bytes
-pub version_bytes : (t : Bytes) → 4 ≤ length t → (read_record t).version ≡ get_or t 0 0 * 2 ^ 24 + get_or t 1 0 * 2 ^ 16 + get_or t 2 0 * 2 ^ 8 + get_or t 3 0
+pub version_bytes : (t : Bytes) → 4 ≤ length t → (read_record t).version
+    ≡ get_or t 0 0 * 2 ^ 24 + get_or t 1 0 * 2 ^ 16 + get_or t 2 0 * 2 ^ 8 + get_or t 3 0
 unfolding read_record uint bytes_after
 version_bytes (a ∷ b ∷ c ∷ d ∷ t) h = omega arith
 version_bytes [] h = absurd (omega arith)
@@ -82,10 +86,12 @@ version_bytes (a ∷ b ∷ c ∷ []) h = absurd (omega arith)
 record_listed : (s : Bytes) (i : ℕ) → i < length s / record_length → Memᴰ (record_at s i) (read_records s)
 record_listed s i h =
     let d = record_at s i in
-    subst (λ (x : VrfOutput). Memᴰ x (read_records s)) (record_at_lem s i d h) (at_member (read_records s) i d (omega (arith, length_records s)))
+    subst (λ (x : VrfOutput). Memᴰ x (read_records s)) (record_at_lem s i d h)
+    (at_member (read_records s) i d (omega (arith, length_records s)))
 
 -- each of the records is one with a number
-listed_record : (s : Bytes) (x : VrfOutput) → Memᴰ x (read_records s) → (i : ℕ) × (i < length s / record_length) × (record_at s i ≡ x)
+listed_record : (s : Bytes) (x : VrfOutput) → Memᴰ x (read_records s) → (i : ℕ) × (i < length s / record_length)
+    × (record_at s i ≡ x)
 listed_record s x m =
     let (i, h, e) = member_at (read_records s) x x m in
     let l : i < length s / record_length = omega (arith, length_records s) in
@@ -112,7 +118,8 @@ version_at_lem s i h =
 -- outputs are read where they are whole records whose versions rise
 outputs_given : (s : Bytes) → is_some (read_outputs s) ≡ (eqb (length s % record_length) 0 && rising (versions s))
 unfolding read_outputs versions
-outputs_given s = given_provided (eqb (length s % record_length) 0 && rising (map version_in (read_records s))) (read_records s)
+outputs_given s =
+    given_provided (eqb (length s % record_length) 0 && rising (map version_in (read_records s))) (read_records s)
 
 -- so whole records are read where their versions rise
 pub given_rises : (s : Bytes) → length s % record_length ≡ 0 → is_some (read_outputs s) ≡ rising (versions s)
@@ -125,23 +132,28 @@ given_broken s h = outputs_given s ∙ ap (λ (t : Bool). t && rising (versions 
 -- ---- whether they rise
 
 -- a version and those after it
-versions_from : (s : Bytes) (i : ℕ) → i < length s / record_length → drop i (versions s) ≡ (record_at s i).version ∷ drop (i + 1) (versions s)
-versions_from s i h = at_cons (versions s) i (omega (arith, length_versions s)) ∙ ap (λ (v : ℕ). v ∷ drop (i + 1) (versions s)) (version_at_lem s i h)
+versions_from : (s : Bytes) (i : ℕ) → i < length s / record_length → drop i (versions s)
+    ≡ (record_at s i).version ∷ drop (i + 1) (versions s)
+versions_from s i h = at_cons (versions s) i (omega (arith, length_versions s))
+    ∙ ap (λ (v : ℕ). v ∷ drop (i + 1) (versions s)) (version_at_lem s i h)
 
 -- the versions from one on rise where it is below the next and those from the next on rise
 rises_by : (s : Bytes) (i : ℕ) → i + 1 < length s / record_length
-    → rising (drop i (versions s)) ≡ (ltb (record_at s i).version (record_at s (i + 1)).version && rising (drop (i + 1) (versions s)))
+    → rising (drop i (versions s))
+    ≡ (ltb (record_at s i).version (record_at s (i + 1)).version && rising (drop (i + 1) (versions s)))
 rises_by s i h =
     rw (versions_from s i (omega arith), versions_from s (i + 1) h)
     (rising_two (record_at s i).version (record_at s (i + 1)).version (drop (i + 1 + 1) (versions s)))
 
 -- so where it is below the next, they rise as those from the next on do
-pub rises_on : (s : Bytes) (i : ℕ) → i + 1 < length s / record_length → (record_at s i).version < (record_at s (i + 1)).version
+pub rises_on : (s : Bytes) (i : ℕ) → i + 1 < length s / record_length
+    → (record_at s i).version < (record_at s (i + 1)).version
     → rising (drop i (versions s)) ≡ rising (drop (i + 1) (versions s))
 rises_on s i h l = rises_by s i h ∙ rw (lt-ltb (record_at s i).version (record_at s (i + 1)).version l) refl
 
 -- and where it is not, they do not rise
-pub rises_not : (s : Bytes) (i : ℕ) → i + 1 < length s / record_length → (record_at s (i + 1)).version ≤ (record_at s i).version
+pub rises_not : (s : Bytes) (i : ℕ) → i + 1 < length s / record_length
+    → (record_at s (i + 1)).version ≤ (record_at s i).version
     → rising (drop i (versions s)) ≡ false
 rises_not s i h l = rises_by s i h ∙ rw (le-ltb (record_at s i).version (record_at s (i + 1)).version l) refl
 
@@ -152,7 +164,8 @@ rises_last s i h = short_rises (drop i (versions s)) (omega (arith, length-drop 
 -- ---- the record of a version
 
 -- where outputs are read, they are the records, and their versions rise
-outputs_read : (s : Bytes) (xs : List VrfOutput) → read_outputs s ≡ some xs → (rising (versions s) ≡ true) × (read_records s ≡ xs)
+outputs_read : (s : Bytes) (xs : List VrfOutput) → read_outputs s ≡ some xs → (rising (versions s) ≡ true)
+    × (read_records s ≡ xs)
 unfolding read_outputs versions
 outputs_read s xs e =
     let t = eqb (length s % record_length) 0 in
@@ -166,7 +179,8 @@ unfolding record_of
 record_here x xs v e = first_here (λ (x : VrfOutput). eqb x.version v) x xs (eq-eqb x.version v e)
 
 -- one of another version is passed over
-record_later : (x : VrfOutput) (xs : List VrfOutput) (v : ℕ) → (x.version ≡ v → ⊥) → record_of (x ∷ xs) v ≡ record_of xs v
+record_later : (x : VrfOutput) (xs : List VrfOutput) (v : ℕ) → (x.version ≡ v → ⊥) → record_of (x ∷ xs) v
+    ≡ record_of xs v
 unfolding record_of
 record_later x xs v h = first_later (λ (x : VrfOutput). eqb x.version v) x xs (ne_eqb x.version v h)
 
@@ -177,7 +191,8 @@ record_none [] v h = refl
 record_none (x ∷ xs) v h = record_later x xs v (h x (Memᴰ.head refl)) ∙ record_none xs v (λ y m. h y (Memᴰ.tail m))
 
 -- where versions rise, a record of the version is the one found
-record_found : (xs : List VrfOutput) (x : VrfOutput) (v : ℕ) → rising (map version_in xs) ≡ true → Memᴰ x xs → x.version ≡ v
+record_found : (xs : List VrfOutput) (x : VrfOutput) (v : ℕ) → rising (map version_in xs) ≡ true → Memᴰ x xs → x.version
+    ≡ v
     → record_of xs v ≡ some x
 record_found [] x v r m e = absurd (Memᴰ.not-nil m)
 record_found (y ∷ ys) x v r m e =
@@ -190,12 +205,14 @@ record_found (y ∷ ys) x v r m e =
         record_later y ys v (λ q. omega arith) ∙ f k
 
 -- a first record of a smaller version stands before
-below_first : (x : VrfOutput) (xs : List VrfOutput) (v : ℕ) → x.version < v → records_below (x ∷ xs) v ≡ suc (records_below xs v)
+below_first : (x : VrfOutput) (xs : List VrfOutput) (v : ℕ) → x.version < v → records_below (x ∷ xs) v
+    ≡ suc (records_below xs v)
 unfolding records_below
 below_first x xs v h = ap length (select_here (smaller v) x xs (lt-ltb x.version v h))
 
 -- one that is not smaller does not
-below_later : (x : VrfOutput) (xs : List VrfOutput) (v : ℕ) → v ≤ x.version → records_below (x ∷ xs) v ≡ records_below xs v
+below_later : (x : VrfOutput) (xs : List VrfOutput) (v : ℕ) → v ≤ x.version → records_below (x ∷ xs) v
+    ≡ records_below xs v
 unfolding records_below
 below_later x xs v h = ap length (select_later (smaller v) x xs (le-ltb x.version v h))
 
@@ -206,19 +223,22 @@ below_none [] v h = refl
 below_none (x ∷ xs) v h = below_later x xs v (h x (Memᴰ.head refl)) ∙ below_none xs v (λ y m. h y (Memᴰ.tail m))
 
 -- where versions rise, as many records stand before one as its number says
-pub records_before : (xs : List VrfOutput) (i v : ℕ) (d : VrfOutput) → rising (map version_in xs) ≡ true → i < length xs → (get_or xs i d).version ≡ v
+pub records_before : (xs : List VrfOutput) (i v : ℕ) (d : VrfOutput) → rising (map version_in xs) ≡ true → i < length xs
+    → (get_or xs i d).version ≡ v
     → records_below xs v ≡ i
 records_before [] i v d r h e = absurd (omega arith)
 records_before (x ∷ xs) zero v d r h e =
     below_later x xs v (omega arith)
-    ∙ below_none xs v (λ y m. omega (arith, rising_first x.version (map version_in xs) r y.version (mapped_at version_in xs y m)))
+    ∙ below_none xs v
+    (λ y m. omega (arith, rising_first x.version (map version_in xs) r y.version (mapped_at version_in xs y m)))
 records_before (x ∷ xs) (suc i) v d r h e =
     let m = mapped_at version_in xs (get_or xs i d) (at_member xs i d (omega arith)) in
     below_first x xs v (omega (arith, rising_first x.version (map version_in xs) r (get_or xs i d).version m))
     ∙ ap suc (records_before xs i v d (rising_tail x.version (map version_in xs) r) (omega arith) e)
 
 -- fewer records are below a version than below a greater one, where the smaller has one
-pub fewer_below : (xs : List VrfOutput) (u v : ℕ) → u < v → has_output xs u ≡ true → records_below xs u < records_below xs v
+pub fewer_below : (xs : List VrfOutput) (u v : ℕ) → u < v → has_output xs u ≡ true
+    → records_below xs u < records_below xs v
 unfolding has_output records_below
 fewer_below xs u v h e =
     let (a, m, q) = any_at (λ (x : VrfOutput). eqb x.version u) xs e in
@@ -229,9 +249,15 @@ fewer_below xs u v h e =
 -- ---- the search for a version
 
 -- where versions rise, a record before another has a smaller one
-version_rises : (s : Bytes) (i j : ℕ) → rising (versions s) ≡ true → i < j → j < length s / record_length → (record_at s i).version < (record_at s j).version
+version_rises : (s : Bytes) (i j : ℕ) → rising (versions s) ≡ true → i < j → j < length s / record_length
+    → (record_at s i).version < (record_at s j).version
 version_rises s i j r h l =
-    omega (arith, rising_at (versions s) i j r h (omega (arith, length_versions s)), version_at_lem s i (omega arith), version_at_lem s j l)
+    omega (
+      arith,
+      rising_at (versions s) i j r h (omega (arith, length_versions s)),
+      version_at_lem s i (omega arith),
+      version_at_lem s j l,
+    )
 
 -- where versions rise, none is the version
 abbrev pub NoneIs : Bytes → ℕ → Type 0
@@ -241,27 +267,35 @@ NoneIs s v = rising (versions s) ≡ true → (i : ℕ) → i < length s / recor
 abbrev pub chunk_version : Bytes → ℕ
 chunk_version t = (read_record t).version
 
-module _ (s : Bytes) (v : ℕ) (cs : List Bytes) (e : cs ≡ first_chunks record_length (length s / record_length) s) (n : length cs ≡ length s / record_length) where
+module _ (s : Bytes) (v : ℕ) (cs : List Bytes) (e : cs
+    ≡ first_chunks record_length (length s / record_length) s) (n : length cs ≡ length s / record_length) where
   -- where versions rise, so do the comparisons with one
-  comparisons_rise : rising (versions s) ≡ true → IsNonDecreasingBy (λ (t : Bytes). ordering_index (nat_cmp (chunk_version t) v)) cs
-  comparisons_rise r = IsNonDecreasingBy-from_default (λ (t : Bytes). ordering_index (nat_cmp (chunk_version t) v)) cs [] (λ i j le l.
+  comparisons_rise : rising (versions s) ≡ true
+      → IsNonDecreasingBy (λ (t : Bytes). ordering_index (nat_cmp (chunk_version t) v)) cs
+  comparisons_rise r =
+      IsNonDecreasingBy-from_default (λ (t : Bytes). ordering_index (nat_cmp (chunk_version t) v)) cs [] (λ i j le l.
       let here = ap version_in (chunk_at s cs i [] e (omega arith)) in
       let there = ap version_in (chunk_at s cs j [] e (omega arith)) in
       let grows : chunk_version (get_or cs i []) ≤ chunk_version (get_or cs j []) =
-      by_order i j (λ p. omega (arith, version_rises s i j r p (omega arith))) (λ q. let z : i ≡ j = omega arith in omega (arith, ap (λ (k : ℕ). chunk_version (get_or cs k [])) z)) in
+      by_order i j (λ p. omega (arith, version_rises s i j r p (omega arith))) (λ q. let z : i ≡ j = omega arith in
+      omega (arith, ap (λ (k : ℕ). chunk_version (get_or cs k [])) z)) in
       grind (arith, nat_tests))
 
   -- a search by the version ends at a record of it, or where versions rise there is none
-  pub searched : (r : Result ℕ ℕ) → IsSearchInRange r (length cs) → IsBinarySearchResult (λ (t : Bytes). nat_cmp (chunk_version t) v) cs r
+  pub searched : (r : Result ℕ ℕ) → IsSearchInRange r (length cs)
+      → IsBinarySearchResult (λ (t : Bytes). nat_cmp (chunk_version t) v) cs r
       → MatchResult r (λ i. (i < length s / record_length) × ((record_at s i).version ≡ v)) (λ _. NoneIs s v)
-  searched (Ok i) l equal = (omega arith, sym (ap version_in (chunk_at s cs i [] e (omega arith))) ∙ ranked _ v _ (sym (equal [])))
+  searched (Ok i) l equal =
+      (omega arith, sym (ap version_in (chunk_at s cs i [] e (omega arith))) ∙ ranked _ v _ (sym (equal [])))
   searched (Err k) l parted = λ r i h q.
       let here = ap version_in (chunk_at s cs i [] e h) in
       let p = parted (comparisons_rise r) in
-      by_order i k (λ b. let a = ranked _ v _ (sym (p.0 i [] (omega arith) b)) in omega arith) (λ b. let a = ranked _ v _ (sym (p.1 i [] b (omega arith))) in omega arith)
+      by_order i k (λ b. let a = ranked _ v _ (sym (p.0 i [] (omega arith) b)) in omega arith) (λ b. let a =
+      ranked _ v _ (sym (p.1 i [] b (omega arith))) in omega arith)
 
 -- a record of the version is what was to be found
-pub found_record : (s : Bytes) (v m : ℕ) (r : CodeOption FoundOutput) → m < length s / record_length → (record_at s m).version ≡ v → r ≡ found_output m (some (record_at s m))
+pub found_record : (s : Bytes) (v m : ℕ) (r : CodeOption FoundOutput) → m < length s / record_length
+    → (record_at s m).version ≡ v → r ≡ found_output m (some (record_at s m))
     → IsRecordOf s v r × IsOfSomeRecord s v r
 unfolding versions
 found_record s v m r h e q = (λ xs p. q ∙ sym (found xs (outputs_read s xs p)), inr (m, h, e, q))
@@ -271,14 +305,19 @@ found_record s v m r h e q = (λ xs p. q ∙ sym (found xs (outputs_read s xs p)
 
     found : (xs : List VrfOutput) → (rising (versions s) ≡ true) × (read_records s ≡ xs)
         → found_output (records_below xs v) (record_of xs v) ≡ found_output m (some (record_at s m))
-    found xs (u, w) = subst (λ (ys : List VrfOutput). found_output (records_below ys v) (record_of ys v) ≡ found_output m (some (record_at s m))) w
-        (ap₂ found_output (records_before (read_records s) m v (record_at s m) u (omega (arith, length_records s)) (ap version_in at ∙ e))
+    found xs (u, w) =
+        subst (λ (ys : List VrfOutput). found_output (records_below ys v) (record_of ys v)
+        ≡ found_output m (some (record_at s m))) w
+        (ap₂ found_output
+        (records_before (read_records s) m v (record_at s m) u (omega (arith, length_records s)) (ap version_in at ∙ e))
         (record_found (read_records s) (record_at s m) v u (record_listed s m h) e))
 
 -- where versions rise and none is the version, there is no record of it
-pub found_nothing : (s : Bytes) (v : ℕ) (r : CodeOption FoundOutput) → NoneIs s v → r ≡ found_output 0 none → IsRecordOf s v r × IsOfSomeRecord s v r
+pub found_nothing : (s : Bytes) (v : ℕ) (r : CodeOption FoundOutput) → NoneIs s v → r ≡ found_output 0 none
+    → IsRecordOf s v r × IsOfSomeRecord s v r
 unfolding found_output
-found_nothing s v r b q = (λ xs p. q ∙ sym (ap (found_output (records_below xs v)) (nothing xs (outputs_read s xs p))), inl q)
+found_nothing s v r b q =
+    (λ xs p. q ∙ sym (ap (found_output (records_below xs v)) (nothing xs (outputs_read s xs p))), inl q)
   where
     other : rising (versions s) ≡ true → (x : VrfOutput) → Memᴰ x (read_records s) → x.version ≡ v → ⊥
     other u x m e = let (i, h, z) = listed_record s x m in b u i h (ap version_in z ∙ e)
@@ -297,31 +336,38 @@ found_has xs i v = found-given (record_of xs v) ∙ given_first (λ (x : VrfOutp
     found-given none = refl
     found-given (some x) = refl
 
--- it holds that output, and the number of the record is the one told
-found_holds : (xs : List VrfOutput) (i v : ℕ) (x : FoundOutput) → Some x ≡ found_output i (record_of xs v)
-    → (has_output xs v ≡ true) × (x.output ≡ output_of xs v) × (x.index ≡ i)
+-- and then it is that output, with the number told
+pub found_output_lem : (xs : List VrfOutput) (i v : ℕ) → has_output xs v ≡ true
+    → found_output i (record_of xs v) ≡ Some (record { index = i; output = output_of xs v })
 unfolding output_of record_of has_output found_output is_some Option-elim
-found_holds xs i v x = held (record_of xs v) (given_first (λ (x : VrfOutput). eqb x.version v) xs)
+found_output_lem xs i v h = held (record_of xs v) (given_first (λ (x : VrfOutput). eqb x.version v) xs ∙ h)
   where
-    held : (o : Option VrfOutput) → is_some o ≡ has_output xs v → Some x ≡ found_output i o
-        → (has_output xs v ≡ true) × (x.output ≡ Option-elim o [] (λ y. y.output)) × (x.index ≡ i)
-    held none h e = absurd (cc)
-    held (some y) h e = (sym h, cc, cc)
+    held : (o : Option VrfOutput) → is_some o ≡ true
+        → found_output i o ≡ Some (record { index = i; output = Option-elim o [] (λ x. x.output) })
+    held none e = absurd (false≢true e)
+    held (some x) e = refl
 
 -- of outputs that read, whether one is found tells whether the version has one
-pub found_is : (s : Bytes) (v : ℕ) (r : CodeOption FoundOutput) → IsRecordOf s v r → (xs : List VrfOutput) → read_outputs s ≡ some xs → has_output xs v ≡ is_given r
+pub found_is : (s : Bytes) (v : ℕ) (r : CodeOption FoundOutput) → IsRecordOf s v r → (xs : List VrfOutput)
+    → read_outputs s ≡ some xs → has_output xs v ≡ is_given r
 found_is s v r f xs e = sym (found_has xs (records_below xs v) v) ∙ ap is_given (sym (f xs e))
 
 -- where none is found, it has none
-pub found_none : (s : Bytes) (v : ℕ) → IsRecordOf s v None → (xs : List VrfOutput) → read_outputs s ≡ some xs → has_output xs v ≡ false
+pub found_none : (s : Bytes) (v : ℕ) → IsRecordOf s v None → (xs : List VrfOutput) → read_outputs s ≡ some xs
+    → has_output xs v ≡ false
 found_none s v f xs e = found_is s v None f xs e
 
 -- one that is found is its output, with as many records before it as have smaller versions
-pub found_some : (s : Bytes) (v : ℕ) (x : FoundOutput) → IsRecordOf s v (Some x) → (xs : List VrfOutput) → read_outputs s ≡ some xs
+pub found_some : (s : Bytes) (v : ℕ) (x : FoundOutput) → IsRecordOf s v (Some x) → (xs : List VrfOutput)
+    → read_outputs s ≡ some xs
     → (has_output xs v ≡ true) × (x.output ≡ output_of xs v) × (x.index ≡ records_below xs v)
-found_some s v x f xs e = found_holds xs (records_below xs v) v x (f xs e)
+found_some s v x f xs e =
+    let has : has_output xs v ≡ true = found_is s v (Some x) f xs e in
+    let it = f xs e ∙ found_output_lem xs (records_below xs v) v has in
+    (has, cc, cc)
 
 -- of any bytes, its number is below the number of records
-pub found_below : (s : Bytes) (v : ℕ) (x : FoundOutput) → IsOfSomeRecord s v (Some x) → x.index < length s / record_length
+pub found_below : (s : Bytes) (v : ℕ) (x : FoundOutput) → IsOfSomeRecord s v (Some x)
+    → x.index < length s / record_length
 unfolding found_output
 found_below s v x h = ⊎_elim (λ e. absurd (cc)) (λ (i, b, _, e). let k : x.index ≡ i = cc in omega arith) h

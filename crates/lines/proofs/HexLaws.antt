@@ -240,6 +240,14 @@ hex_field_plain (b ∷ s) h = all_implied is_hex_digit is_plain (hex (b ∷ s)) 
     plain b e = is_plain_lem b (omega (arith, hex_digit_bound b e))
 
 -- what the code of single digits is proved by
-pub ruleset digit_rules =
-    (is_hex_low, is_hex_high, no_hex_digit, value_low, value_high, hex_digit_bound, hex_digit_high_bound,
-    hex_digit_low, hex_digit_high)
+pub ruleset digit_rules = (
+  is_hex_low,
+  is_hex_high,
+  no_hex_digit,
+  value_low,
+  value_high,
+  hex_digit_bound,
+  hex_digit_high_bound,
+  hex_digit_low,
+  hex_digit_high,
+)

@@ -5,7 +5,11 @@ use mathlib.Core.List.{[], ◌∷◌}
 use mathlib.Core.Option.{Option, none, some, map}
 use Prim.Native.Nat.{ℕ, zero, suc, ◌/◌, ◌%◌, ◌<◌}
 use native.Mathlib.Omega.{arith}
+use lib.Dec.{eqb}
 use lib.ListN.{length, get_or}
+use lib.Pointwise.{pointwise}
+use Rattle.lists.proofs.SameLaws.{slices_same}
+use Rattle.lines.proofs.ReadingLaws.{digit-one, digit-other, digits_none}
 use Rattle.lists.specs.Choice.{provided}
 use Rattle.lists.specs.Lists.{Bytes, all, same}
 use Rattle.lists.proofs.ChoiceLaws.{map_some, provided_true}
@@ -113,3 +117,13 @@ module _ (s : Bytes) (d : same s dash ≡ false) where
   decoded-half p m a =
       let n : length (unhex s) ≡ length s / 2 = omega (arith, length_hex (unhex s), ap length (hex_unhex s a m).0) in
       rw (d, provided_true (is_hex s) (unhex s) (parts_hex s p m a), n) refl
+
+-- whether a field is the dash, as the code has it
+pub is_dash : (s d : Bytes) (e : Bool) → d ≡ 45 ∷ [] → e ≡ pointwise eqb s d → same s dash ≡ e
+unfolding dash ascii
+is_dash s d e p q = rw p at (sym (q ∙ slices_same s d))
+
+-- what the code that reads a field's length is proved by
+pub ruleset length_rules =
+    (is_dash, decoded_dash, decoded-empty, decoded-odd, decoded-other, decoded-half, digit-one, digit-other,
+    digits_none)

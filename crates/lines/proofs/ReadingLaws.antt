@@ -8,7 +8,7 @@ use Prim.Native.Nat.{ℕ, ◌+◌, ◌-◌, ◌*◌, ◌≤◌, ◌<◌}
 use native.Mathlib.Numerals.{add-one}
 use native.Mathlib.Omega.{arith}
 use lib.Dec.{eqb, leb}
-use lib.ListN.{length, take, drop, get_or, set}
+use lib.ListN.{length, take, drop, get_or, set, length-set}
 use lib.Seq.{take-suc-set, append_snoc, take_all}
 use borrow.Author.Tests.{eq-eqb, ne_eqb, le-leb, lt-leb, eqb-true}
 use Rattle.lists.specs.Choice.{provided, ◌>>◌}
@@ -200,3 +200,8 @@ fill_end r vs k h e = sym (append-nil r) ∙ (rw (take_all k r h) at e)
 -- what the code that reads numbers is proved by
 pub ruleset numbers =
     (number_empty, number_zero, number_one, number_many, digits-end, digits-other, digits-beyond, digits_more)
+
+-- what the code that reads values is proved by
+pub ruleset digest_rules =
+    (digest_long, digest_other, digest_some, digit-pair, digit-other, digit-other-second, unhex-pair, unhex-end,
+    digits_none, fill_step, fill_end, length-set)

@@ -1,9 +1,9 @@
 -- Laws of writing into lent bytes (specs/Writing.antt): what stands there after a text is put into
 -- its offset, and what each writer puts there step by step.
 use mathlib.Core.Path.{◌≡◌, refl, sym, ◌∙◌, ap}
-use mathlib.Core.List.{[], ◌∷◌, ◌++◌, append_assoc}
+use mathlib.Core.List.{[], ◌∷◌, ◌++◌, append_assoc, append-nil}
 use mathlib.Core.Option.{Option, Option-elim, none, some}
-use Prim.Native.Nat.{ℕ, suc, ◌+◌, ◌-◌, ◌/◌, ◌%◌, ◌≤◌, ◌<◌}
+use Prim.Native.Nat.{◌*◌, ℕ, suc, ◌+◌, ◌-◌, ◌/◌, ◌%◌, ◌≤◌, ◌<◌}
 use native.Mathlib.Nat.{add-zero}
 use native.Mathlib.Omega.{arith}
 use lib.Dec.{leb}
@@ -19,7 +19,10 @@ use Rattle.lists.proofs.ChoiceLaws.{provided_some, provided_none, provided_true,
 use Rattle.lines.specs.Number.{ascii, decimal}
 use Rattle.lines.specs.Hex.{dash, hex_digit, hex, hex_field}
 use Rattle.lines.specs.Writing.{offset_after, put_at, offset_after_any, put_any}
-use Rattle.lines.proofs.NumberLaws.{decimal_last, decimal_more, decimal_some}
+use Rattle.lines.proofs.HexLaws.{length_hex, hex_field_some}
+use Rattle.lines.proofs.ReadingLaws.{unhex-pair}
+use Rattle.lines.proofs.HexLengthLaws.{length_unhex, unhex_short, decoded_digit}
+use Rattle.lines.proofs.NumberLaws.{decimal_last, decimal_more, decimal_some, decimal_short}
 use Rattle.lines.proofs.OffsetLaws.{at_cons, at_end}
 
 -- ---- a text in its place
@@ -189,3 +192,15 @@ hex_field_none (b ∷ s) h = absurd (omega arith)
 
 -- what the code that finds room is proved by
 pub ruleset room = (provided_true, provided_false, le-leb, lt-leb)
+
+-- the field of a byte string that is not empty has two digits for each byte
+pub length_field : (s : Bytes) → 0 < length s → length (hex_field s) ≡ 2 * length s
+length_field s p = ap length (hex_field_some s p) ∙ length_hex s
+
+-- what the code that stores digits and decoded bytes is proved by
+pub ruleset store_rules =
+    (sets_start, sets_next, sets_done, hex_at, hex_end, length_hex, length-set, length-drop, unhex-pair, length_unhex,
+    unhex_short, decoded_digit)
+
+-- what the code that writes decimal digits is proved by
+pub ruleset decimal_rules = (digits-stored, digits-whole, digits-room, decimal_short, append-nil, length-set)

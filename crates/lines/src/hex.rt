@@ -9,6 +9,7 @@ use crate::layout::Layout;
 
 // The length of the byte string that a field encodes: hex digits in pairs, or `-` for the empty
 // string.
+#[tactic(auto, using(crate::proofs::HexLengthLaws::length_rules))]
 pub fn decoded_length(s: &[u8]) -> Option<usize>
     ensures { option_of result ≡ decoded_length s.now }
 {
@@ -30,6 +31,7 @@ pub fn decoded_length(s: &[u8]) -> Option<usize>
 }
 
 // The value of 32 bytes that s encodes, if it is exactly the digits of one.
+#[tactic(auto, using(crate::proofs::ReadingLaws::digest_rules))]
 pub fn read_digest(s: &[u8]) -> Option<[u8; 32]>
     ensures { option_of result ≡ read_field (exactly digest_length) s.now }
 {

@@ -1,6 +1,5 @@
-// Parts of a text, and texts compared.
+// Parts of a text.
 ghost use Rattle.std.specs.Prelude.{◌≡◌};
-ghost use Rattle.lists.specs.Lists.{same};
 ghost use Rattle.lines.specs.Readings.{part_of};
 
 // A part of a text, by the offsets where it starts and stops; unlike a `Range` it is `Copy`.
@@ -20,12 +19,4 @@ impl Part {
         let start = self.start.min(stop);
         &text[start..stop]
     }
-}
-
-// Whether two texts are the same.
-#[tactic(auto, using(lists::proofs::SameLaws::slices_same))]
-pub fn equal(a: &[u8], b: &[u8]) -> bool
-    ensures { result ≡ same a.now b.now }
-{
-    a == b
 }

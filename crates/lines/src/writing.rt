@@ -24,6 +24,7 @@ pub fn put_bytes(out: &mut [u8], at: usize, s: &[u8]) -> Option<usize>
 }
 
 // A number in decimal digits. The loop is by hand: how many digits there are shows only at its end.
+#[tactic(auto, using(crate::proofs::WritingLaws::decimal_rules))]
 pub fn put_decimal(out: &mut [u8], at: usize, n: u64) -> Option<usize>
     ensures offset { option_of result ≡ offset_after out.old at (decimal n) }
     ensures bytes { out.new ≡ put_at out.old at (decimal n) }
@@ -77,6 +78,7 @@ fn end_within(room: usize, at: usize, count: usize) -> Option<usize>
 }
 
 // The hex digits of bytes, where they fit.
+#[tactic(auto, using(crate::proofs::WritingLaws::store_rules))]
 fn store_hex(out: &mut [u8], at: usize, s: &[u8])
     requires { at + 2 * length s.now ≤ length out.old }
     ensures { out.new ≡ written out.old at (hex s.now) }
@@ -98,6 +100,7 @@ fn hex_digit(d: u8) -> u8
 }
 
 // The bytes that a field encodes, where they fit.
+#[tactic(auto, using(crate::proofs::WritingLaws::store_rules))]
 fn store_decoded(out: &mut [u8], at: usize, field: &[u8])
     requires decodes { read_hex field.now ≡ some (unhex field.now) }
     requires room { at + length (unhex field.now) ≤ length out.old }

@@ -19,13 +19,13 @@ use lines::number::read_number;
 pub fn value_at(s: &[u8], at: usize) -> [u8; 32]
     ensures { result ≡ value_in (take value_digits (drop at s.now)) }
 {
-    if s.len() < Layout::DIGITS {
+    let Some(rest) = s.get(at..) else {
         return [0u8; 32];
-    }
-    if s.len() - Layout::DIGITS < at {
+    };
+    let Some(digits) = rest.get(..Layout::DIGITS) else {
         return [0u8; 32];
-    }
-    read_digest(&s[at..at + Layout::DIGITS]).unwrap_or([0u8; 32])
+    };
+    read_digest(digits).unwrap_or([0u8; 32])
 }
 
 // The position of the entry whose fields stand at an offset.

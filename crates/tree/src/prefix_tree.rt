@@ -108,7 +108,6 @@ pub fn terminal_fits(output: [u8; 32], terminal: Terminal, depth: usize) -> bool
             let shared = shared_bits(output, other);
             shared < OUTPUT_BITS && depth <= shared
         }
-        Terminal::SearchedLeaf { .. } => true,
-        Terminal::Empty => true,
+        Terminal::SearchedLeaf { .. } | Terminal::Empty => true,
     }
 }

@@ -39,6 +39,6 @@ loop-first-preserved c =
     c.prefix_root_at-root.ensures
     c.position_at-position.ensures refl summary after c.next-results.ensures
 
-pub returns-in-None : goal.returns-in-None
-returns-in-None c =
-    judged-all _ _ _ _ c.loop-first.invariant c.in-None.ensures
+pub returns : goal.returns
+returns c =
+    judged-all _ _ _ _ c.loop-first.invariant c.in_default.ensures

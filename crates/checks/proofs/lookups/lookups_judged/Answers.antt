@@ -40,7 +40,7 @@ pub loop-stop-preserved : goal.loop-stop-preserved
 loop-stop-preserved c =
     summed-next _ _ _ _ _ _ c.loop-stop.invariant _ _ _ c.in-Some.ensures c.next-summary.ensures
 
-pub returns-in-None : goal.returns-in-None
-returns-in-None c =
-    let it = summed-all _ _ _ _ _ _ c.loop-stop.invariant _ (beginning_root _ _ c.start-summary.ensures) c.in-None.ensures in
+pub returns : goal.returns
+returns c =
+    let it = summed-all _ _ _ _ _ _ c.loop-stop.invariant _ (beginning_root _ _ c.start-summary.ensures) c.in_default.ensures in
     record { summary = it.0; next = it.1 }

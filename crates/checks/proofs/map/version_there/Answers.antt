@@ -4,9 +4,6 @@ use native.Mathlib.Omega.{arith}
 use Rattle.checks.proofs.MovedPairLaws.{version-found, version-passed, version-none}
 use Rattle.checks.proofs.map.version_there.Goals as goal
 
-pub loop-i-init : goal.loop-i-init
-loop-i-init c = (omega arith, c.requires.few, refl)
-
 pub returns-then-positions-i : goal.returns-then-positions-i
 returns-then-positions-i c = version-found _ _ _ c.loop-i.invariant.2 c.requires (omega arith) c.if-positions-i.true
 

@@ -17,9 +17,6 @@ loop-i-preserved-then-not-is_right_ancestor c = (
       c.if-not-is_right_ancestor.true c.loop-i.largest c.loop-i.invariant.1,
 )
 
-pub bounds-versions-pair : goal.bounds-versions-pair
-bounds-versions-pair c = (subst (Found c.args.tree_size c.args.positions.now c.args.versions.now c.args.entry c.loop-i.i) c.in-Some.is c.loop-i.invariant.1).0
-
 pub loop-i-preserved-then-versions-i : goal.loop-i-preserved-then-versions-i
 loop-i-preserved-then-versions-i c = (
   omega arith,

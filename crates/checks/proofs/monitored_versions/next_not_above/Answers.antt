@@ -11,12 +11,6 @@ use Rattle.checks.proofs.monitored_versions.next_not_above.Goals as goal
 pub shared_ref_as_front-versions : goal.shared_ref_as_front-versions
 shared_ref_as_front-versions c = omega (arith, c.versions_not_above-shown.ensures.1, not_above_fits c.args.version c.requires)
 
-pub slice_bounds-versions-end : goal.slice_bounds-versions-end
-slice_bounds-versions-end c = (filled_front _ _ _ _ c.versions_not_above-shown.ensures).2
-
-pub loop-next-init : goal.loop-next-init
-loop-next-init c = refl
-
 pub returns-then-from-next : goal.returns-then-from-next
 returns-then-from-next c =
     let l = c.loop-next in

@@ -11,9 +11,6 @@ use Rattle.checks.proofs.monitored_versions.versions_not_above.Goals.{then-shown
 pub shared_ref_as_front-all : goal.shared_ref_as_front-all
 shared_ref_as_front-all c = omega (arith, c.of-whole.ensures.1, within_fits c.args.version c.requires)
 
-pub slice_bounds-all-end : goal.slice_bounds-all-end
-slice_bounds-all-end c = (filled_front _ _ _ _ c.of-whole.ensures).2
-
 pub loop-shown-init : goal.loop-shown-init
 loop-shown-init c = storing_start c.args.version
 

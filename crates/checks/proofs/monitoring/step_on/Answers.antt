@@ -8,9 +8,6 @@ use Rattle.checks.proofs.NextVersionLaws.{Moved, moved_on, moved_not, moved_all}
 use Rattle.checks.proofs.monitoring.step_on.Goals as goal
 use Rattle.checks.proofs.monitoring.step_on.Goals.{then-next-i, else-next-i}
 
-pub loop-i-init : goal.loop-i-init
-loop-i-init c = (c.requires.pairs, refl)
-
 pub next_not_above-requires : goal.next_not_above-requires
 next_not_above-requires c = version_within c.args.versions.now c.loop-i.i c.requires.versions (omega arith)
 

@@ -20,4 +20,5 @@ returns-then-s-start c =
 pub returns : goal.returns
 returns c =
     let a = c.args in
-    sym (opaque-there uint16 a.s.now a.at _ _ (sym c.in_ok-length.ensures.result_value) _ refl refl (omega (arith, c.in_ok-length.ensures.within)))
+    sym (opaque-there uint16 a.s.now a.at _ _ (sym c.in_ok-length.ensures.result_value) _ refl refl
+    (omega (arith, c.in_ok-length.ensures.within)))

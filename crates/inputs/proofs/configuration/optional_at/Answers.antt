@@ -16,13 +16,24 @@ returns-then-present-eq-ABSENT c = rw (← c.in_ok-present.ensures.result_value,
 pub returns-then-present-ne-PRESENT : goal.returns-then-present-ne-PRESENT
 unfolding read_optional bind
 returns-then-present-ne-PRESENT c =
-    rw (← c.in_ok-present.ensures.result_value) (sym (no-present _ _ c.if-present-eq-ABSENT.false c.if-present-ne-PRESENT.true))
+    rw (← c.in_ok-present.ensures.result_value)
+    (sym (no-present _ _ c.if-present-eq-ABSENT.false c.if-present-ne-PRESENT.true))
 
 pub returns-in_err-value : goal.returns-in_err-value
 unfolding read_optional read_present bind
 returns-in_err-value c =
-    rw (c.from_residual-in_err-value.ensures, ← c.in_ok-present.ensures.result_value, c.if-present-ne-PRESENT.false, ← c.in_err-value.ensures.result_value) refl
+    rw (
+      c.from_residual-in_err-value.ensures,
+      ← c.in_ok-present.ensures.result_value,
+      c.if-present-ne-PRESENT.false,
+      ← c.in_err-value.ensures.result_value,
+    ) refl
 
 pub returns : goal.returns
 unfolding read_optional read_present bind
-returns c = rw (← c.in_ok-present.ensures.result_value, c.if-present-ne-PRESENT.false, ← c.in_ok-value.ensures.result_value) refl
+returns c =
+    rw (
+      ← c.in_ok-present.ensures.result_value,
+      c.if-present-ne-PRESENT.false,
+      ← c.in_ok-value.ensures.result_value,
+    ) refl

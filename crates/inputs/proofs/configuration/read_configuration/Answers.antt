@@ -20,17 +20,21 @@ returns-in_err-times c =
 
 pub returns-then-times-s : goal.returns-then-times-s
 returns-then-times-s c =
-    sym (more-after c.args.s.now _ _ _ _ _ (sym c.in_ok-front.ensures) _ _ _ _ _ (sym c.in_ok-times.ensures) (omega arith))
+    sym (more-after c.args.s.now _ _ _ _ _ (sym c.in_ok-front.ensures) _ _ _ _ _ (sym c.in_ok-times.ensures)
+    (omega arith))
 
 pub returns-then-front-ne-P256_SUITE : goal.returns-then-front-ne-P256_SUITE
 returns-then-front-ne-P256_SUITE c =
-    sym (other-suite c.args.s.now _ _ _ _ _ (sym c.in_ok-front.ensures) _ _ _ _ _ (sym c.in_ok-times.ensures) (omega arith) c.if-front-ne-P256_SUITE.true)
+    sym (other-suite c.args.s.now _ _ _ _ _ (sym c.in_ok-front.ensures) _ _ _ _ _ (sym c.in_ok-times.ensures)
+    (omega arith) c.if-front-ne-P256_SUITE.true)
 
 pub returns-then-front-ne-CONTACT_MONITORING : goal.returns-then-front-ne-CONTACT_MONITORING
 returns-then-front-ne-CONTACT_MONITORING c =
-    sym (other-mode c.args.s.now _ _ _ _ _ (sym c.in_ok-front.ensures) _ _ _ _ _ (sym c.in_ok-times.ensures) (omega arith) c.if-front-ne-P256_SUITE.false c.if-front-ne-CONTACT_MONITORING.true)
+    sym (other-mode c.args.s.now _ _ _ _ _ (sym c.in_ok-front.ensures) _ _ _ _ _ (sym c.in_ok-times.ensures)
+    (omega arith) c.if-front-ne-P256_SUITE.false c.if-front-ne-CONTACT_MONITORING.true)
 
 pub returns : goal.returns
 unfolding configuration_in
 returns c =
-    sym (configuration-there c.args.s.now _ _ _ _ _ (sym c.in_ok-front.ensures) _ _ _ _ _ (sym c.in_ok-times.ensures) (omega arith) c.if-front-ne-P256_SUITE.false c.if-front-ne-CONTACT_MONITORING.false)
+    sym (configuration-there c.args.s.now _ _ _ _ _ (sym c.in_ok-front.ensures) _ _ _ _ _ (sym c.in_ok-times.ensures)
+    (omega arith) c.if-front-ne-P256_SUITE.false c.if-front-ne-CONTACT_MONITORING.false)

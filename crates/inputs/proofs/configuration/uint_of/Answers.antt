@@ -5,27 +5,20 @@ use native.Mathlib.Numerals.{add-one}
 use native.Mathlib.Omega.{arith}
 use lib.ListN.{get_or}
 use Rattle.rules.proofs.EncodingLaws.{uint_after, byte_fits}
-use Rattle.inputs.proofs.ConfigurationReadingLaws.{byte_room, byte_taken, bytes_taken}
+use Rattle.inputs.proofs.ConfigurationReadingLaws.{byte_taken, bytes_taken}
 use Rattle.inputs.proofs.configuration.uint_of.Goals as goal
 
 pub loop-byte-init : goal.loop-byte-init
 loop-byte-init c = (omega arith, omega arith, uint_after c.args.s.now)
-
-pub overflow_mul-value : goal.overflow_mul-value
-overflow_mul-value c = let l = c.loop-byte in omega (arith, byte_room l.byte-index l.value 0 (omega arith) l.invariant.1 (omega arith))
-
-pub overflow_add-value : goal.overflow_add-value
-overflow_add-value c =
-    let l = c.loop-byte in
-    let b = get_or c.args.s.now l.byte-index 0 in
-    omega (arith, byte_room l.byte-index l.value b (omega arith) l.invariant.1 (omega (arith, c.type_inv.s l.byte-index)))
 
 pub loop-byte-preserved : goal.loop-byte-preserved
 loop-byte-preserved c =
     let l = c.loop-byte in
     let s = c.args.s.now in (
       omega arith,
-      rw add-one (byte_fits l.byte-index l.value (get_or s l.byte-index 0) l.invariant.1 (omega (arith, c.type_inv.s l.byte-index))),
+      rw add-one
+          (byte_fits l.byte-index l.value (get_or s l.byte-index 0) l.invariant.1
+          (omega (arith, c.type_inv.s l.byte-index))),
       l.invariant.2 ∙ byte_taken s l.byte-index l.value (omega arith),
     )
 

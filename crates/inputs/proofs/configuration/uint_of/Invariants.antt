@@ -8,4 +8,5 @@ use Rattle.inputs.proofs.configuration.uint_of.Given as goal
 
 abbrev pub invariant-loop-byte : goal.invariant-loop-byte
 invariant-loop-byte l =
-    (l.byte-index ≤ length l.s) × (l.value < 256 ^ l.byte-index) × (uint l.s ≡ bytes_after l.value (drop l.byte-index l.s))
+    (l.byte-index ≤ length l.s) × (l.value < 256 ^ l.byte-index)
+    × (uint l.s ≡ bytes_after l.value (drop l.byte-index l.s))

@@ -9,4 +9,5 @@ pub returns : goal.returns
 returns c =
     let t = hex_field c.args.s.now in
     let w = c.put_all-offset.ensures in
-    then-put t w _ c.requires (c.put_hex.ensures.offset, c.put_hex.ensures.bytes) (c.unwrap_or.ensures ∙ unwrapped c.put_hex.result c.put_all-offset.result)
+    then-put t w _ c.requires (c.put_hex.ensures.offset, c.put_hex.ensures.bytes) (c.unwrap_or.ensures
+    ∙ unwrapped c.put_hex.result c.put_all-offset.result)

@@ -9,4 +9,5 @@ pub returns : goal.returns
 returns c =
     let t = decimal c.args.n in
     let w = c.put_all-offset.ensures in
-    then-put t w _ c.requires (c.put_decimal.ensures.offset, c.put_decimal.ensures.bytes) (c.unwrap_or.ensures ∙ unwrapped c.put_decimal.result c.put_all-offset.result)
+    then-put t w _ c.requires (c.put_decimal.ensures.offset, c.put_decimal.ensures.bytes) (c.unwrap_or.ensures
+    ∙ unwrapped c.put_decimal.result c.put_all-offset.result)

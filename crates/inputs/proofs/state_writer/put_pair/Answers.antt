@@ -1,20 +1,24 @@
 -- `inputs::state_writer::put_pair` meets its contract: the word and the two numbers, and a newline
 -- after them.
 use mathlib.Core.List.{[], ◌∷◌, ◌++◌}
-use Prim.Native.Nat.{◌+◌, ◌≤◌}
-use lib.ListN.{length}
 use Rattle.lines.specs.Number.{ascii, decimal}
 use Rattle.lines.specs.Line.{tab, newline}
-use Rattle.inputs.proofs.StateWriterLaws.{room_first, room-then, wrote_then, pair_pieces}
+use Rattle.inputs.proofs.StateWriterLaws.{room_first, room-then, wrote_then, pair_pieces, pair_room}
 use Rattle.inputs.proofs.state_writer.put_pair.Goals as goal
 
 pub put_numbers-end-requires : goal.put_numbers-end-requires
 unfolding ascii
-put_numbers-end-requires c = room_first (ascii "pair" ++ (tab ∷ decimal c.args.position) ++ (tab ∷ decimal c.args.version)) (newline ∷ []) _ _ (let room0 : (c.args.at + length ((ascii "pair" ++ (tab ∷ decimal c.args.position) ++ (tab ∷ decimal c.args.version)) ++ newline ∷ []) ≤ length c.args.out.now) = rw (pair_pieces (record { position = c.args.position; version = c.args.version })) at c.requires in room0)
+put_numbers-end-requires c =
+    let a = c.args in
+    room_first (ascii "pair" ++ (tab ∷ decimal a.position) ++ (tab ∷ decimal a.version)) (newline ∷ []) _ _
+    (pair_room (record { position = a.position; version = a.version }) a.at _ c.requires)
 
 pub put_all-requires : goal.put_all-requires
 unfolding ascii
-put_all-requires c = room-then (newline ∷ []) c.put_numbers-end.ensures (let room0 : (c.args.at + length ((ascii "pair" ++ (tab ∷ decimal c.args.position) ++ (tab ∷ decimal c.args.version)) ++ newline ∷ []) ≤ length c.args.out.now) = rw (pair_pieces (record { position = c.args.position; version = c.args.version })) at c.requires in room0)
+put_all-requires c =
+    let a = c.args in
+    let r = pair_room (record { position = a.position; version = a.version }) a.at _ c.requires in
+    room-then (newline ∷ []) c.put_numbers-end.ensures r
 
 pub returns : goal.returns
 unfolding ascii

@@ -11,4 +11,5 @@ abbrev pub invariant-loop-position : goal.invariant-loop-position
 invariant-loop-position l =
     let ps = l.position-iterator.a.rest.now in
     let vs = l.position-iterator.b.rest.now in
-    (length ps ≡ length vs) × TextsTo write_pair l.initial.out l.at (map_of l.positions l.versions) (map_of ps vs) l.offset l.out
+    (length ps ≡ length vs)
+    × TextsTo write_pair l.initial.out l.at (map_of l.positions l.versions) (map_of ps vs) l.offset l.out

@@ -1,28 +1,33 @@
 -- `inputs::state_writer::put_size` meets its contract: the word and the two numbers, the label, a
 -- newline, each after what is written before it.
-use mathlib.Core.List.{[], ◌∷◌, ◌++◌}
-use Prim.Native.Nat.{◌+◌, ◌≤◌}
-use lib.ListN.{length}
-use Rattle.lines.specs.Number.{ascii, decimal}
+use mathlib.Core.List.{[], ◌∷◌}
+use Rattle.lines.specs.Number.{ascii}
 use Rattle.lines.specs.Hex.{hex_field}
 use Rattle.lines.specs.Line.{tab, newline}
-use Rattle.inputs.proofs.StateWriterLaws.{room_first, room-then, wrote_then, size_pieces}
+use Rattle.inputs.proofs.StateWriterLaws.{room-then, wrote_then, size_pieces, size_rooms}
 use Rattle.inputs.proofs.state_writer.put_size.Goals as goal
 
 pub put_numbers-label_at-requires : goal.put_numbers-label_at-requires
 unfolding ascii
-put_numbers-label_at-requires c = room_first (ascii "size" ++ (tab ∷ decimal c.args.size) ++ (tab ∷ decimal c.args.timestamp)) (tab ∷ hex_field c.args.label.now) _ _ (let room-two0 : (c.args.at + length ((ascii "size" ++ (tab ∷ decimal c.args.size) ++ (tab ∷ decimal c.args.timestamp)) ++ (tab ∷ hex_field c.args.label.now)) ≤ length c.args.out.now) = room_first ((ascii "size" ++ (tab ∷ decimal c.args.size) ++ (tab ∷ decimal c.args.timestamp)) ++ (tab ∷ hex_field c.args.label.now)) (newline ∷ []) _ _ (let room0 : (c.args.at + length ((ascii "size" ++ (tab ∷ decimal c.args.size) ++ (tab ∷ decimal c.args.timestamp)) ++ (tab ∷ hex_field c.args.label.now) ++ newline ∷ []) ≤ length c.args.out.now) = rw (size_pieces c.args.size c.args.timestamp c.args.label.now) at c.requires in room0) in room-two0)
+put_numbers-label_at-requires c = let a = c.args in (size_rooms a.size a.timestamp a.label.now c.requires).first
 
 pub put_field-end-requires : goal.put_field-end-requires
 unfolding ascii
-put_field-end-requires c = room-then (tab ∷ hex_field c.args.label.now) c.put_numbers-label_at.ensures (let room-two0 : (c.args.at + length ((ascii "size" ++ (tab ∷ decimal c.args.size) ++ (tab ∷ decimal c.args.timestamp)) ++ (tab ∷ hex_field c.args.label.now)) ≤ length c.args.out.now) = room_first ((ascii "size" ++ (tab ∷ decimal c.args.size) ++ (tab ∷ decimal c.args.timestamp)) ++ (tab ∷ hex_field c.args.label.now)) (newline ∷ []) _ _ (let room0 : (c.args.at + length ((ascii "size" ++ (tab ∷ decimal c.args.size) ++ (tab ∷ decimal c.args.timestamp)) ++ (tab ∷ hex_field c.args.label.now) ++ newline ∷ []) ≤ length c.args.out.now) = rw (size_pieces c.args.size c.args.timestamp c.args.label.now) at c.requires in room0) in room-two0)
+put_field-end-requires c =
+    let a = c.args in
+    let r = size_rooms a.size a.timestamp a.label.now c.requires in
+    room-then (tab ∷ hex_field a.label.now) c.put_numbers-label_at.ensures r.two
 
 pub put_all-requires : goal.put_all-requires
 unfolding ascii
-put_all-requires c = room-then (newline ∷ []) (wrote_then (tab ∷ hex_field c.args.label.now) c.put_numbers-label_at.ensures c.put_field-end.ensures) (let room0 : (c.args.at + length ((ascii "size" ++ (tab ∷ decimal c.args.size) ++ (tab ∷ decimal c.args.timestamp)) ++ (tab ∷ hex_field c.args.label.now) ++ newline ∷ []) ≤ length c.args.out.now) = rw (size_pieces c.args.size c.args.timestamp c.args.label.now) at c.requires in room0)
+put_all-requires c =
+    let a = c.args in
+    let two = wrote_then (tab ∷ hex_field a.label.now) c.put_numbers-label_at.ensures c.put_field-end.ensures in
+    room-then (newline ∷ []) two (size_rooms a.size a.timestamp a.label.now c.requires).all
 
 pub returns : goal.returns
 unfolding ascii
 returns c =
-    let two = wrote_then (tab ∷ hex_field c.args.label.now) c.put_numbers-label_at.ensures c.put_field-end.ensures in
-    rw (size_pieces c.args.size c.args.timestamp c.args.label.now) (wrote_then (newline ∷ []) two c.put_all.ensures)
+    let a = c.args in
+    let two = wrote_then (tab ∷ hex_field a.label.now) c.put_numbers-label_at.ensures c.put_field-end.ensures in
+    rw (size_pieces a.size a.timestamp a.label.now) (wrote_then (newline ∷ []) two c.put_all.ensures)

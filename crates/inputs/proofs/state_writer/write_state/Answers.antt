@@ -3,7 +3,6 @@
 use mathlib.Core.Path.{◌≡◌, sym, ◌∙◌}
 use mathlib.Core.Bool.{true}
 use native.Mathlib.Omega.{arith}
-use borrow.Author.Rules.{rules}
 use Rattle.lists.specs.Choice.{is_some}
 use Rattle.rules.specs.Refusals.{valid_state}
 use Rattle.rules.specs.StateText.{write_state}
@@ -26,12 +25,10 @@ returns-then-not-is_valid c =
     let it = none_written a.lent.now (text_for a.state a.lent.now) e in
     record { answer = it.0; bytes = it.1 }
 
-pub put_state-requires : goal.put_state-requires
-put_state-requires c = record { valid = (let valid0 : (is_some (valid_state (state_of c.args.state)) ≡ true) = sym c.is_valid.ensures ∙ c.if-not-is_valid.false in valid0); room = search rules }
-
 pub returns : goal.returns
 returns c =
     let a = c.args in
-    let e = text_valid a.state a.lent.now (let valid0 : (is_some (valid_state (state_of c.args.state)) ≡ true) = sym c.is_valid.ensures ∙ c.if-not-is_valid.false in valid0) (omega arith) in
+    let valid : is_some (valid_state (state_of a.state)) ≡ true = sym c.is_valid.ensures ∙ c.if-not-is_valid.false in
+    let e = text_valid a.state a.lent.now valid (omega arith) in
     let it = first_written (text_for a.state a.lent.now) (write_state (contents a.state)) e c.put_state.ensures in
     record { answer = it.0; bytes = it.1 }

@@ -14,7 +14,9 @@ returns-in_default c =
     let s = c.args.outputs.now in
     let facts = c.binary_search_by_key.ensures in
     let by_version = facts.position chunk_version (answers_always _ _ _ (λ f a r g called. search rules)) in
-    let there = rw c.in_default.is at (searched s c.args.version _ c.as_chunks.ensures.front c.as_chunks.ensures.front_len _ facts.bound by_version) in
+    let there =
+    rw c.in_default.is at
+    (searched s c.args.version _ c.as_chunks.ensures.front c.as_chunks.ensures.front_len _ facts.bound by_version) in
     let it = found_nothing s c.args.version _ there refl in
     record { rising = it.0; any = it.1 }
 
@@ -24,8 +26,11 @@ returns c =
     let s = c.args.outputs.now in
     let facts = c.binary_search_by_key.ensures in
     let by_version = facts.position chunk_version (answers_always _ _ _ (λ f a r g called. search rules)) in
-    let there = rw c.in-Ok.is at (searched s c.args.version _ c.as_chunks.ensures.front c.as_chunks.ensures.front_len _ facts.bound by_version) in
+    let there =
+    rw c.in-Ok.is at
+    (searched s c.args.version _ c.as_chunks.ensures.front c.as_chunks.ensures.front_len _ facts.bound by_version) in
     let held : c.output_of.result ≡ (record_at s c.in-Ok.index).output =
-    c.output_of.ensures ∙ ap (λ (x : VrfOutput). x.output) (chunk_at s _ c.in-Ok.index _ c.as_chunks.ensures.front there.0) in
+    c.output_of.ensures
+    ∙ ap (λ (x : VrfOutput). x.output) (chunk_at s _ c.in-Ok.index _ c.as_chunks.ensures.front there.0) in
     let it = found_record s c.args.version c.in-Ok.index _ there.0 there.1 (rw held refl) in
     record { rising = it.0; any = it.1 }

@@ -9,7 +9,8 @@ use Rattle.inputs.proofs.VrfOutputLaws.{rises_last}
 use Rattle.inputs.proofs.vrf_outputs.outputs_rise.Goals as goal
 
 pub returns-then-rest-ne0 : goal.returns-then-rest-ne0
-returns-then-rest-ne0 c = sym (given_broken c.args.outputs.now (λ e. c.if-rest-ne0.true (c.as_chunks.ensures.back_len ∙ e)))
+returns-then-rest-ne0 c =
+    sym (given_broken c.args.outputs.now (λ e. c.if-rest-ne0.true (c.as_chunks.ensures.back_len ∙ e)))
 
 pub loop-i-init : goal.loop-i-init
 loop-i-init c = (omega arith, given_rises c.args.outputs.now (sym c.as_chunks.ensures.back_len ∙ c.if-rest-ne0.false))
@@ -19,9 +20,11 @@ returns-then-version_of c =
     let s = c.args.outputs.now in
     let n = c.as_chunks.ensures.front_len in
     let e : c.loop-i.i - 1 + 1 ≡ c.loop-i.i = omega arith in
-    let here : c.version_of.result ≡ (record_at s c.loop-i.i).version = c.version_of.ensures ∙ ap version_in (chunk_at s _ c.loop-i.i _ c.as_chunks.ensures.front (omega arith)) in
+    let here : c.version_of.result ≡ (record_at s c.loop-i.i).version = c.version_of.ensures
+    ∙ ap version_in (chunk_at s _ c.loop-i.i _ c.as_chunks.ensures.front (omega arith)) in
     let before : c.version_of-in-loop-i.result ≡ (record_at s (c.loop-i.i - 1)).version =
-    c.version_of-in-loop-i.ensures ∙ ap version_in (chunk_at s _ (c.loop-i.i - 1) _ c.as_chunks.ensures.front (omega arith)) in
+    c.version_of-in-loop-i.ensures
+    ∙ ap version_in (chunk_at s _ (c.loop-i.i - 1) _ c.as_chunks.ensures.front (omega arith)) in
     sym (c.loop-i.invariant.1 ∙ rises_not s (c.loop-i.i - 1) (omega arith) (rw e (omega arith)))
 
 pub loop-i-preserved : goal.loop-i-preserved
@@ -30,10 +33,15 @@ loop-i-preserved c =
     let n = c.as_chunks.ensures.front_len in
     let e : c.loop-i.i - 1 + 1 ≡ c.loop-i.i = omega arith in
     let f : c.loop-i.i + 1 - 1 ≡ c.loop-i.i = omega arith in
-    let here : c.version_of.result ≡ (record_at s c.loop-i.i).version = c.version_of.ensures ∙ ap version_in (chunk_at s _ c.loop-i.i _ c.as_chunks.ensures.front (omega arith)) in
+    let here : c.version_of.result ≡ (record_at s c.loop-i.i).version = c.version_of.ensures
+    ∙ ap version_in (chunk_at s _ c.loop-i.i _ c.as_chunks.ensures.front (omega arith)) in
     let before : c.version_of-in-loop-i.result ≡ (record_at s (c.loop-i.i - 1)).version =
-    c.version_of-in-loop-i.ensures ∙ ap version_in (chunk_at s _ (c.loop-i.i - 1) _ c.as_chunks.ensures.front (omega arith)) in
-    (omega arith, rw f (c.loop-i.invariant.1 ∙ (rw e at (rises_on s (c.loop-i.i - 1) (omega arith) (rw e (omega arith))))))
+    c.version_of-in-loop-i.ensures
+    ∙ ap version_in (chunk_at s _ (c.loop-i.i - 1) _ c.as_chunks.ensures.front (omega arith)) in (
+      omega arith,
+      rw f (c.loop-i.invariant.1
+          ∙ (rw e at (rises_on s (c.loop-i.i - 1) (omega arith) (rw e (omega arith))))),
+    )
 
 pub returns : goal.returns
 returns c =

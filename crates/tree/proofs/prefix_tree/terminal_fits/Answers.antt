@@ -1,6 +1,7 @@
 -- `tree::prefix_tree::terminal_fits` meets its contract: by what stands at the place, and by where
 -- the bits of two outputs part.
 use mathlib.Core.Path.{◌∙◌}
+use mathlib.Core.Logic.{⊎_elim}
 use native.Mathlib.Omega.{arith}
 use borrow.Author.Tests.{le-ltb}
 use Rattle.tree.specs.Lookups.{output_bits}
@@ -21,7 +22,6 @@ returns-else-shared-lt-OUTPUT_BITS c =
     ∙ same_unfit s.output _ _ s.terminal s.depth c.in-OtherLeaf.is (n.ensures.3 (omega arith))
 
 pub returns-in-SearchedLeaf : goal.returns-in-SearchedLeaf
-returns-in-SearchedLeaf c = let s = c.args in own_fits s.output _ s.terminal s.depth c.in-SearchedLeaf.is
-
-pub returns-in-Empty : goal.returns-in-Empty
-returns-in-Empty c = let s = c.args in empty_fits s.output s.terminal s.depth c.in-Empty.is
+returns-in-SearchedLeaf c =
+    let s = c.args in
+    ⊎_elim (λ p. own_fits s.output p.0 s.terminal s.depth p.1) (λ e. empty_fits s.output s.terminal s.depth e) c.in-SearchedLeaf.is

@@ -1,11 +1,6 @@
 -- `inputs::state::KeptLog::fits` meets its contract: one test after the other.
 use mathlib.Core.Path.{refl, sym, ◌∙◌}
-use Prim.Native.Nat.{◌≤◌}
-use lib.Count.{ones}
-use native.Mathlib.Omega.{arith}
 use borrow.Author.Tests.{lt-leb, le-leb}
-use Rattle.tree.specs.LogHead.{level_limit}
-use Rattle.tree.proofs.DecisionLaws.{ones_limit}
 use Rattle.rules.specs.Limits.{tree_size_limit}
 use Rattle.inputs.specs.State.{log_fits}
 use Rattle.inputs.proofs.state.KeptLog.fits.Goals as goal
@@ -18,13 +13,11 @@ pub returns-then-not-timestamp_fits : goal.returns-then-not-timestamp_fits
 unfolding log_fits
 returns-then-not-timestamp_fits c =
     let b = c.args.self in
-    rw (le-leb b.size tree_size_limit c.if-size-gt-LARGEST_SIZE.false, sym c.timestamp_fits.ensures ∙ c.if-not-timestamp_fits.true) refl
-
-pub overflow_cast-size : goal.overflow_cast-size
-overflow_cast-size c = omega (arith, (let few_ones0 : (ones c.args.self.size ≤ level_limit) = ones_limit level_limit c.args.self.size (omega arith) c.if-size-gt-LARGEST_SIZE.false in few_ones0))
-
-pub overflow_mul-size : goal.overflow_mul-size
-overflow_mul-size c = omega (arith, (let few_ones0 : (ones c.args.self.size ≤ level_limit) = ones_limit level_limit c.args.self.size (omega arith) c.if-size-gt-LARGEST_SIZE.false in few_ones0))
+    rw (
+      le-leb b.size tree_size_limit c.if-size-gt-LARGEST_SIZE.false,
+      sym c.timestamp_fits.ensures
+          ∙ c.if-not-timestamp_fits.true,
+    ) refl
 
 pub returns : goal.returns
 unfolding log_fits

@@ -7,4 +7,5 @@ use Rattle.inputs.proofs.state.MonitoringMap.pairs_fit.Given as goal
 abbrev pub invariant-loop-position : goal.invariant-loop-position
 invariant-loop-position l =
     let m = l.fn.self in
-    PairsLeft l.size (take m.count m.positions) (take m.count m.versions) l.least l.position-iterator.a.rest.now l.position-iterator.b.rest.now
+    PairsLeft l.size (take m.count m.positions)
+    (take m.count m.versions) l.least l.position-iterator.a.rest.now l.position-iterator.b.rest.now

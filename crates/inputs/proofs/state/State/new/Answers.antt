@@ -10,7 +10,8 @@ use Rattle.inputs.proofs.state.State.new.Goals as goal
 
 pub returns-then-label-gt-LABEL : goal.returns-then-label-gt-LABEL
 unfolding new_state numbered_block choose
-returns-then-label-gt-LABEL c = rw (lt-leb (length c.args.label.now) label_limit c.if-label-gt-LABEL.true, c.with_empty_state.ensures) refl
+returns-then-label-gt-LABEL c =
+    rw (lt-leb (length c.args.label.now) label_limit c.if-label-gt-LABEL.true, c.with_empty_state.ensures) refl
 
 pub returns : goal.returns
 unfolding new_state numbered_block choose
