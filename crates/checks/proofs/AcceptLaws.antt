@@ -190,11 +190,6 @@ answer_found Monitor version n new h = rw (h refl) refl
 -- ---- the new map
 
 module _ (kind : Kind) (n : ℕ) (m : MonitoringMap) (position version : ℕ) where
-  -- of a search, with its pair
-  pub search-new : (r : CodeOption MonitoringMap) → kind ≡ Search → HoldsIfRoom (put_version position version (pairs_in m)) r
-      → IsNewMap kind n m position version r
-  search-new r e h = rw e h
-
   -- of monitoring, moved
   pub monitoring-new : (r : MonitoringMap) → IsMap m → kind ≡ Monitor
       → Holds (map_after_monitoring n (pairs_in m)) r → IsNewMap kind n m position version (Some r)

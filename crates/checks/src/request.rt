@@ -20,6 +20,7 @@ use tree::log_head::LogHead;
 
 // Whether no input is too long, a response being limited to so many bytes, and the identifier has
 // its length.
+#[tactic(auto, unfolding(lists::specs::Lists::every))]
 pub(crate) fn lengths_fit(
     limit: usize,
     response: &[u8],
