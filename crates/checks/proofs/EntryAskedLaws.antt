@@ -15,7 +15,7 @@ use Rattle.rules.specs.Search.{is_beginning}
 use Rattle.inputs.specs.declared.response_lines.Kind.{Kind}
 use Rattle.inputs.specs.declared.response_lines.Kind.TheVariants.{Search, Monitor}
 use Rattle.checks.specs.Entries.{versions_of}
-use Rattle.checks.specs.MonitoredVersions.{IsLargest, shown_at, wanted_by, fit_by, IsMarkedFor, IsMarkedBy}
+use Rattle.checks.specs.MonitoredVersions.{shown_at, wanted_by, fit_by, IsMarkedFor, IsMarkedBy}
 
 -- ---- an answer by a test
 

@@ -1,6 +1,6 @@
 -- Laws of the entries of a response: the lookups of one against the versions wanted, one after the
 -- other, and what is asked of all of them.
-use mathlib.Core.Path.{◌≡◌, refl, sym, ◌∙◌, ap, subst}
+use mathlib.Core.Path.{◌≡◌, refl, sym, ◌∙◌, ap}
 use mathlib.Core.Bool.{Bool, true, false, ◌&&◌, and-true, and_assoc}
 use mathlib.Core.List.{List, [], ◌∷◌, cons-ne-nil}
 use Prim.Native.Nat.{ℕ, ◌+◌, ◌-◌, ◌≤◌, ◌<◌}
@@ -16,7 +16,7 @@ use Rattle.rules.specs.ResponseText.{Item, entry_item, lookup_item, read_item, g
 use Rattle.rules.specs.Kinds.{Asked, asked_at}
 use Rattle.rules.specs.Refusals.{entries_asked}
 use Rattle.inputs.specs.Response.{entries_in, loose_in}
-use Rattle.checks.specs.Sections.{EntryLines, with_lookups, IsNextEntry, IsNextLookup}
+use Rattle.checks.specs.Sections.{EntryLines, with_lookups, IsNextLookup}
 use Rattle.checks.specs.Sections.{AfterLookups, OfLookup}
 use Rattle.checks.specs.Entries.{versions_of}
 use Rattle.checks.proofs.LineStepLaws.{some-line}

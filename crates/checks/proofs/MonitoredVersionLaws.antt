@@ -16,14 +16,14 @@ use Rattle.hash.specs.Bytes.{padded}
 use Rattle.tree.specs.Ladder.{ladder, ladder_within, ladder_capacity}
 use Rattle.tree.specs.SearchTree.{right_ancestors}
 use Rattle.tree.proofs.FillLaws.{Filling, filling_start, filling_same, filling_within, filling_next}
-use Rattle.tree.proofs.FillLaws.{filling_end, filled_at}
+use Rattle.tree.proofs.FillLaws.{filling_end}
 use Rattle.tree.proofs.LadderFillLaws.{ladder_fits, within_some}
 use Rattle.rules.specs.Limits.{greatest_version}
 use Rattle.rules.specs.State.{MapEntry, versions}
 use Rattle.rules.specs.Monitoring.{reaches, versions_reaching, versions_shown}
 use Rattle.inputs.specs.State.{map_of}
 use Rattle.inputs.proofs.PairLaws.{pairs_from_lem}
-use Rattle.checks.specs.MonitoredVersions.{not_above, shown_at, IsLargest}
+use Rattle.checks.specs.MonitoredVersions.{not_above, IsLargest}
 use Rattle.checks.proofs.NotAboveLaws.{up_to, up_to_here, up_to_later}
 
 -- ---- the pair with the largest version

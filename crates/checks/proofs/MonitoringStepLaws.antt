@@ -1,21 +1,17 @@
 -- Laws of the steps of monitoring (specs/Steps.antt): the versions looked up for pairs, one by one.
-use mathlib.Core.Path.{◌≡◌, refl, sym, ◌∙◌, ap, ap₂, subst}
-use mathlib.Core.Logic.{⊎_elim}
-use mathlib.Core.Bool.{Bool, true, false, ◌&&◌, ◌||◌, not, false≢true}
+use mathlib.Core.Path.{◌≡◌, sym, ◌∙◌, ap, subst}
+use mathlib.Core.Bool.{Bool, true, ◌&&◌}
 use mathlib.Core.List.{List, [], ◌∷◌}
 use Prim.Native.Nat.{ℕ, ◌+◌, ◌≤◌, ◌<◌}
 use native.Mathlib.Omega.{arith}
 use lib.Dec.{eqb}
-use lib.ListN.{length, drop}
-use borrow.Author.Tests.{eqb-true, eqb-false, not-true, not-false}
+use lib.ListN.{length}
 use Rattle.std.specs.Prelude.{Some, None, Option as CodeOption}
 use Rattle.std.specs.Bool.{then_some}
 use Rattle.lists.specs.Lists.{Bytes}
-use Rattle.lists.proofs.ChoiceLaws.{or_holds, or_fails}
 use Rattle.tree.specs.SearchTree.{next_from}
 use Rattle.tree.proofs.NextLaws.{listed_from, from_all, from_none, next_above, from_next}
 use Rattle.rules.specs.Limits.{vrf_outputs_limit, version_bound}
-use Rattle.inputs.specs.Response.{steps_in}
 use Rattle.checks.specs.Sections.{StepLines}
 use Rattle.checks.specs.Steps.{records_capacity, IsWantedStep}
 use Rattle.checks.specs.MonitoredVersions.{counted, smallest, stepped_on, AreMarks}

@@ -9,7 +9,7 @@ use native.Mathlib.Omega.{arith}
 use lib.Dec.{eqb, ltb}
 use lib.ListN.{length, take, drop, get_or, replicate, length-take, length-drop, drop_of_length-le}
 use lib.Seq.{get_or-take}
-use borrow.Author.Tests.{eq-eqb, ne_eqb, eqb-true, eqb-false, ltb-true, le-leb}
+use borrow.Author.Tests.{eq-eqb, ne_eqb, eqb-true, eqb-false, ltb-true}
 use Rattle.std.specs.Prelude.{Some, None, IsSome, Option as CodeOption}
 use Rattle.std.proofs.lemmas.Option.{same_Some}
 use Rattle.lists.specs.Choice.{choose}

@@ -1,14 +1,14 @@
 -- Laws of a pair put into the monitoring map (specs/Map.antt): it is carried from index to index,
 -- and where it is stored, the one that stood there is carried on.
 use mathlib.Core.Path.{◌≡◌, refl, sym, ◌∙◌, ap}
-use mathlib.Core.Bool.{true, false}
+use mathlib.Core.Bool.{true}
 use mathlib.Core.List.{List, [], ◌∷◌, ◌++◌, map, map-append, append_assoc, append-nil}
 use Prim.Native.Nat.{ℕ, ◌+◌, ◌-◌, ◌≤◌, ◌<◌}
 use native.Mathlib.Omega.{arith}
-use lib.Dec.{eqb, leb, ltb}
+use lib.Dec.{eqb, ltb}
 use lib.ListN.{length, take, get_or, set, replicate, length-append, length-map}
 use lib.Seq.{set_at, get_or_at}
-use borrow.Author.Tests.{lt-ltb, le-ltb, eq-eqb, ne_eqb, le-leb, lt-leb, ltb-true}
+use borrow.Author.Tests.{lt-ltb, le-ltb, eq-eqb, ne_eqb, ltb-true}
 use Rattle.std.specs.Prelude.{Some, None}
 use Rattle.lists.specs.Lists.{rising}
 use Rattle.lists.proofs.ChoiceLaws.{choose_true, choose_false, and_holds}

@@ -1,16 +1,15 @@
 -- Laws of a response that shows what its kind asks, from what is found of its steps and its entries
 -- (specs/Calls.antt, HasShape).
 use mathlib.Core.Path.{◌≡◌, refl, sym, ap, ap₂, ◌∙◌, subst}
-use mathlib.Core.Bool.{Bool, true, false, ◌&&◌, not-not, false≢true, and_comm, and-false}
+use mathlib.Core.Bool.{Bool, true, false, ◌&&◌, not-not, and-false}
 use mathlib.Core.List.{List, [], ◌++◌}
 use Prim.Native.Nat.{ℕ, ◌-◌, ◌≤◌}
 use native.Mathlib.Omega.{arith}
 use lib.Dec.{ltb}
 use lib.ListN.{length, take, drop, length-append, length-take, length-drop}
 use lib.Seq.{take-append_seam}
-use Rattle.std.specs.Prelude.{Some, None, Option as CodeOption, is_some, IfSome}
+use Rattle.std.specs.Prelude.{Some, None, Option as CodeOption}
 use Rattle.lists.specs.Lists.{Bytes, all, same, unfalling, last_or}
-use Rattle.lists.proofs.ChoiceLaws.{and_holds}
 use Rattle.lines.specs.declared.part.Part.{Part}
 use Rattle.lines.specs.Readings.{part_of}
 use Rattle.tree.specs.Ladder.{ladder}
@@ -34,7 +33,6 @@ use Rattle.inputs.specs.State.{map_of}
 use Rattle.inputs.proofs.PairLaws.{map_positions}
 use Rattle.checks.specs.declared.readings.Call.{Call as CallBlock}
 use Rattle.checks.specs.declared.trial.Shape.{Shape}
-use Rattle.checks.specs.declared.timestamps.Timestamps.{Timestamps}
 use Rattle.checks.specs.Steps.{versions_of, CommitmentsBy}
 use Rattle.checks.specs.Entries.{timestamps_of, are_asked, AreTimestamps}
 use Rattle.checks.specs.MonitoredVersions.{counted, ArePairs, AreMarks, wanted_by, fit_by}

@@ -3,8 +3,7 @@
 use mathlib.Core.Path.{◌≡◌, refl, sym, ap, ap₂, ◌∙◌}
 use mathlib.Core.Bool.{Bool, true, false, not, ◌&&◌}
 use mathlib.Core.List.{List, [], ◌∷◌}
-use Prim.Native.Nat.{ℕ, ◌+◌, ◌≤◌}
-use native.Mathlib.Omega.{arith}
+use Prim.Native.Nat.{ℕ, ◌+◌}
 use lib.Dec.{eqb, leb}
 use lib.ListN.{length}
 use borrow.Author.Tests.{eq-eqb, ne_eqb, not-true, not-false}
@@ -25,7 +24,7 @@ use Rattle.checks.specs.declared.trial.Shape.{Shape}
 use Rattle.std.specs.Prelude.{Ok, Err, Result}
 use Rattle.inputs.specs.declared.refusal.Refusal.{Refusal}
 use Rattle.inputs.specs.declared.refusal.Refusal.TheVariants.{Shape as WrongShape, MissingOutput, Time}
-use Rattle.inputs.specs.Refusal.{refusal_number, number_in}
+use Rattle.inputs.specs.Refusal.{refusal_number}
 use Rattle.checks.specs.Entries.{near_clock}
 use Rattle.checks.specs.Calls.{IsCall, entries_text, number_tried, rules9to11}
 use Rattle.checks.specs.Calls.{Shapeable, is_shaped, IsShape, Is9to11Tried}

@@ -14,7 +14,7 @@ use native.Mathlib.Omega.{arith}
 use lib.Dec.{eqb, ltb}
 use lib.ListN.{length, get_or, drop, set, length-map}
 use lib.Seq.{append_snoc, get_or-set_same, get_or-set_other}
-use borrow.Author.Tests.{eqb-true, eqb-false, le-ltb, not-true, not-false}
+use borrow.Author.Tests.{eqb-true, eqb-false, le-ltb, not-true}
 use Rattle.std.specs.Prelude.{Some, None, Option as CodeOption}
 use Rattle.std.specs.Bool.{then_some}
 use Rattle.lists.specs.Choice.{is_some}

@@ -2,18 +2,17 @@
 use mathlib.Core.Path.{◌≡◌, refl, sym, ◌∙◌, ap}
 use mathlib.Core.Bool.{Bool, true, false, ◌&&◌, and-true, and-false}
 use mathlib.Core.List.{List, [], ◌∷◌}
-use Prim.Native.Nat.{ℕ, ◌+◌, ◌-◌, ◌≤◌, ◌<◌}
+use Prim.Native.Nat.{ℕ}
 use native.Mathlib.Omega.{arith}
 use lib.Dec.{leb}
-use borrow.Author.Tests.{le-leb, leb-true}
+use borrow.Author.Tests.{le-leb}
 use Rattle.lists.specs.Lists.{all, unfalling, last_or}
-use Rattle.lists.proofs.ChoiceLaws.{same_test, and_holds, holds_and}
 use Rattle.rules.specs.State.{KeptLog}
 use Rattle.rules.specs.Response.{Lookup, Entry}
 use Rattle.rules.specs.Refusals.{timestamp_fits}
 use Rattle.checks.specs.declared.timestamps.Timestamps.{Timestamps}
 use Rattle.checks.specs.Sections.{with_lookups}
-use Rattle.checks.specs.Entries.{timestamps_of, AreTimestamps, no_timestamps, timestamps_after, near_clock}
+use Rattle.checks.specs.Entries.{timestamps_of, AreTimestamps, no_timestamps, timestamps_after}
 
 -- ---- one after the other
 

@@ -85,10 +85,6 @@ module _ (s : Bytes) (from : ℕ) where
   keeps-start = record { taken = []; led = led-start read_keep s from; counted = refl; joined = refl; stored = front-nil values_block_length }
 
   module _ (at count : ℕ) (values : List ℕ) (k : KeepsTo s from at count values) where
-    -- the block has its length
-    pub keeps-block : length values ≡ values_block_length
-    keeps-block = ap length k.stored ∙ length_front values_block_length (flatten k.taken)
-
     -- a line with a value is one more
     pub keeps-next : (v : Bytes) (next : ℕ) → read_from read_keep s at ≡ some (v, next)
         → KeepsTo s from next (count + 1) (put_at values (hash_length * count) v)

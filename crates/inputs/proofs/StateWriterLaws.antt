@@ -1,12 +1,12 @@
 -- Laws of writing a state's text (specs/StateWriter.antt): texts written one after the other, the
 -- pieces of which each line is made, a line for each element of a list, and the room that a valid
 -- state's struct and text have.
-use mathlib.Core.Path.{◌≡◌, refl, sym, ◌∙◌, ap, subst}
+use mathlib.Core.Path.{◌≡◌, refl, sym, ◌∙◌, ap}
 use mathlib.Core.Bool.{true, false}
 use mathlib.Core.List.{List, [], ◌∷◌, ◌++◌, flat_map, append_assoc, append-nil}
 use mathlib.Core.Option
 use mathlib.Core.Option.{Option, none, some, Option-elim}
-use Prim.Native.Nat.{ℕ, zero, suc, ◌+◌, ◌*◌, ◌≤◌, ◌<◌}
+use Prim.Native.Nat.{ℕ, zero, suc, ◌/◌, ◌+◌, ◌*◌, ◌≤◌, ◌<◌}
 use native.Mathlib.Omega.{arith}
 use lib.Count.{ones}
 use lib.Dec.{leb}
@@ -197,18 +197,14 @@ pub record ValuesTo (s : Bytes) (at : ℕ) (vs : List Bytes) (rest : Bytes) (n :
   pub whole : length rest ≡ hash_length * left
   pub texts : TextsTo write_keep s at vs (runs left hash_length rest) n s'
 
--- at first all are left
-pub values_start : (s : Bytes) (at count : ℕ) (block : Bytes) → hash_length * count ≤ length block
-    → at + length (flat_map write_keep (runs count hash_length block)) ≤ length s
-    → ValuesTo s at (runs count hash_length block) (take (hash_length * count) block) at s
-values_start s at count block h r =
-    let vs = runs count hash_length block in
-    record {
-      left = count;
-      whole = length-take-le (hash_length * count) block h;
-      texts = subst (λ (left : List Bytes). TextsTo write_keep s at vs left at s)
-          (sym (runs_front count hash_length block)) (texts-start write_keep vs s at r);
-    }
+-- the values of the front of a block, cut off, are those of the block
+pub values_kept : (n : ℕ) (block : Bytes) → hash_length * n ≤ length block
+    → runs (length (take (hash_length * n) block) / hash_length) hash_length (take (hash_length * n) block)
+    ≡ runs n hash_length block
+values_kept n block h =
+    let l = length-take-le (hash_length * n) block h in
+    let e : length (take (hash_length * n) block) / hash_length ≡ n = omega arith in
+    rw e (runs_front n hash_length block)
 
 module _ (s : Bytes) (at : ℕ) (vs : List Bytes) {n : ℕ} {s' : Bytes} where
   -- a value is the first of those that are left

@@ -5,13 +5,14 @@ use mathlib.Core.Option.{Option, none, some, bind, map, some-injective, none-ne-
 use Prim.Native.Nat.{ℕ, ◌-◌, ◌≤◌}
 use native.Mathlib.Omega.{arith}
 use lib.ListN.{length, take, drop}
+use Rattle.std.specs.Prelude.{Some, None, option_map, Option as CodeOption}
 use Rattle.lists.specs.Lists.{Bytes}
 use Rattle.lists.proofs.ChoiceLaws.{map_some}
 use Rattle.lines.specs.Line.{ended_lines, open_rest, leading}
 use Rattle.lines.specs.Cursor.{line_at}
 use Rattle.lines.proofs.LineLaws.{leading_end, leading-none}
 use Rattle.lines.proofs.SectionLaws.{LineHere, line_here, line_none}
-use Rattle.inputs.specs.TextLine.{read_from, line_from}
+use Rattle.inputs.specs.TextLine.{read_from, line_from, LineRead}
 
 -- a value with the offset, or with the lines, after what it was read from
 abbrev pub followed_by : {A B : Type 0} → B → A → A × B
@@ -106,6 +107,21 @@ module _ {A : Type 0} (read : Bytes → Option A) (s : Bytes) (at : ℕ) where
   -- what is made of it is read there
   pub from-told : (l : Bytes) (next : ℕ) → line_from s at ≡ some (l, next) → (o : Option A) → o ≡ read l → map (followed_by next) o ≡ read_from read s at
   from-told l next e o q = sym (from-its-line l next e ∙ ap (map (followed_by next)) (sym q))
+
+module _ {T A : Type 0} (read : Bytes → Option A) (s : Bytes) (at : ℕ) (gives : Bytes → CodeOption T → Type 0) (r : CodeOption (T × ℕ)) where
+  -- what a reader of the code gave of the line there is what is read there, where it reads a line as the reader does
+  pub from-given : LineRead (line_from s at) gives r → (f : T → A) (of : CodeOption T → Option A) (whole : CodeOption (T × ℕ) → Option (A × ℕ))
+      → ((l : Bytes) (o : CodeOption T) → gives l o → of o ≡ read l) → of None ≡ none → ((a : T) → of (Some a) ≡ some (f a))
+      → whole None ≡ none → ((a : T) (next : ℕ) → whole (Some (a, next)) ≡ some (f a, next)) → whole r ≡ read_from read s at
+  from-given m f of whole reads on os wn ws = go (line_from s at) refl m
+    where
+      step : (l : Bytes) (next : ℕ) → line_from s at ≡ some (l, next) → (o : CodeOption T) → gives l o → whole (option_map (λ a. (a, next)) o) ≡ read_from read s at
+      step l next e None k = wn ∙ from-told read s at l next e none (sym on ∙ reads l None k)
+      step l next e (Some a) k = ws a next ∙ from-told read s at l next e (some (f a)) (sym (os a) ∙ reads l (Some a) k)
+
+      go : (i : Option (Bytes × ℕ)) → line_from s at ≡ i → LineRead i gives r → whole r ≡ read_from read s at
+      go none e m = ap whole m ∙ wn ∙ sym (from_nothing read s at e)
+      go (some (l, next)) e (o, k, q) = ap whole q ∙ step l next e o k
 
 -- where nothing is made of what is read, nothing is read
 pub from-unmapped : {A B : Type 0} (f : A → B) (read : Bytes → Option A) (s : Bytes) (at : ℕ) → read_from (λ (l : Bytes). map f (read l)) s at ≡ none

@@ -9,7 +9,7 @@ ghost use Rattle.inputs.specs.ResponseSections.{read_role, role_of, role_from_of
 
 use crate::response_header::{Header, read_header};
 use crate::response_lines::{Kind, Target, is_end, is_entry, is_lookup, is_node, is_step};
-use crate::text_line::line_from;
+use crate::text_line::read_from;
 use lines::part::Part;
 
 // A section: the part of the text that its lines fill, and how many steps, entries or nodes it has.
@@ -122,8 +122,7 @@ fn section_from(text: &[u8], sort: Sort, from: usize) -> Section
 fn role_from(text: &[u8], sort: Sort, at: usize) -> Option<(Role, usize)>
     ensures { role_from_of result ≡ read_from (read_role sort) text.now at }
 {
-    let (line, next) = line_from(text, at)?;
-    Some((role_in(sort, line)?, next))
+    read_from(text, at, |l| role_in(sort, l))
 }
 
 // What a line is in a section, if it belongs there.

@@ -11,7 +11,7 @@ ghost use Rattle.inputs.specs.ResponseHeader.{finding_of, headed_of, OpenedDecod
 ghost use Rattle.inputs.specs.ResponseHeader.{HeaderStands};
 
 use crate::response_lines::{Kind, KtLine, Target, head_line, kt_line, target_line};
-use crate::text_line::line_from;
+use crate::text_line::{line_from, read_from};
 use lines::part::Part;
 
 // What stands before the sections, and the offset where these begin.
@@ -56,8 +56,7 @@ fn kt_from(text: &[u8]) -> Option<(KtLine, usize)>
 fn head_from(text: &[u8], at: usize) -> Option<(u64, usize)>
     ensures { size_of result ≡ read_from (read_line head_form) text.now at }
 {
-    let (line, next) = line_from(text, at)?;
-    Some((head_line(line)?, next))
+    read_from(text, at, head_line)
 }
 
 // What stands at an offset after the `head` line, and the offset after it: for a search its

@@ -210,6 +210,7 @@ fn timestamp_fits(size: u64, timestamp: u64) -> bool
 }
 
 // Whether bytes are zero from an offset on.
+// The map's numbers have the chain again: for a type parameter `zeros_from`, of numbers, has no meaning.
 fn zeros_from(s: &[u8], from: usize) -> bool
     ensures { result ≡ zeros_from from s.now }
 {

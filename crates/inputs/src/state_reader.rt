@@ -16,7 +16,7 @@ ghost use Rattle.inputs.specs.StateReader.{KeepsFrom, PairsFrom, ReadAs, if_vali
 
 use crate::refusal::Refusal;
 use crate::state::{KeptLog, Label, MonitoringMap, Refused, State};
-use crate::text_line::{after_word, line_from};
+use crate::text_line::{after_word, line_from, read_from};
 use lines::cursor::Cursor;
 use lines::hex::read_digest;
 use lines::layout::Word;
@@ -184,16 +184,14 @@ fn pair_line(l: &[u8]) -> Option<(u64, u32)>
 fn keep_from(text: &[u8], at: usize) -> Option<([u8; 32], usize)>
     ensures { option_of result ≡ read_from read_keep text.now at }
 {
-    let (line, next) = line_from(text, at)?;
-    Some((keep_line(line)?, next))
+    read_from(text, at, keep_line)
 }
 
 // The pair of the `pair` line at an offset, and the offset after it.
 fn pair_from(text: &[u8], at: usize) -> Option<((u64, u32), usize)>
     ensures { pair_from_of result ≡ read_from read_pair text.now at }
 {
-    let (line, next) = line_from(text, at)?;
-    Some((pair_line(line)?, next))
+    read_from(text, at, pair_line)
 }
 
 // The `keep` lines from an offset on.

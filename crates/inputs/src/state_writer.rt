@@ -1,7 +1,7 @@
 // A state's text, written (paper 01, What a call is given): a `size` line, a `keep` line for each
 // value, a `pair` line for each pair of the map. Each writer below write_state is given room for
 // its text, and answers the offset after it.
-ghost use Rattle.std.specs.Prelude.{◌≡◌, true, ◌+◌, ◌*◌, ◌≤◌, length};
+ghost use Rattle.std.specs.Prelude.{◌≡◌, true, ◌+◌, ◌/◌, ◌%◌, ◌≤◌, length};
 ghost use mathlib.Core.List.{[], ◌∷◌, ◌++◌, flat_map};
 ghost use Rattle.std.proofs.Math.Option.{get_or};
 ghost use Rattle.lists.specs.Choice.{is_some};
@@ -54,7 +54,7 @@ fn put_state(out: &mut [u8], state: State) -> usize
         log.timestamp,
         &label.bytes[..label.length],
     );
-    let pairs_at = put_keeps(out, keeps_at, &log.values, count);
+    let pairs_at = put_keeps(out, keeps_at, &log.values[..VALUE * count]);
     put_pairs(
         out,
         pairs_at,
@@ -74,16 +74,16 @@ fn put_size(out: &mut [u8], at: usize, size: u64, timestamp: u64, label: &[u8]) 
     put_all(out, end, b"\n")
 }
 
-// The `keep` lines of so many values that stand one after the other.
-fn put_keeps(out: &mut [u8], at: usize, values: &[u8], count: usize) -> usize
-    requires values { hash_length * count ≤ length values.now }
+// The `keep` lines of values that stand one after the other.
+fn put_keeps(out: &mut [u8], at: usize, values: &[u8]) -> usize
+    requires whole { length values.now % hash_length ≡ 0 }
     requires room { at
-        + length (flat_map write_keep (runs count hash_length values.now)) ≤ length out.old }
+        + length (flat_map write_keep (runs (length values.now / hash_length) hash_length values.now)) ≤ length out.old }
     ensures { Wrote out.old at
-        (flat_map write_keep (runs count hash_length values.now)) result out.new }
+        (flat_map write_keep (runs (length values.now / hash_length) hash_length values.now)) result out.new }
 {
     let mut offset = at;
-    for value in values[..VALUE * count].chunks_exact(VALUE) {
+    for value in values.chunks_exact(VALUE) {
         offset = put_keep(out, offset, value);
     }
     offset

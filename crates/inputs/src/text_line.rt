@@ -3,7 +3,8 @@ ghost use Rattle.std.specs.Prelude.{◌≡◌, MatchOption};
 ghost use Rattle.std.proofs.Math.Option.{none, some};
 ghost use Rattle.lines.specs.Cursor.{word_at};
 ghost use Rattle.lines.specs.Readings.{next_of};
-ghost use Rattle.inputs.specs.TextLine.{line_from};
+ghost use Rattle.std.specs.Fn.{FnOnceReturnsAt};
+ghost use Rattle.inputs.specs.TextLine.{line_from, LineRead};
 
 use lines::cursor::Cursor;
 
@@ -14,6 +15,19 @@ pub(crate) fn line_from(text: &[u8], at: usize) -> Option<(&[u8], usize)>
 {
     let (stop, next) = Cursor { at }.line(text)?;
     Some((&text[at..stop], next.at))
+}
+
+// What a reader makes of the line at an offset, and the offset after it.
+pub(crate) fn read_from<T: Drop, F: FnOnce(&[u8]) -> Option<T>>(
+    text: &[u8],
+    at: usize,
+    read: F,
+) -> Option<(T, usize)>
+    requires { F.IsAlwaysCallable read }
+    ensures { LineRead (line_from text.now at) (λ l o. FnOnceReturnsAt F.FnOnce read l o) result }
+{
+    let (line, next) = line_from(text, at)?;
+    Some((read(line)?, next))
 }
 
 // The cursor after the word with which a line begins.

@@ -26,6 +26,7 @@ pub fn outputs_rise(outputs: &[u8]) -> bool
     if rest.len() != 0 {
         return false;
     }
+    // By index: `windows(2)` is no plainer, since its pieces have no length in their type.
     for i in 1..records.len() {
         if version_of(&records[i]) <= version_of(&records[i - 1]) {
             return false;

@@ -119,12 +119,7 @@ module _ (m s w : ℕ) (h : Whole s w) where
 
 -- ---- the halves of a parent
 
--- equal halves are those of a whole block
-pub halves_even : (m start half rest : ℕ) → Halves m start half rest → rest ≡ half → Whole start (half + rest)
-halves_even m start half rest (even e h) q = h
-halves_even m start half rest (uneven l f) q = absurd (omega arith)
-
--- others are of no full subtree
+-- halves that are not equal are of no full subtree
 pub halves_uneven : (m start half rest : ℕ) → Halves m start half rest → (rest ≡ half → ⊥) → is_full m (range start (half + rest)) ≡ false
 halves_uneven m start half rest (even e h) q = absurd (q e)
 halves_uneven m start half rest (uneven l f) q = f

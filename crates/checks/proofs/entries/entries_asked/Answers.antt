@@ -5,7 +5,6 @@ use native.Mathlib.Omega.{arith}
 use Rattle.checks.proofs.EntriesAskedLaws.{followed-start, followed-end, followed-less}
 use Rattle.checks.proofs.EntriesAskedLaws.{followed-missing, followed-elsewhere, followed-unasked}
 use Rattle.checks.proofs.EntriesAskedLaws.{followed-next}
-use borrow.Author.Tests.{not-true, not-false}
 use Rattle.checks.proofs.entries.entries_asked.Goals as goal
 
 pub loop-kind-init : goal.loop-kind-init

@@ -1,5 +1,4 @@
 -- `checks::map::version_there` meets its contract: the pairs passed so far stand elsewhere.
-use mathlib.Core.Path.{refl}
 use native.Mathlib.Omega.{arith}
 use Rattle.checks.proofs.MovedPairLaws.{version-found, version-passed, version-none}
 use Rattle.checks.proofs.map.version_there.Goals as goal

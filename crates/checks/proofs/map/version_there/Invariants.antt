@@ -1,6 +1,6 @@
 -- `checks::map::version_there` meets its contract: the pairs passed so far stand elsewhere.
 use mathlib.Core.Path.{◌≡◌}
-use Prim.Native.Nat.{◌-◌, ◌≤◌}
+use Prim.Native.Nat.{◌≤◌}
 use Rattle.rules.specs.Limits.{map_limit}
 use Rattle.checks.specs.Map.{pairs_in, version_at}
 use Rattle.checks.proofs.MovedPairLaws.{pairs_from}

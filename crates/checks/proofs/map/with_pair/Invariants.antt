@@ -1,6 +1,6 @@
 -- `checks::map::with_pair` meets its contract: the pair is carried from index to index, and where
 -- it is stored, the one that stood there is carried on.
-use Prim.Native.Nat.{◌-◌, ◌≤◌}
+use Prim.Native.Nat.{◌≤◌}
 use Rattle.rules.specs.Limits.{map_limit}
 use Rattle.checks.specs.Map.{pairs_in, put_version}
 use Rattle.checks.proofs.PairPutLaws.{Carrying}

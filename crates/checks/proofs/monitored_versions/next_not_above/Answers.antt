@@ -1,6 +1,5 @@
 -- `checks::monitored_versions::next_not_above` meets its contract: the versions passed so far are
 -- below `from`.
-use mathlib.Core.Path.{refl}
 use native.Mathlib.Omega.{arith}
 use Rattle.hash.proofs.BytesLaws.{filled_front}
 use Rattle.tree.proofs.NextLaws.{next-at, next_past, next-end}

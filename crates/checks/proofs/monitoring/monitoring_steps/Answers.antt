@@ -2,7 +2,7 @@
 -- looked up below one, and their commitments are placed.
 use native.Mathlib.Omega.{arith}
 use borrow.Author.Rules.{rules}
-use Rattle.checks.proofs.MonitoringStepLaws.{stepping_start, pairs-length, wanted-below}
+use Rattle.checks.proofs.MonitoringStepLaws.{stepping_start}
 use Rattle.checks.proofs.MonitoringStepLaws.{stepping-end, stepping-other, stepping-next}
 use Rattle.checks.proofs.monitoring.monitoring_steps.Goals as goal
 
@@ -14,27 +14,11 @@ returns-then-wanted c =
     rw c.then_some.ensures
     (stepping-end c.requires.marks c.loop-at.invariant.1 c.smallest_of-wanted.ensures c.if-wanted.true c.loop-at.invariant.0)
 
-pub wanted_step-requires : goal.wanted_step-requires
-wanted_step-requires c =
-    let i = c.loop-at.invariant in
-    record { lines = i.1.read.lines; within = i.0; short = c.requires.short; outputs = c.requires.outputs }
-
 pub returns-in_err-output : goal.returns-in_err-output
 returns-in_err-output c =
     rw c.from_residual.ensures
     (stepping-other c.requires.marks c.loop-at.invariant.1 c.smallest_of-wanted.ensures c.if-wanted.false c.wanted_step.new.offsets
     c.in_err-output.ensures)
-
-pub overflow_add-wanted : goal.overflow_add-wanted
-overflow_add-wanted c =
-    omega (arith, wanted-below c.requires.marks c.loop-at.invariant.1 c.smallest_of-wanted.ensures c.if-wanted.false)
-
-pub step_on-requires : goal.step_on-requires
-step_on-requires c =
-    record { pairs = pairs-length c.requires.marks c.loop-at.invariant.1; versions = c.requires.marks.versions }
-
-pub loop-at-smaller : goal.loop-at-smaller
-loop-at-smaller c = let k = c.in_ok-output.ensures in omega (arith, k.1.6, k.1.7, k.4)
 
 pub loop-at-preserved : goal.loop-at-preserved
 loop-at-preserved c =

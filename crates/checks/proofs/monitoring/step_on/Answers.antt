@@ -1,6 +1,5 @@
 -- `checks::monitoring::step_on` meets its contract: the next versions of the pairs before i have
 -- been moved, those from i on are as before.
-use mathlib.Core.Path.{refl}
 use Prim.Native.Nat.{◌+◌}
 use native.Mathlib.Omega.{arith}
 use Rattle.inputs.proofs.PairLaws.{version_within}

@@ -2,7 +2,6 @@
 use mathlib.Core.Path.{◌≡◌, refl, ◌∙◌}
 use native.Mathlib.Omega.{arith}
 use lib.ListN.{take}
-use Rattle.hash.specs.Bytes.{padded}
 use Rattle.hash.proofs.BytesLaws.{filled_front, part_count}
 use Rattle.tree.specs.Ladder.{ladder}
 use Rattle.tree.proofs.LadderFillLaws.{within_some}
@@ -15,13 +14,13 @@ slice_bounds-ladder-end c = (filled_front _ _ _ _ c.of-whole.ensures).1
 pub slice_bounds-entries_asked-end : goal.slice_bounds-entries_asked-end
 slice_bounds-entries_asked-end c = part_count _ _ (filled_front _ _ _ _ c.of-whole.ensures).1
 
-pub entries_asked-requires : goal.entries_asked-requires
-entries_asked-requires c =
-    let p = c.requires.possible in
-    let e = c.of.ensures in
-    let l = part_short c.args.text.now c.args.call.response.entries.part _ p.triable.short in
-    let f = p.triable.offsets.3 in
-    record { lines = rw e f.entries; loose = rw e f.none_loose; short = rw e l; many = p.largest; pairs = (no_pairs, refl) }
+pub entries_asked-requires-clause-short : goal.entries_asked-requires-clause-short
+entries_asked-requires-clause-short c =
+    rw c.of.ensures
+    (part_short c.args.text.now c.args.call.response.entries.part _ c.requires.possible.triable.short)
+
+pub entries_asked-requires-clause-pairs : goal.entries_asked-requires-clause-pairs
+entries_asked-requires-clause-pairs c = (no_pairs, refl)
 
 pub returns-in_err-timestamps : goal.returns-in_err-timestamps
 returns-in_err-timestamps c =
@@ -37,15 +36,15 @@ slice_bounds-ladder-end-2 c = (filled_front _ _ _ _ c.of-whole.ensures).1
 pub slice_bounds-search_steps-end : goal.slice_bounds-search_steps-end
 slice_bounds-search_steps-end c = part_count _ _ (filled_front _ _ _ _ c.of-whole.ensures).1
 
-pub search_steps-requires : goal.search_steps-requires
-search_steps-requires c =
-    let p = c.requires.possible in
-    let e = c.of-2.ensures in
-    let l = part_short c.args.text.now c.args.call.response.steps.part _ p.triable.short in
-    let wanted : take c.of-whole.result.length c.of-whole.result.versions ≡ ladder c.args.call.response.target.version =
-    let v0 = target_version _ _ _ c.requires.kind p.triable.target in
-    (filled_front _ _ _ _ c.of-whole.ensures).0 ∙ within_some c.args.call.response.target.version (omega (arith, v0)) in
-    record { lines = rw e p.triable.offsets.3.steps; short = rw e l; ladder = wanted; outputs = p.triable.outputs }
+pub search_steps-requires-clause-short : goal.search_steps-requires-clause-short
+search_steps-requires-clause-short c =
+    rw c.of-2.ensures
+    (part_short c.args.text.now c.args.call.response.steps.part _ c.requires.possible.triable.short)
+
+pub search_steps-requires-clause-ladder : goal.search_steps-requires-clause-ladder
+search_steps-requires-clause-ladder c =
+    let v0 = target_version _ _ _ c.requires.kind c.requires.possible.triable.target in
+    (filled_front _ _ _ _ c.of-whole.ensures).0 ∙ within_some c.args.call.response.target.version (omega (arith, v0))
 
 pub returns-in_err-outputs : goal.returns-in_err-outputs
 returns-in_err-outputs c =

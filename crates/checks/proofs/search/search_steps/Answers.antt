@@ -8,11 +8,6 @@ use Rattle.checks.proofs.search.search_steps.Goals as goal
 pub loop-v-init : goal.loop-v-init
 loop-v-init c = (omega arith, ladder_start _ _ _ _ _ c.requires.ladder (search rules) c.requires.lines)
 
-pub wanted_step-requires : goal.wanted_step-requires
-wanted_step-requires c =
-    let i = c.loop-v.invariant in
-    record { lines = i.1.lines; within = i.0; short = c.requires.short; outputs = c.requires.outputs }
-
 pub returns-in_err-output : goal.returns-in_err-output
 returns-in_err-output c =
     rw c.from_residual.ensures

@@ -1,21 +1,26 @@
 -- `inputs::state_writer::put_keeps` meets its contract: the lines of the values so far are written,
 -- and those of the values that are left follow them.
 use mathlib.Core.Path.{◌≡◌, ◌∙◌}
-use Prim.Native.Nat.{◌*◌}
+use Prim.Native.Nat.{◌*◌, ◌/◌}
 use native.Mathlib.Omega.{arith}
-use lib.ListN.{take}
+use lib.ListN.{length}
+use Rattle.lists.specs.Lists.{runs}
 use Rattle.rules.specs.Limits.{hash_length}
 use Rattle.rules.specs.StateText.{write_keep}
-use Rattle.inputs.proofs.StateWriterLaws.{values_start, values_next, values_end}
+use Rattle.inputs.proofs.StateWriterLaws.{values_next, values_end, texts-start}
 use Rattle.inputs.proofs.StateWriterLaws.{texts-room, texts-step, texts-end}
 use Rattle.inputs.proofs.state_writer.put_keeps.Goals as goal
 
 pub loop-value-init : goal.loop-value-init
 loop-value-init c =
     let a = c.args in
+    let s = a.values.now in
     let z : c.into_iter-value-iterator.result.size ≡ hash_length = cc in
-    let r : c.into_iter-value-iterator.result.rest.now ≡ take (hash_length * a.count) a.values.now = cc in
-    (z, rw r (values_start a.out.now a.at a.count a.values.now c.requires.values c.requires.room))
+    let r : c.into_iter-value-iterator.result.rest.now ≡ s = cc in
+    let vs = runs (length s / hash_length) hash_length s in
+    let whole : length s ≡ hash_length * (length s / hash_length) = omega (arith, c.requires.whole) in
+    let start = texts-start write_keep vs a.out.now a.at c.requires.room in
+    (z, rw r (record { left = length s / hash_length; whole = whole; texts = start }))
 
 pub put_keep-offset-requires : goal.put_keep-offset-requires
 put_keep-offset-requires c =
