@@ -1,6 +1,6 @@
 -- `checks::request::version_fits` meets its contract: no version of the map before i is above this
 -- one, so those from i on decide.
-use mathlib.Core.Path.{refl, sym, ◌∙◌}
+use mathlib.Core.Path.{sym, ◌∙◌}
 use mathlib.Core.Bool.{true, false}
 use borrow.Author.Tests.{lt-ltb, le-ltb}
 use Rattle.checks.proofs.RequestLaws.{any_next, any-stops, any-ends, versions-decide}
