@@ -81,7 +81,7 @@ overflow_mul-result c =
     let value = answer_short (asked_kind a.asked) given a.signed_text.now (length a.output.now) c.state_in-held.result c.judge.result c.judge.ensures.answer _ c.in-Ok.is in
     omega (arith, value, c.length_found-value.ensures)
 
-pub overflow_mul-result-in-Ok : goal.overflow_mul-result-2
+pub overflow_mul-result-in-Ok : goal.overflow_mul-result-in-Ok
 overflow_mul-result-in-Ok c =
     let w = c.write_state-text in
     let text = text_short c.in-Ok.accepted.state c.args.new_state.now w.result w.ensures.answer in
