@@ -7,9 +7,9 @@ use mathlib.Core.Option
 use mathlib.Core.Option.{Option, none, some, Option-elim, get_or, some-injective}
 use Prim.Native.Nat.{ℕ, ◌≤◌, ◌<◌}
 use native.Mathlib.Omega.{arith}
-use lib.Dec.{leb, ltb}
+use lib.Dec.{ltb}
 use lib.ListN.{length, take, length-take}
-use borrow.Author.Tests.{le-leb, lt-ltb, le-ltb, leb-true, leb-false}
+use borrow.Author.Tests.{lt-ltb, le-ltb}
 use Rattle.std.specs.Prelude.{Option as CodeOption, Some, None, Ok, Err, Result, is_ok}
 use Rattle.std.specs.Result.{result_unwrap_or}
 use Rattle.lists.specs.Choice.{choose, is_some}
@@ -34,7 +34,6 @@ use Rattle.inputs.specs.declared.state.MonitoringMap.{MonitoringMap}
 use Rattle.inputs.specs.declared.state.State.{State as StateBlock}
 use Rattle.inputs.specs.declared.refusal.Refusal.{Refusal}
 use Rattle.inputs.specs.declared.refusal.Refusal.TheVariants.{Room}
-use Rattle.inputs.specs.Refusal.{refusal_number}
 use Rattle.inputs.specs.Response.{parts_in}
 use Rattle.inputs.specs.State.{block_of, contents, map_in}
 use Rattle.inputs.proofs.FrontLaws.{offset-fits, offset-over}
@@ -190,11 +189,6 @@ answer_found Monitor version n new h = rw (h refl) refl
 -- ---- the new map
 
 module _ (kind : Kind) (n : ℕ) (m : MonitoringMap) (position version : ℕ) where
-  -- of a search, with its pair
-  pub search-new : (r : CodeOption MonitoringMap) → kind ≡ Search → HoldsIfRoom (put_version position version (pairs_in m)) r
-      → IsNewMap kind n m position version r
-  search-new r e h = rw e h
-
   -- of monitoring, moved
   pub monitoring-new : (r : MonitoringMap) → IsMap m → kind ≡ Monitor
       → Holds (map_after_monitoring n (pairs_in m)) r → IsNewMap kind n m position version (Some r)

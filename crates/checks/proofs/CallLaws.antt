@@ -1,12 +1,11 @@
 -- Laws of a whole call (specs/Calls.antt): what it is given is read, and then tried; and what comes
 -- back.
-use mathlib.Core.Path.{◌≡◌, refl, sym, ap, ◌∙◌}
-use mathlib.Core.Option.{Option, some, Option-elim, get_or}
+use mathlib.Core.Path.{◌≡◌, refl}
+use mathlib.Core.Option.{Option, some, Option-elim}
 use Prim.Native.Nat.{ℕ, ◌+◌}
 use lib.ListN.{length, take, drop}
 use lib.Seq.{take_at}
 use Rattle.lists.specs.Lists.{Bytes, written}
-use Rattle.rules.specs.Limits.{response_limit}
 use Rattle.rules.specs.Response.{Kind}
 use Rattle.rules.specs.Refusals.{Inputs, Judgement, refused, passed, judge}
 use Rattle.rules.specs.Calls.{Arguments, library_inputs, judge_call, next_state, state_after, value_of}

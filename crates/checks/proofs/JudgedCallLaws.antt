@@ -30,13 +30,12 @@ use Rattle.inputs.specs.declared.response_lines.Kind.{Kind}
 use Rattle.inputs.specs.declared.response_lines.Kind.TheVariants.{Search, Monitor}
 use Rattle.inputs.specs.declared.refusal.Refusal.{Refusal}
 use Rattle.inputs.specs.declared.refusal.Refusal.TheVariants.{Ladder as LadderFails}
-use Rattle.inputs.specs.Refusal.{refusal_number, number_in}
 use Rattle.inputs.specs.ResponseLines.{decoded}
 use Rattle.inputs.specs.Response.{entries_in, loose_in, parts_in}
 use Rattle.checks.specs.declared.readings.Call.{Call as CallBlock}
 use Rattle.checks.specs.declared.sought.Sought.{Sought}
 use Rattle.checks.specs.declared.lookups.Results.{Results}
-use Rattle.checks.specs.Calls.{offset_bound, IsCall, steps_text, entries_text, number_tried, rules12and13}
+use Rattle.checks.specs.Calls.{offset_bound, IsCall, steps_text, entries_text, rules12and13}
 use Rattle.checks.specs.Calls.{Tells, TargetFits, Triable, IsFirst, IsJudged}
 use Rattle.checks.specs.Sections.{EntryLines}
 use Rattle.checks.specs.Steps.{CommitmentsBy}

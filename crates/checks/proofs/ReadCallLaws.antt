@@ -2,27 +2,25 @@
 -- on what they let pass.
 use mathlib.Core.Path.{◌≡◌, refl, sym, ap, ◌∙◌}
 use mathlib.Core.Bool.{Bool, true, false}
-use mathlib.Core.List.{[], ◌++◌}
-use mathlib.Core.Option.{Option}
+use mathlib.Core.List.{◌++◌}
 use Prim.Native.Nat.{ℕ}
 use native.Mathlib.Omega.{arith}
 use lib.Count.{ones}
-use lib.ListN.{length, take}
+use lib.ListN.{length}
 use Rattle.std.specs.Prelude.{Option as CodeOption, Ok, Err, Result}
 use Rattle.lists.specs.Lists.{Bytes, same, runs}
 use Rattle.rules.specs.Limits.{response_limit, hash_length}
 use Rattle.rules.specs.Configuration.{tree_head}
 use Rattle.rules.specs.State.{State}
-use Rattle.rules.specs.Response.{Kind}
 use Rattle.rules.specs.Refusals.{Inputs, Call, Judgement, refused, passed, tried, tried_after, read_call, checks}
 use Rattle.rules.specs.Refusals.{last_checks, judge, judge_without_head}
-use Rattle.rules.specs.Calls.{number_of, inputs_within, library_inputs, judge_call, output_after}
+use Rattle.rules.specs.Calls.{inputs_within, library_inputs, judge_call, output_after}
 use Rattle.rules.proofs.RefusalLaws.{passes, number_refused, tried_append}
 use Rattle.inputs.specs.declared.refusal.Refusal.{Refusal}
 use Rattle.inputs.specs.declared.refusal.Refusal.TheVariants.{SignedText}
 use Rattle.inputs.specs.declared.response_lines.Kind.{Kind as KindBlock}
 use Rattle.inputs.specs.declared.state.State.{State as StateBlock}
-use Rattle.inputs.specs.Refusal.{refusal_number, number_in}
+use Rattle.inputs.specs.Refusal.{refusal_number}
 use Rattle.inputs.specs.State.{state_of, contents, label_in, log_in, map_in}
 use Rattle.checks.specs.declared.call.Accepted.{Accepted}
 use Rattle.checks.specs.declared.readings.Call.{Call as CallBlock}
@@ -31,7 +29,7 @@ use Rattle.checks.specs.declared.trial.Checked.{Checked}
 use Rattle.checks.specs.declared.trial.Passed.{Passed as PassedBlock}
 use Rattle.checks.specs.Calls.{asked_kind, arguments_of, answer_of, answer_from, number_tried, rules16, IsGiven}
 use Rattle.checks.specs.Calls.{IsReading, Tells, Checkable, Is6to13Tried, Is14Tried, Is1to14Tried, Leaves}
-use Rattle.checks.specs.Calls.{Accepting, IsAcceptedAnswer, AreAcceptedBytes, Readable}
+use Rattle.checks.specs.Calls.{Accepting, IsAcceptedAnswer, AreAcceptedBytes}
 use Rattle.checks.proofs.TrialLaws.{Numbered, none_applies, refusal_numbered}
 use Rattle.checks.proofs.Trial6to14Laws.{lines-refused, lines-passed}
 use Rattle.checks.proofs.StateStructLaws.{stands_for}

@@ -12,13 +12,13 @@ use Rattle.lists.specs.Choice.{provided, is_some}
 use Rattle.lists.specs.Lists.{Bytes}
 use Rattle.lists.proofs.ChoiceLaws.{given_some, given_none, provided_some}
 use Rattle.lists.proofs.ListLaws.{every_cons}
-use Rattle.rules.specs.Limits.{response_limit, vrf_outputs_limit, identifier_length}
+use Rattle.rules.specs.Limits.{vrf_outputs_limit, identifier_length}
 use Rattle.rules.specs.Configuration.{Configuration, read_configuration}
 use Rattle.rules.specs.VrfOutputs.{VrfOutput, read_outputs}
 use Rattle.rules.specs.State.{State}
 use Rattle.rules.specs.Response.{Kind, Parts}
 use Rattle.rules.specs.ResponseText.{read_response}
-use Rattle.rules.specs.Refusals.{Inputs, Call, refused, passed, reading, lengths_fit, valid_state}
+use Rattle.rules.specs.Refusals.{Inputs, refused, passed, reading, lengths_fit, valid_state}
 use Rattle.rules.specs.Refusals.{read_call}
 use Rattle.rules.specs.Calls.{inputs_within}
 use Rattle.rules.proofs.RefusalLaws.{valid_some}
@@ -34,7 +34,6 @@ use Rattle.std.specs.Option.{ok_or}
 use Rattle.inputs.specs.declared.refusal.Refusal.{Refusal}
 use Rattle.inputs.specs.declared.refusal.Refusal.TheVariants.{Length, Configuration as NoConfiguration}
 use Rattle.inputs.specs.declared.refusal.Refusal.TheVariants.{State as NoState, VrfOutputs as NoOutputs, Lines as NoLines}
-use Rattle.inputs.specs.Refusal.{refusal_number}
 use Rattle.checks.specs.Calls.{arguments_of, are_lengths_fit, offset_bound, IsReadCall}
 
 -- ---- what is given is read

@@ -5,11 +5,10 @@ use mathlib.Core.Bool.{Bool, true, false, not, ◌||◌, not-not}
 use mathlib.Core.List.{List, [], ◌∷◌}
 use mathlib.Core.Option.{Option, Option-elim, none, some, none-ne-some}
 use Prim.Native.Nat.{ℕ, ◌+◌, ◌≤◌, ◌<◌}
-use native.Mathlib.Decide.{dec_lt}
 use native.Mathlib.Omega.{arith}
-use lib.Dec.{eqb, leb, ltb}
+use lib.Dec.{eqb, ltb}
 use lib.ListN.{length, take, drop, get_or, replicate, length-replicate}
-use borrow.Author.Tests.{lt-ltb, le-ltb, ltb-false, lt-leb, le-leb, eq-eqb, ne_eqb, not-true, not-false}
+use borrow.Author.Tests.{le-ltb, ltb-false, not-true, not-false}
 use Rattle.lists.specs.Choice.{is_some}
 use Rattle.lists.specs.Lists.{Bytes, any, same}
 use Rattle.lists.proofs.ChoiceLaws.{given_some, or_fails}
@@ -153,23 +152,6 @@ size_test : (text : Bytes) (r : Response) (size : ℕ) (c : Call) → c.parts �
 unfolding size_wrong parts_in
 size_test text r size c p s = rw (p, s) refl
 
-module _ (size kept : ℕ) where
-  -- 0 is no size
-  pub size-zero : size ≡ 0 → false ≡ not (eqb size 0 || ltb tree_size_limit size || ltb size kept)
-  size-zero e = rw (eq-eqb size 0 e) refl
-
-  -- a size that is too large
-  pub size-large : (size ≡ 0 → ⊥) → tree_size_limit < size → false ≡ not (eqb size 0 || ltb tree_size_limit size || ltb size kept)
-  size-large n h = rw (ne_eqb size 0 n, lt-ltb tree_size_limit size h) refl
-
-  -- of others the kept size decides
-  pub kept-decides : (size ≡ 0 → ⊥) → size ≤ tree_size_limit → leb kept size ≡ not (eqb size 0 || ltb tree_size_limit size || ltb size kept)
-  kept-decides n h = rw (ne_eqb size 0 n, le-ltb tree_size_limit size h) (go (dec_lt size kept))
-    where
-      go : Dec (size < kept) → leb kept size ≡ not (ltb size kept)
-      go (yes p) = lt-leb kept size p ∙ ap not (sym (lt-ltb size kept p))
-      go (no p) = le-leb kept size (omega arith) ∙ ap not (sym (le-ltb size kept (omega arith)))
-
 -- ---- 8: the version
 
 -- what was found is of the kind of the response, with its version
@@ -234,10 +216,6 @@ module _ (f : ℕ → Bool) (xs : List ℕ) (i : ℕ) where
   any-ends h = rw (at_end xs i h) refl
 
 module _ (version : ℕ) (vs : List ℕ) where
-  -- a version that can not be searched for
-  pub version-great : greatest_version < version → false ≡ not (ltb greatest_version version || any (λ (v : ℕ). ltb version v) vs)
-  version-great h = rw (lt-ltb greatest_version version h) refl
-
   -- of others those of the map decide
   pub versions-decide : (b : Bool) → version ≤ greatest_version → any (λ (v : ℕ). ltb version v) vs ≡ b
       → not b ≡ not (ltb greatest_version version || any (λ (v : ℕ). ltb version v) vs)

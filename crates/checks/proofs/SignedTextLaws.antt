@@ -1,7 +1,6 @@
 -- Laws of the signed text: what the call is given is read, then tried, and the text of a call that
 -- passes is placed.
-use mathlib.Core.Path.{◌≡◌, refl, sym, ap, ◌∙◌}
-use mathlib.Core.Bool.{Bool}
+use mathlib.Core.Path.{◌≡◌, refl}
 use mathlib.Core.List.{[]}
 use mathlib.Core.Option.{none}
 use Prim.Native.Nat.{ℕ, zero, suc, ◌+◌}
@@ -10,12 +9,11 @@ use lib.ListN.{length}
 use Rattle.std.specs.Prelude.{Option as CodeOption, Ok, Err, Result, is_ok}
 use Rattle.lists.specs.Lists.{Bytes}
 use Rattle.rules.specs.Configuration.{tree_head}
-use Rattle.rules.specs.Refusals.{Judgement, refused, passed, tree_head_of}
+use Rattle.rules.specs.Refusals.{Judgement, tree_head_of}
 use Rattle.rules.specs.Calls.{judge_unsigned, placed, signed_text_after, kind_numbered}
 use Rattle.inputs.specs.declared.refusal.Refusal.{Refusal}
 use Rattle.inputs.specs.declared.response_lines.Kind.{Kind as KindBlock}
 use Rattle.inputs.specs.declared.state.State.{State as StateBlock}
-use Rattle.inputs.specs.Refusal.{refusal_number}
 use Rattle.inputs.specs.State.{state_of}
 use Rattle.checks.specs.declared.trial.Passed.{Passed as PassedBlock}
 use Rattle.checks.specs.Calls.{asked_kind, arguments_of, length_in, is_placed, Is1to14Tried}

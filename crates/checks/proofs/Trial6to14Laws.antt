@@ -30,7 +30,7 @@ use Rattle.inputs.proofs.PairLaws.{map_versions}
 use Rattle.std.specs.Prelude.{Option as CodeOption, Ok, Err, Result}
 use Rattle.inputs.specs.declared.refusal.Refusal.{Refusal}
 use Rattle.inputs.specs.declared.refusal.Refusal.TheVariants.{FullSubtree}
-use Rattle.inputs.specs.Refusal.{refusal_number, number_in}
+use Rattle.inputs.specs.Refusal.{refusal_number}
 use Rattle.checks.specs.declared.readings.Call.{Call as CallBlock}
 use Rattle.checks.specs.declared.trial.Tried.{Tried}
 use Rattle.checks.specs.declared.trial.Checked.{Checked}

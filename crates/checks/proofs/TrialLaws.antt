@@ -11,12 +11,12 @@ use Rattle.rules.specs.Refusals.{Call, Judgement, refused, passed, Rule, rule, t
 use Rattle.rules.specs.Calls.{number_of}
 use Rattle.rules.proofs.RefusalLaws.{NoneApplies, FirstApplies, Tried, tried_meaning, tried_append}
 use Rattle.rules.proofs.RefusalLaws.{rest_tried, number_refused}
-use Rattle.std.specs.Prelude.{Ok, Err, Result}
+use Rattle.std.specs.Prelude.{Err, Result}
 use Rattle.inputs.specs.declared.refusal.Refusal.{Refusal}
 use Rattle.inputs.specs.declared.refusal.Refusal.TheVariants.{Length, Configuration, State, VrfOutputs, Lines}
 use Rattle.inputs.specs.declared.refusal.Refusal.TheVariants.{Request, TreeSize, Target, Shape, MissingOutput, Time}
 use Rattle.inputs.specs.declared.refusal.Refusal.TheVariants.{Lookup, Ladder, FullSubtree, SignedText, Room}
-use Rattle.inputs.specs.Refusal.{refusal_number, number_in}
+use Rattle.inputs.specs.Refusal.{refusal_number}
 use Rattle.checks.specs.Calls.{number_tried, Tells}
 
 -- ---- one rule after the other

@@ -31,6 +31,7 @@ pub struct Found {
 // The answer to a response: for the kind of call asked for, a state, the identifier sent, the
 // clock, the VRF outputs and the signed text that the chip approved. The value that a search found
 // is written to the first output bytes.
+// Its arguments stand one by one, as C gives them: in a struct they would be taken apart at once.
 pub fn judge(
     asked: Option<Kind>,
     response: &[u8],

@@ -22,6 +22,7 @@ pub(crate) fn commitment(opening: &[u8], label: &[u8], value: &[u8]) -> [u8; 32]
     ensures { result ≡ commitment_to (decoded opening.now) label.now
         (decoded value.now) }
 {
+    // Buffers as long as the longest field, with a length beside: there is no heap.
     let mut opened = [0u8; Target::OPENING];
     let mut shown = [0u8; Target::VALUE];
     put_decoded(&mut opened, 0, opening);

@@ -159,21 +159,15 @@ fn lookups_shown(entries: &[u8], from: usize, wanted: &[u32]) -> LookupsShown
     let mut at = from;
     let mut count: usize = 0;
     let mut begin = true;
-    loop {
-        match next_lookup(entries, at) {
-            Some((stop, next)) => {
-                begin &= is_at(wanted, count, lookup_version(&entries[at..stop]));
-                count += 1;
-                at = next;
-            }
-            None => {
-                return LookupsShown {
-                    begin,
-                    count,
-                    next: at,
-                };
-            }
-        }
+    while let Some((stop, next)) = next_lookup(entries, at) {
+        begin &= is_at(wanted, count, lookup_version(&entries[at..stop]));
+        count += 1;
+        at = next;
+    }
+    LookupsShown {
+        begin,
+        count,
+        next: at,
     }
 }
 

@@ -165,6 +165,7 @@ fn entries_judged(entries: &[u8], sought: Sought) -> Results
 
 impl Results {
     // No entry so far.
+    #[tactic(auto, unfolding(crate::specs::Lookups::no_entries))]
     fn start() -> Results
         ensures { result ≡ no_entries }
     {
@@ -210,6 +211,7 @@ fn lookups_judged(entries: &[u8], from: usize, root: [u8; 32], sought: Sought) -
 
 impl Summary {
     // An entry with a prefix root, and no lookup so far.
+    #[tactic(auto, unfolding(crate::specs::Lookups::no_lookups))]
     fn start(root: [u8; 32]) -> Summary
         ensures { result ≡ no_lookups root }
     {

@@ -4,6 +4,7 @@ ghost use Rattle.rules.specs.Monitoring.{map_after_monitoring};
 ghost use Rattle.checks.specs.Map.{IsMap, Holds, HoldsIfRoom, put_version, pairs_in, version_at};
 
 use inputs::state::{MonitoringMap, State};
+use std::mem;
 use tree::search_tree::last_right_ancestor;
 
 // The map with a version at a position, over a version that stands there; none where there is no
@@ -18,9 +19,7 @@ pub(crate) fn with_pair(map: MonitoringMap, position: u64, version: u32) -> Opti
     let mut carried = position;
     let mut carried_version = version;
     for i in 0..count {
-        let there = positions[i];
-        let there_version = versions[i];
-        if there == carried {
+        if positions[i] == carried {
             versions[i] = carried_version;
             return Some(MonitoringMap {
                 positions,
@@ -28,11 +27,9 @@ pub(crate) fn with_pair(map: MonitoringMap, position: u64, version: u32) -> Opti
                 count,
             });
         }
-        if carried < there {
-            positions[i] = carried;
-            versions[i] = carried_version;
-            carried = there;
-            carried_version = there_version;
+        if carried < positions[i] {
+            mem::swap(&mut positions[i], &mut carried);
+            mem::swap(&mut versions[i], &mut carried_version);
         }
     }
     if count == State::PAIRS {

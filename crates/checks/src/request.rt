@@ -20,6 +20,7 @@ use tree::log_head::LogHead;
 
 // Whether no input is too long, a response being limited to so many bytes, and the identifier has
 // its length.
+#[tactic(auto, unfolding(lists::specs::Lists::every))]
 pub(crate) fn lengths_fit(
     limit: usize,
     response: &[u8],
@@ -152,6 +153,7 @@ fn decodes(field: &[u8], bytes: &[u8]) -> bool
     ensures { result ≡ Option-elim (read_hex field.now) false
         (λ (b : Bytes). same b bytes.now) }
 {
+    // A buffer as long as the longest label: there is no heap.
     let mut room = [0u8; State::LABEL];
     match put_decoded(&mut room, 0, field) {
         Some(stop) => &room[..stop] == bytes,

@@ -23,13 +23,6 @@ slice_bounds-committed-end c =
     c.put_decoded-2.ensures.offset _ c.unwrap_or-length.ensures in
     l ∙ sym (ap length shown)
 
-pub committed-requires : goal.committed-requires
-committed-requires c =
-    let (_, _, shown) =
-    decoded-front value_limit c.args.value.now c.requires.value _ c.put_decoded-2.ensures.bytes _
-    c.put_decoded-2.ensures.offset _ c.unwrap_or-length.ensures in
-    record { label = c.requires.label; value = rw shown c.requires.value }
-
 pub returns : goal.returns
 returns c =
     let o = decoded c.args.opening.now in

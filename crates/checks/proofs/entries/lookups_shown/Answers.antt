@@ -8,5 +8,5 @@ loop-stop-preserved c =
     let i = c.loop-stop.invariant in
     compared-next _ _ _ _ _ _ i _ _ c.in-Some.ensures _ c.lookup_version.ensures _ c.is_at-begin.ensures
 
-pub returns-in-None-clause-begin : goal.returns-in-None-clause-begin
-returns-in-None-clause-begin c = (compared-all _ _ _ _ _ _ c.loop-stop.invariant c.in-None.ensures).0
+pub returns-clause-begin : goal.returns-clause-begin
+returns-clause-begin c = (compared-all _ _ _ _ _ _ c.loop-stop.invariant c.in_default.ensures).0

@@ -1,16 +1,10 @@
 -- `checks::request::version_fits` meets its contract: no version of the map before i is above this
 -- one, so those from i on decide.
-use mathlib.Core.Path.{refl, sym, ◌∙◌}
+use mathlib.Core.Path.{sym, ◌∙◌}
 use mathlib.Core.Bool.{true, false}
 use borrow.Author.Tests.{lt-ltb, le-ltb}
-use Rattle.checks.proofs.RequestLaws.{any_next, any-stops, any-ends, version-great, versions-decide}
+use Rattle.checks.proofs.RequestLaws.{any_next, any-stops, any-ends, versions-decide}
 use Rattle.checks.proofs.request.version_fits.Goals as goal
-
-pub returns-then-version-gt-GREATEST_VERSION : goal.returns-then-version-gt-GREATEST_VERSION
-returns-then-version-gt-GREATEST_VERSION c = version-great _ _ c.if-version-gt-GREATEST_VERSION.true
-
-pub loop-other-init : goal.loop-other-init
-loop-other-init c = refl
 
 pub returns-then-version-other : goal.returns-then-version-other
 returns-then-version-other c = versions-decide _ _ true c.if-version-gt-GREATEST_VERSION.false (sym c.loop-other.invariant ∙ any-stops _ _ _ c.loop-other-test.true (lt-ltb _ _ c.if-version-other.true))

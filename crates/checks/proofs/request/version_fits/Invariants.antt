@@ -1,9 +1,9 @@
 -- `checks::given::version_fits` meets its contract: no version of the map before i is above this
 -- one, so those from i on decide.
 use mathlib.Core.Path.{◌≡◌}
-use Prim.Native.Nat.{ℕ, ◌-◌}
+use Prim.Native.Nat.{ℕ}
 use lib.Dec.{ltb}
-use lib.ListN.{length, drop}
+use lib.ListN.{drop}
 use Rattle.lists.specs.Lists.{any}
 use Rattle.checks.proofs.request.version_fits.Given as goal
 

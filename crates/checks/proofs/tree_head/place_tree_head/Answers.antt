@@ -1,10 +1,8 @@
 -- `checks::tree_head::place_tree_head` meets its contract: where there is room from the offset on,
 -- the text is written there.
 use mathlib.Core.Path.{◌≡◌, sym, ◌∙◌}
-use Prim.Native.Nat.{◌+◌, ◌≤◌}
 use native.Mathlib.Omega.{arith}
 use lib.ListN.{length, length-drop}
-use Rattle.hash.proofs.BytesLaws.{tail_part}
 use Rattle.rules.specs.Configuration.{tree_head}
 use Rattle.rules.specs.Limits.{hash_length}
 use Rattle.rules.proofs.ConfigurationLaws.{head_length}

@@ -3,10 +3,7 @@
 use mathlib.Core.Path.{◌≡◌}
 use mathlib.Core.List.{[]}
 use borrow.Author.Rules.{rules}
-use Rattle.std.specs.Prelude.{Ok, Err}
-use Rattle.rules.specs.Limits.{response_limit}
-use Rattle.inputs.specs.State.{state_of}
-use Rattle.checks.specs.Calls.{IsReading, Checkable}
+use Rattle.std.specs.Prelude.{Err}
 use Rattle.checks.proofs.ReadingsLaws.{log_kept}
 use Rattle.checks.proofs.StateStructLaws.{struct_checkable}
 use Rattle.checks.proofs.ReadCallLaws.{reading-refused, state-refused, walk-refused, walk-passed}

@@ -1,8 +1,7 @@
 -- `checks::trial::try_6_to_13` meets its contract: 6 to 8 are tried, and 9 to 13 on what they let
 -- pass.
-use mathlib.Core.Path.{◌≡◌, sym, ap}
+use mathlib.Core.Path.{◌≡◌, ap}
 use native.Mathlib.Omega.{arith}
-use lib.Seq.{length-take-le}
 use borrow.Author.Rules.{rules}
 use Rattle.std.specs.Prelude.{Err}
 use Rattle.inputs.specs.Refusal.{number_in}
