@@ -43,7 +43,7 @@ use Rattle.verifier.specs.Request.{request_in}
 use Rattle.verifier.specs.declared.files.Outcome.{Outcome}
 use Rattle.verifier.specs.Files.{file_read, files_read, Outcome as Numbers, outcome_of, accepted_outcome, outcome_in, are_within, length_found}
 use Rattle.verifier.specs.Files.{Left, IsRefusal}
-use Rattle.verifier.specs.Files.{accepted_line, version_field}
+use Rattle.verifier.specs.Files.{accepted_line}
 
 -- what is written from byte 0 on stops at its length
 stop_at : (line text line' : Bytes) (stop : ℕ) → Wrote line 0 text stop line' → stop ≡ length text

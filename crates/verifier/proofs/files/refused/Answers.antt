@@ -1,5 +1,4 @@
 -- `verifier::files::refused` meets its contract: the line of a refusal is written.
-use Rattle.lists.specs.Lists.{Bytes}
 use Rattle.verifier.proofs.FilesLaws.{refusal_written}
 use Rattle.verifier.proofs.files.refused.Goals as goal
 

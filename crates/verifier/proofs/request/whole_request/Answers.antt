@@ -1,7 +1,6 @@
 -- `verifier::request::whole_request` meets its contract: there is one line; its word tells the kind,
 -- and the other fields are left to `with_fields`.
 use mathlib.Core.Path.{sym, subst}
-use native.Mathlib.Omega.{arith}
 use borrow.Author.Rules.{rules}
 use Rattle.lines.specs.Number.{ascii}
 use Rattle.lines.proofs.SectionLaws.{line_here}
