@@ -23,14 +23,18 @@ pub(crate) fn ended_lines(text: &[u8]) -> EndedLines
     let mut at: usize = 0;
     loop {
         let read = read_on(text, at);
-        if read.line.is_none() {
-            return EndedLines {
-                count,
-                offset: read.offset,
-                left: read.left,
-            };
+        match read.line {
+            Some(_) => {
+                count += 1;
+                at = read.offset;
+            }
+            None => {
+                return EndedLines {
+                    count,
+                    offset: read.offset,
+                    left: read.left,
+                };
+            }
         }
-        count += 1;
-        at = read.offset;
     }
 }

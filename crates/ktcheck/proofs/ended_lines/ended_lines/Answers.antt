@@ -1,24 +1,24 @@
-use Rattle.std.proofs.Common.{◌∙◌, sym, ap, subst, length, length-drop, arith}
-use Rattle.lines.specs.Readings.{line_of}
+use Rattle.std.proofs.Common.{ℕ, ◌∙◌, sym, ap, subst, length, length-drop, arith}
+use Rattle.lines.specs.Readings.{read_of}
 use Rattle.lines.proofs.SectionLaws.{LineHere, line_here, line_none}
 use Rattle.verifier.proofs.ReadOnLaws.{read_line_lem, read-offset, read_stays, read_left}
 use Rattle.ktcheck.proofs.ended_lines.ended_lines.Goals as goal
 
 -- the line at the offset, after which the reader goes
-here : (c : goal.In-Ended) → LineHere c.args.text.now c.loop-count.at c.in-Ended.stop c.read_on-read.result.offset
+here : (c : goal.In-Some) → (stop : ℕ) × LineHere c.args.text.now c.loop-count.at stop c.read_on-read.result.offset
 here c =
     let s = c.args.text.now in
     let at = c.loop-count.at in
     let e = c.read_on-read.ensures in
-    let l = sym (read_line_lem s at _ e) ∙ ap line_of c.in-Ended.is in
-    subst (LineHere s at c.in-Ended.stop) (sym (read-offset s at _ e c.in-Ended.stop c.in-Ended.next.at l)) (line_here s at c.in-Ended.stop c.in-Ended.next.at l)
+    let l = sym (read_line_lem s at _ e) ∙ ap read_of c.in-Some.is in
+    (_, subst (LineHere s at _) (sym (read-offset s at _ e _ _ l)) (line_here s at _ _ l))
 
-pub returns-in-Unread : goal.returns-in-Unread
-returns-in-Unread c =
+pub returns-in-None : goal.returns-in-None
+returns-in-None c =
     let s = c.args.text.now in
     let at = c.loop-count.at in
     let e = c.read_on-read.ensures in
-    let l = sym (read_line_lem s at _ e) ∙ ap line_of c.in-Unread.is in
+    let l = sym (read_line_lem s at _ e) ∙ ap read_of c.in-None.is in
     let (f, g) = line_none s at l in
     let p = read_stays s at _ e l in
     let r = read_left s at _ e l in
@@ -30,7 +30,7 @@ returns-in-Unread c =
 
 pub loop-count-preserved : goal.loop-count-preserved
 loop-count-preserved c =
-    let h = here c in
+    let (_, h) = here c in
     let i = c.loop-count.invariant in
     let l = ap length h.lines in
     record {
@@ -41,4 +41,4 @@ loop-count-preserved c =
     }
 
 pub loop-count-smaller : goal.loop-count-smaller
-loop-count-smaller c = let h = here c in omega arith
+loop-count-smaller c = let (_, h) = here c in omega arith

@@ -1,4 +1,5 @@
 -- The line, the value and the text are first bytes of those lent for them.
+use Rattle.std.proofs.Common.{rules, ◌≡◌, length, arith}
 use Rattle.ktcheck.proofs.OutcomeLaws.{line-counted, value-counted, text-counted}
 use Rattle.ktcheck.proofs.outcome.judge.Goals as goal
 
@@ -18,7 +19,10 @@ slice_bounds-accept-end g c =
 
 pub shared_ref_as_front-value : goal.shared_ref_as_front-value
 shared_ref_as_front-value g c =
-    let e = c.check_files-outcome.ensures in (value-counted _ _ e.outcome _ _ _ c.in-Ok.is _ c.in-Some.is e.value).0
+    let e = c.check_files-outcome.ensures in
+    let h = (value-counted _ _ e.outcome _ _ _ c.in-Ok.is _ c.in-Some.is e.value).0 in
+    let l : length c.check_files-outcome.new.value ≡ 1024 = search rules in
+    omega (arith, h, l)
 
 pub slice_bounds-value-end : goal.slice_bounds-value-end
 slice_bounds-value-end g c =
