@@ -61,7 +61,8 @@ module _ (n : ℕ) (ps vs : List ℕ) (x : ℕ) (e : length ps ≡ length vs) wh
   found_all None f = shown_none (versions_reaching n (map_of ps vs) x) f
   found_all (Some pair) (l, f) = (l, shown_some (versions_reaching n (map_of ps vs) x) (get_or vs pair 0) f)
 
-  module _ (i k : ℕ) (z : k ≡ suc i) (l : k ≤ length ps) (r : Bool) (t : r ≡ any (eqb x) (right_ancestors n (get_or ps i 0))) where
+  module _ (i k : ℕ) (z : k ≡ suc i) (l : k ≤ length ps) (r : Bool)
+      (t : r ≡ any (eqb x) (right_ancestors n (get_or ps i 0))) where
     -- the pairs after the i-th
     abbrev behind : List MapEntry
     behind = map_of (drop k ps) (drop k vs)
@@ -74,13 +75,15 @@ module _ (n : ℕ) (ps vs : List ℕ) (x : ℕ) (e : length ps ≡ length vs) wh
     reaching-held : r ≡ true → reaching_from n ps vs x i ≡ get_or vs i 0 ∷ reaching_from n ps vs x k
     unfolding versions_reaching reaches
     reaching-held h =
-        rw from-here (ap versions (select_here (reaches n x) (record { position = get_or ps i 0; version = get_or vs i 0 }) behind (sym t ∙ h)))
+        rw from-here (ap versions
+        (select_here (reaches n x) (record { position = get_or ps i 0; version = get_or vs i 0 }) behind (sym t ∙ h)))
 
     -- any other has not
     reaching-not : r ≡ false → reaching_from n ps vs x i ≡ reaching_from n ps vs x k
     unfolding versions_reaching reaches
     reaching-not h =
-        rw from-here (ap versions (select_later (reaches n x) (record { position = get_or ps i 0; version = get_or vs i 0 }) behind (sym t ∙ h)))
+        rw from-here (ap versions
+        (select_later (reaches n x) (record { position = get_or ps i 0; version = get_or vs i 0 }) behind (sym t ∙ h)))
 
     -- a pair that does not count is passed over
     pub found-past : r ≡ false → (o : CodeOption ℕ) → Found n ps vs x k o → Found n ps vs x i o
@@ -136,7 +139,8 @@ module _ (v : ℕ) (h : v ≤ greatest_version) (all : List ℕ) (a : all ≡ la
     -- past the ladder's last version all are stored
     pub storing-end : length all ≤ i → (array ≡ padded ladder_capacity (not_above v)) × (count ≡ length (not_above v))
     unfolding select
-    storing-end l = filling_end (filling_same (ap (up_to v) (at_end (ladder v) i (omega (arith, ap length is_ladder)))) f)
+    storing-end l =
+        filling_end (filling_same (ap (up_to v) (at_end (ladder v) i (omega (arith, ap length is_ladder)))) f)
 
     module _ (l : i < length all) where
       -- the ladder from its i-th version on
@@ -145,12 +149,15 @@ module _ (v : ℕ) (h : v ≤ greatest_version) (all : List ℕ) (a : all ≡ la
 
       -- a version above v is passed over
       pub storing-past : v < get_or all i 0 → Storing v array count (i + 1)
-      storing-past k = filling_same (ap (up_to v) ladder-from ∙ up_to_later v (get_or all i 0) (drop (i + 1) (ladder v)) k) f
+      storing-past k =
+          filling_same (ap (up_to v) ladder-from ∙ up_to_later v (get_or all i 0) (drop (i + 1) (ladder v)) k) f
 
       module _ (k : get_or all i 0 ≤ v) where
         -- any other is the first that is left
-        storing-here : Filling ladder_capacity (not_above v) array count (get_or all i 0 ∷ up_to v (drop (i + 1) (ladder v)))
-        storing-here = filling_same (ap (up_to v) ladder-from ∙ up_to_here v (get_or all i 0) (drop (i + 1) (ladder v)) k) f
+        storing-here : Filling ladder_capacity (not_above v) array count
+            (get_or all i 0 ∷ up_to v (drop (i + 1) (ladder v)))
+        storing-here =
+            filling_same (ap (up_to v) ladder-from ∙ up_to_here v (get_or all i 0) (drop (i + 1) (ladder v)) k) f
 
         -- there is room for it
         pub storing-room : count < ladder_capacity

@@ -89,7 +89,8 @@ module _ {c : Call} {k : CallBlock} {text outputs : Bytes} (i : IsCall c k text 
   unfolding asked parts_in
   shaped-by =
       ap₂ (λ (r : KindRules) (p : Parts). steps_fit r p.steps && entries_fit r p.entries) known i.parts
-      ∙ ap₂ (λ (a b : Bytes). steps_fit rules (steps_in a) && entries_fit rules (entries_in b)) (sym is_steps) (sym is_entries)
+      ∙ ap₂ (λ (a b : Bytes). steps_fit rules (steps_in a) && entries_fit rules (entries_in b)) (sym is_steps)
+      (sym is_entries)
 
   -- the steps and the entries of the call
   steps-by : c.parts.steps ≡ steps_in st
@@ -126,7 +127,8 @@ module _ {c : Call} {k : CallBlock} {text outputs : Bytes} (i : IsCall c k text 
             ∙ sym (not-not (all (has_output c.outputs) (step_versions c.parts)));
         timestamps =
             t.0 c.state.log i.size i.timestamp
-            ∙ ap (λ (l : List Entry). unfalling (timestamps_of l) && all (timestamp_fits c.state.log) l) (sym entries_by);
+            ∙ ap (λ (l : List Entry). unfalling (timestamps_of l) && all (timestamp_fits c.state.log) l)
+            (sym entries_by);
         timestamp = t.1 ∙ ap (λ (l : List Entry). last_or 0 (timestamps_of l)) (sym entries_by);
         stand = λ g.
             subst (CommitmentsBy (steps_text text k) c.outputs offsets) (sym steps-by)
@@ -146,11 +148,13 @@ module _ {c : Call} {k : CallBlock} {text outputs : Bytes} (i : IsCall c k text 
   search-known = search-rules c (target_in text k.response) (call-found text k.response kind c i.parts)
 
   -- whether its entries, which are those of the frontier, are as asked
-  search_entries : ea ≡ entries_asked is_beginning (asked_by_search c.parts.tree_size k.response.target.version) (entries_in en)
+  search_entries : ea ≡ entries_asked is_beginning (asked_by_search c.parts.tree_size k.response.target.version)
+      (entries_in en)
   unfolding asked_by_search fit_by wanted_by frontier_and_paths parts_in
   search_entries =
       entries
-      ∙ ap₂ (λ (l : List ℕ) (n : ℕ). entries_asked is_beginning (asked_at (λ _. l) (frontier n)) (entries_in en)) is_ladder
+      ∙ ap₂ (λ (l : List ℕ) (n : ℕ). entries_asked is_beginning (asked_at (λ _. l) (frontier n))
+      (entries_in en)) is_ladder
       (sym (ap (λ (p : Parts). p.tree_size) i.parts))
 
   -- its shape, where they are not
@@ -160,7 +164,8 @@ module _ {c : Call} {k : CallBlock} {text outputs : Bytes} (i : IsCall c k text 
 
   module _ (h : ea ≡ true) where
     -- or its steps are not
-    pub search-unasked : Answered st outputs (ladder k.response.target.version) (λ (v : ℕ). ltb v k.response.target.version)
+    pub search-unasked : Answered st outputs (ladder k.response.target.version)
+        (λ (v : ℕ). ltb v k.response.target.version)
         None offsets → HasShape c (steps_text text k) None offsets
     unfolding search_rules
     search-unasked = steps-unasked i search-known is_steps is_entries offsets search_entries h
@@ -181,7 +186,8 @@ monitoring_asks : (n : ℕ) (ps vs : List ℕ) → length ps ≡ length vs → (
     → asked_at (wanted_by Monitor l n ps vs) (frontier_and_paths n ps) ≡ asked_by_monitoring n (map_of ps vs)
 unfolding asked_by_monitoring monitored_positions wanted_by
 monitoring_asks n ps vs e l =
-    ap (λ (qs : List ℕ). asked_at (λ (x : ℕ). versions_shown (versions_reaching n (map_of ps vs) x)) (frontier_and_paths n qs))
+    ap (λ (qs : List ℕ). asked_at (λ (x : ℕ). versions_shown (versions_reaching n (map_of ps vs) x))
+    (frontier_and_paths n qs))
     (sym (map_positions ps vs e))
 
 module _ {c : Call} {k : CallBlock} {text outputs : Bytes} (i : IsCall c k text outputs)
@@ -232,9 +238,11 @@ module _ {c : Call} {k : CallBlock} {text outputs : Bytes} (i : IsCall c k text 
           steps-unasked i monitoring-known is_steps is_entries offsets entries_as_asked h (steps-answered None a)
 
       -- and where both are
-      pub monitoring-shape : (s : Shape) → Answered st outputs (counted marks vs) (λ (v : ℕ). true) (Some s.outputs) offsets
+      pub monitoring-shape : (s : Shape) → Answered st outputs (counted marks vs) (λ (v : ℕ). true)
+          (Some s.outputs) offsets
           → AreTimestamps k.kept_size k.kept_timestamp (entries_in en) s.timestamps
           → HasShape c (steps_text text k) (Some s) offsets
       unfolding monitoring_rules
       monitoring-shape s a =
-          has-shape i monitoring-known is_steps is_entries offsets entries_as_asked h s (steps-answered (Some s.outputs) a)
+          has-shape i monitoring-known is_steps is_entries offsets entries_as_asked h s
+          (steps-answered (Some s.outputs) a)

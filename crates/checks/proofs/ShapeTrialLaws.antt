@@ -121,7 +121,8 @@ module _ {text : Bytes} {k : CallBlock} {ps vs : List ℕ} {outputs : Bytes}
     shape-refused h = told-refused WrongShape λ c i m. number-first 9 not_as_asked _ c
         (nine_parts c ∙ ap (λ (b : Bool). not (b && are_nodes_asked c)) (h c i m))
 
-    module _ {shape : Shape} (h : IsShape text k ps vs outputs (Some shape) offsets) {s : Bytes} {n : ℕ} (is_entries : s ≡ entries_text text k)
+    module _ {shape : Shape} (h : IsShape text k ps vs outputs (Some shape) offsets) {s : Bytes} {n : ℕ}
+        (is_entries : s ≡ entries_text text k)
         (is_asked : n ≡ nodes_asked k.response.tree_size (known_in s k.kept_size []))
       where
         -- then the number of nodes decides
@@ -159,7 +160,8 @@ module _ {text : Bytes} {k : CallBlock} {ps vs : List ℕ} {outputs : Bytes}
                 ∙ number-next 9 not_as_asked _ c (nine-passed c i m)
 
             -- and the times and the clock decide
-            eleven-left : Each (λ c. timestamps_wrong c ≡ not (shape.timestamps.fit && is_near k shape.timestamps.latest))
+            eleven-left : Each (λ c. timestamps_wrong c ≡ not
+                (shape.timestamps.fit && is_near k shape.timestamps.latest))
             eleven-left c i m =
                 eleven_parts i
                 ∙ ap₂ (λ (b : Bool) (t : ℕ). not (b && is_near k t))
@@ -172,7 +174,8 @@ module _ {text : Bytes} {k : CallBlock} {ps vs : List ℕ} {outputs : Bytes}
                 (eleven-left c i m ∙ ap (λ (b : Bool). not (b && is_near k shape.timestamps.latest)) f)
                 ∙ timestamps-left c i m
 
-            module _ (fit : shape.timestamps.fit ≡ true) {b : Bool} (is_clock : b ≡ is_near k shape.timestamps.latest) where
+            module _ (fit : shape.timestamps.fit ≡ true) {b : Bool}
+                (is_clock : b ≡ is_near k shape.timestamps.latest) where
               -- then the clock decides
               clock-left : Each (λ c. timestamps_wrong c ≡ not b)
               clock-left c i m = eleven-left c i m ∙ ap₂ (λ (x y : Bool). not (x && y)) fit (sym is_clock)

@@ -262,7 +262,8 @@ module _ {s outputs : Bytes} {wanted : List ℕ} {f : ℕ → Bool} {left offset
 
     -- otherwise it is one of those read, once its commitment is noted
     pub read_next : {rest offsets' : List ℕ} {b : Bool} → Nodup wanted → length outputs ≤ vrf_outputs_limit
-        → left ≡ n.version ∷ rest → n.committed ≡ f n.version → IsNoted outputs n.version n.commitment offsets b offsets'
+        → left ≡ n.version ∷ rest → n.committed ≡ f n.version
+        → IsNoted outputs n.version n.commitment offsets b offsets'
         → length offsets' ≡ records_capacity → StepsRead s outputs wanted f rest offsets' n.next (there && b)
     read_next {rest} {offsets'} {b} d l e g i z = record {
       done = r.done ++ x ∷ [];

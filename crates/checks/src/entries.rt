@@ -27,10 +27,10 @@ struct LookupsShown {
     next: usize,
 }
 
-// The times of the entries, if these are as asked of a log of so many: the frontier and the right paths of the positions of pairs, of
-// which a search has none. A search looks up a beginning of its ladder in each; monitoring the
-// versions of the pair that counts there, whose mark becomes 0. Positions and versions are no struct,
-// nor are the kept size and time: clauses would take it apart again, by `.entry` and by its fields.
+// The times of the entries, if these are as asked of a log of so many: the frontier and the right
+// paths of the positions of pairs, of which a search has none. A search looks up a beginning of its
+// ladder in each; monitoring the versions of the pair that counts there, whose mark becomes 0.
+// Pairs are no struct, nor are the kept size and time: clauses would take it apart, no plainer.
 pub(crate) fn entries_asked(
     kind: Kind,
     entries: &[u8],

@@ -9,8 +9,8 @@ ghost use Rattle.checks.specs.MonitoredVersions.{not_above, IsLargest};
 use tree::ladder::Ladder;
 use tree::search_tree::is_right_ancestor;
 
-// Stands for no version: it is above all that are looked up. It is no Option, so that the next
-// versions of pairs stay plain numbers, of which the smallest is taken as it stands.
+// Stands for no version: it is above all that are looked up.
+// It is no Option: the smallest of plain numbers is taken as they stand, which is plainer.
 pub(crate) const NONE: u32 = u32::MAX;
 
 // The pair, by its number, with the largest version of those whose right path holds an entry of a

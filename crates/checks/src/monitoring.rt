@@ -17,8 +17,8 @@ use inputs::response_lines::Kind;
 use inputs::state::State;
 
 // What else is told of monitoring that shows what is asked: the frontier and the right paths of the
-// pairs, in each entry the versions of its pair, and all these versions as steps. The offsets of the commitments
-// go into the table lent.
+// pairs, in each entry the versions of its pair, and all these versions as steps. The offsets of
+// the commitments go into the table lent.
 pub(crate) fn monitoring_asked(
     text: &[u8],
     call: Call,

@@ -21,8 +21,8 @@ impl Commitments {
 
 // The step at an offset, if it is of a version wanted and has a commitment exactly where one is
 // wanted: whether there is an output of the version, and the offset of the next step. The offset of
-// the commitment goes into the table lent. The steps, the outputs and the table are no struct: clauses
-// would speak of what stands behind three references in it, which is no plainer.
+// the commitment goes into the table lent.
+// Steps, outputs and table are no struct: clauses would speak of each of its references, no plainer.
 pub(crate) fn wanted_step(
     steps: &[u8],
     at: usize,

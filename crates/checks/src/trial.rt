@@ -197,8 +197,8 @@ fn try_9_to_11(
 }
 
 // What else is told of a response that shows what its kind asks. The offsets of the commitments go
-// into the table lent. Text, call, pairs and outputs are no struct: clauses would speak of each of its
-// references.
+// into the table lent.
+// Text, call, pairs and outputs are no struct: clauses would speak of each of its references.
 fn asked_by_kind(
     text: &[u8],
     call: Call,

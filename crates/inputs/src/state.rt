@@ -105,7 +105,7 @@ impl State {
 
 impl Refused {
     // Refused, with the state of the empty label.
-    pub fn with_empty_state(refusal: Refusal) -> Refused
+    pub(crate) fn with_empty_state(refusal: Refusal) -> Refused
         ensures { result ≡ record { refusal = refusal; state = block_of (empty_state []) } }
     {
         Refused {

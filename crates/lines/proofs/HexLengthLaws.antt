@@ -124,6 +124,14 @@ unfolding dash ascii
 is_dash s d e p q = rw p at (sym (q ∙ slices_same s d))
 
 -- what the code that reads a field's length is proved by
-pub ruleset length_rules =
-    (is_dash, decoded_dash, decoded-empty, decoded-odd, decoded-other, decoded-half, digit-one, digit-other,
-    digits_none)
+pub ruleset length_rules = (
+  is_dash,
+  decoded_dash,
+  decoded-empty,
+  decoded-odd,
+  decoded-other,
+  decoded-half,
+  digit-one,
+  digit-other,
+  digits_none,
+)

@@ -202,6 +202,17 @@ pub ruleset numbers =
     (number_empty, number_zero, number_one, number_many, digits-end, digits-other, digits-beyond, digits_more)
 
 -- what the code that reads values is proved by
-pub ruleset digest_rules =
-    (digest_long, digest_other, digest_some, digit-pair, digit-other, digit-other-second, unhex-pair, unhex-end,
-    digits_none, fill_step, fill_end, length-set)
+pub ruleset digest_rules = (
+  digest_long,
+  digest_other,
+  digest_some,
+  digit-pair,
+  digit-other,
+  digit-other-second,
+  unhex-pair,
+  unhex-end,
+  digits_none,
+  fill_step,
+  fill_end,
+  length-set,
+)

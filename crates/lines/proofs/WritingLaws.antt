@@ -198,9 +198,20 @@ pub length_field : (s : Bytes) → 0 < length s → length (hex_field s) ≡ 2 *
 length_field s p = ap length (hex_field_some s p) ∙ length_hex s
 
 -- what the code that stores digits and decoded bytes is proved by
-pub ruleset store_rules =
-    (sets_start, sets_next, sets_done, hex_at, hex_end, length_hex, length-set, length-drop, unhex-pair, length_unhex,
-    unhex_short, decoded_digit)
+pub ruleset store_rules = (
+  sets_start,
+  sets_next,
+  sets_done,
+  hex_at,
+  hex_end,
+  length_hex,
+  length-set,
+  length-drop,
+  unhex-pair,
+  length_unhex,
+  unhex_short,
+  decoded_digit,
+)
 
 -- what the code that writes decimal digits is proved by
 pub ruleset decimal_rules = (digits-stored, digits-whole, digits-room, decimal_short, append-nil, length-set)

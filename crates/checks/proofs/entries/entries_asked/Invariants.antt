@@ -9,7 +9,8 @@ use Rattle.checks.proofs.entries.entries_asked.Given as goal
 abbrev pub invariant-loop-kind : goal.invariant-loop-kind
 invariant-loop-kind l =
     (length l.marks ≡ length l.initial.marks)
-    × Followed l.kind l.entries l.tree_size l.kept_size l.kept_timestamp l.ladder l.positions l.versions l.marks l.at l.from l.timestamps
+    × Followed l.kind l.entries l.tree_size l.kept_size l.kept_timestamp l.ladder l.positions l.versions l.marks l.at
+    l.from l.timestamps
 
 abbrev pub decreases-loop-kind : goal.decreases-loop-kind
 decreases-loop-kind l =

@@ -27,4 +27,9 @@ returns-in-Monitor c =
     let asked = c.monitored_entry.ensures.asked in
     let next = c.monitored_entry.ensures.next in
     let marks = c.monitored_entry.ensures.marks in
-    record { asked = monitoring-asked _ a.ladder.now _ _ _ _ k ls _ asked; next = next; marks = monitoring_marks _ _ _ _ _ k _ _ marks }
+    record {
+      asked = monitoring-asked _ a.ladder.now _ _ _ _ k ls _ asked;
+      next = next;
+      marks = monitoring_marks _ _ _
+          _ _ k _ _ marks;
+    }

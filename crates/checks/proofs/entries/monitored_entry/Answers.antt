@@ -22,7 +22,8 @@ pub returns-in-Some-clause-asked : goal.returns-in-Some-clause-asked
 returns-in-Some-clause-asked c =
     let l = c.lookups_shown-lookups.ensures in
     let (front, _, length) = filled_front _ _ _ _ c.versions_not_above-shown.ensures in
-    let asked = shown_all (loose_in (drop c.args.from c.args.entries.now)) _ _ _ _ _ l.begin l.count length (c.in-Some.ensures.1 ∙ sym front) in
+    let asked = shown_all (loose_in (drop c.args.from c.args.entries.now)) _ _ _ _ _ l.begin l.count length
+    (c.in-Some.ensures.1 ∙ sym front) in
     (told_if c.then_some.ensures (AfterLookups c.args.entries.now c.args.from) l.next).0 ∙ asked
 
 pub returns-in-None-clause-asked : goal.returns-in-None-clause-asked

@@ -14,4 +14,5 @@ old positions versions count = record { positions = positions; versions = versio
 
 abbrev pub invariant-loop-i : goal.invariant-loop-i
 invariant-loop-i l =
-    (l.i ≤ l.initial.i) × (l.initial.i ≤ map_limit) × Holds (moved_from l.tree_size (old l.positions l.versions l.initial.i) l.i) l.moved
+    (l.i ≤ l.initial.i) × (l.initial.i ≤ map_limit) × Holds
+    (moved_from l.tree_size (old l.positions l.versions l.initial.i) l.i) l.moved

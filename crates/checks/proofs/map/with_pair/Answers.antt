@@ -15,7 +15,8 @@ pub loop-i-init : goal.loop-i-init
 loop-i-init c = (omega arith, c.requires.few, carrying_start c.args.map c.args.position c.args.version c.requires)
 
 pub returns-then-positions-i : goal.returns-then-positions-i
-returns-then-positions-i c = let l = c.loop-i in carried-over l.invariant.1 l.invariant.2 (omega arith) c.if-positions-i.true
+returns-then-positions-i c =
+    let l = c.loop-i in carried-over l.invariant.1 l.invariant.2 (omega arith) c.if-positions-i.true
 
 pub loop-i-preserved : goal.loop-i-preserved
 loop-i-preserved c =

@@ -9,4 +9,5 @@ use Rattle.checks.proofs.map.with_pair.Given as goal
 abbrev pub invariant-loop-i : goal.invariant-loop-i
 invariant-loop-i l =
     (l.i ≤ l.count) × (l.count ≤ map_limit)
-    × Carrying (put_version l.position l.version (pairs_in l.fn.map)) l.count l.positions l.versions l.carried l.carried_version l.i
+    × Carrying (put_version l.position l.version (pairs_in l.fn.map)) l.count l.positions l.versions l.carried
+    l.carried_version l.i

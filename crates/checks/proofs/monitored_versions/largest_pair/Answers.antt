@@ -13,29 +13,39 @@ loop-i-init c = (omega arith, found-start _ _ _ _ c.requires)
 pub loop-i-preserved-then-not-is_right_ancestor : goal.loop-i-preserved-then-not-is_right_ancestor
 loop-i-preserved-then-not-is_right_ancestor c = (
   omega arith,
-  found-past _ _ _ _ c.requires (c.loop-i.i - 1) c.loop-i.i (omega arith) c.loop-i.invariant.0 _ c.is_right_ancestor.ensures
+  found-past _ _ _ _ c.requires (c.loop-i.i - 1) c.loop-i.i (omega arith) c.loop-i.invariant.0 _
+      c.is_right_ancestor.ensures
       c.if-not-is_right_ancestor.true c.loop-i.largest c.loop-i.invariant.1,
 )
 
 pub loop-i-preserved-then-versions-i : goal.loop-i-preserved-then-versions-i
 loop-i-preserved-then-versions-i c = (
   omega arith,
-  found_below _ _ _ _ c.requires (c.loop-i.i - 1) c.loop-i.i (omega arith) c.loop-i.invariant.0 _ c.is_right_ancestor.ensures
-      c.if-not-is_right_ancestor.false _ (subst (Found c.args.tree_size c.args.positions.now c.args.versions.now c.args.entry c.loop-i.i) c.in-Some.is c.loop-i.invariant.1) c.if-versions-i.true,
+  found_below _ _ _ _ c.requires (c.loop-i.i - 1) c.loop-i.i (omega arith) c.loop-i.invariant.0 _
+      c.is_right_ancestor.ensures
+      c.if-not-is_right_ancestor.false _
+      (subst (Found c.args.tree_size c.args.positions.now c.args.versions.now c.args.entry c.loop-i.i) c.in-Some.is
+      c.loop-i.invariant.1) c.if-versions-i.true,
 )
 
 pub loop-i-preserved-else-versions-i : goal.loop-i-preserved-else-versions-i
 loop-i-preserved-else-versions-i c = (
   omega arith,
-  found-above _ _ _ _ c.requires (c.loop-i.i - 1) c.loop-i.i (omega arith) c.loop-i.invariant.0 _ c.is_right_ancestor.ensures
-      c.if-not-is_right_ancestor.false _ (subst (Found c.args.tree_size c.args.positions.now c.args.versions.now c.args.entry c.loop-i.i) c.in-Some.is c.loop-i.invariant.1) c.if-versions-i.false,
+  found-above _ _ _ _ c.requires (c.loop-i.i - 1) c.loop-i.i (omega arith) c.loop-i.invariant.0 _
+      c.is_right_ancestor.ensures
+      c.if-not-is_right_ancestor.false _
+      (subst (Found c.args.tree_size c.args.positions.now c.args.versions.now c.args.entry c.loop-i.i) c.in-Some.is
+      c.loop-i.invariant.1) c.if-versions-i.false,
 )
 
 pub loop-i-preserved : goal.loop-i-preserved
 loop-i-preserved c = (
   omega arith,
-  found-first _ _ _ _ c.requires (c.loop-i.i - 1) c.loop-i.i (omega arith) c.loop-i.invariant.0 _ c.is_right_ancestor.ensures
-      c.if-not-is_right_ancestor.false (subst (Found c.args.tree_size c.args.positions.now c.args.versions.now c.args.entry c.loop-i.i) c.in_default.is c.loop-i.invariant.1),
+  found-first _ _ _ _ c.requires (c.loop-i.i - 1) c.loop-i.i (omega arith) c.loop-i.invariant.0 _
+      c.is_right_ancestor.ensures
+      c.if-not-is_right_ancestor.false
+      (subst (Found c.args.tree_size c.args.positions.now c.args.versions.now c.args.entry c.loop-i.i) c.in_default.is
+      c.loop-i.invariant.1),
 )
 
 pub returns : goal.returns

@@ -8,7 +8,8 @@ use Rattle.checks.proofs.MonitoredVersionLaws.{not_above_fits}
 use Rattle.checks.proofs.monitored_versions.next_not_above.Goals as goal
 
 pub shared_ref_as_front-versions : goal.shared_ref_as_front-versions
-shared_ref_as_front-versions c = omega (arith, c.versions_not_above-shown.ensures.1, not_above_fits c.args.version c.requires)
+shared_ref_as_front-versions c =
+    omega (arith, c.versions_not_above-shown.ensures.1, not_above_fits c.args.version c.requires)
 
 pub returns-then-from-next : goal.returns-then-from-next
 returns-then-from-next c =

@@ -7,4 +7,5 @@ use Rattle.rules.specs.Limits.{version_bound}
 use Rattle.checks.proofs.monitored_versions.next_not_above.Given as goal
 
 abbrev pub invariant-loop-next : goal.invariant-loop-next
-invariant-loop-next l = next_from version_bound l.versions l.from ≡ next_from version_bound (drop l.next-index l.versions) l.from
+invariant-loop-next l =
+    next_from version_bound l.versions l.from ≡ next_from version_bound (drop l.next-index l.versions) l.from

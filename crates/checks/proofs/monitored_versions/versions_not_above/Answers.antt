@@ -19,7 +19,8 @@ bounds-versions-length c =
     let l = c.loop-shown in
     omega (
       arith,
-      storing-room _ c.requires _ (filled_front _ _ _ _ c.of-whole.ensures).0 _ _ _ l.invariant (omega arith) c.if-shown-version.true,
+      storing-room _ c.requires _ (filled_front _ _ _ _ c.of-whole.ensures).0 _ _ _ l.invariant (omega arith)
+          c.if-shown-version.true,
     )
 
 pub offset_bounds-versions-length : goal.offset_bounds-versions-length
@@ -27,7 +28,8 @@ offset_bounds-versions-length c =
     let l = c.loop-shown in
     omega (
       arith,
-      storing-room _ c.requires _ (filled_front _ _ _ _ c.of-whole.ensures).0 _ _ _ l.invariant (omega arith) c.if-shown-version.true,
+      storing-room _ c.requires _ (filled_front _ _ _ _ c.of-whole.ensures).0 _ _ _ l.invariant (omega arith)
+          c.if-shown-version.true,
     )
 
 pub overflow_add-length : goal.overflow_add-length
@@ -35,7 +37,8 @@ overflow_add-length c =
     let l = c.loop-shown in
     omega (
       arith,
-      storing-room _ c.requires _ (filled_front _ _ _ _ c.of-whole.ensures).0 _ _ _ l.invariant (omega arith) c.if-shown-version.true,
+      storing-room _ c.requires _ (filled_front _ _ _ _ c.of-whole.ensures).0 _ _ _ l.invariant (omega arith)
+          c.if-shown-version.true,
     )
 
 pub loop-shown-preserved : goal.loop-shown-preserved

@@ -12,12 +12,14 @@ loop-at-init c = (omega arith, stepping_start _ _ _ _ _ c.requires.marks (search
 pub returns-then-wanted : goal.returns-then-wanted
 returns-then-wanted c =
     rw c.then_some.ensures
-    (stepping-end c.requires.marks c.loop-at.invariant.1 c.smallest_of-wanted.ensures c.if-wanted.true c.loop-at.invariant.0)
+    (stepping-end c.requires.marks c.loop-at.invariant.1 c.smallest_of-wanted.ensures c.if-wanted.true
+    c.loop-at.invariant.0)
 
 pub returns-in_err-output : goal.returns-in_err-output
 returns-in_err-output c =
     rw c.from_residual.ensures
-    (stepping-other c.requires.marks c.loop-at.invariant.1 c.smallest_of-wanted.ensures c.if-wanted.false c.wanted_step.new.offsets
+    (stepping-other c.requires.marks c.loop-at.invariant.1 c.smallest_of-wanted.ensures c.if-wanted.false
+    c.wanted_step.new.offsets
     c.in_err-output.ensures)
 
 pub loop-at-preserved : goal.loop-at-preserved

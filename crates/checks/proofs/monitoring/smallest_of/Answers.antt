@@ -10,8 +10,11 @@ loop-version-init c = (omega arith, smallest_start c.args.versions.now)
 
 pub loop-version-preserved : goal.loop-version-preserved
 loop-version-preserved c =
-    let l = c.loop-version in
-    (omega (arith, l.invariant.0, c.min-least.ensures), rw c.min-least.ensures (smallest_next _ l.version-index l.least (omega arith) ∙ l.invariant.1))
+    let l = c.loop-version in (
+      omega (arith, l.invariant.0, c.min-least.ensures),
+      rw c.min-least.ensures
+          (smallest_next _ l.version-index l.least (omega arith) ∙ l.invariant.1),
+    )
 
 pub returns : goal.returns
 returns c =

@@ -15,7 +15,8 @@ loop-i-preserved c =
     let l = c.loop-i in
     let on : Moved c.args.versions.now c.args.next.now c.args.from c.if-next-i.next (l.i + 1) =
     elim c.if-next-i.branch [
-      | then-next-i w ↦ moved_on _ _ _ l.next l.i _ _ l.invariant (omega arith) w.if-next-i.true w.next_not_above.ensures w.next-is
+      | then-next-i w ↦ moved_on _ _ _ l.next l.i _ _ l.invariant (omega arith) w.if-next-i.true
+          w.next_not_above.ensures w.next-is
       | else-next-i w ↦ moved_not _ _ _ l.next l.i _ l.invariant (omega arith) w.if-next-i.false w.next-is
     ] in
     on

@@ -28,7 +28,8 @@ returns-in_err-timestamps c =
     let v0 = target_version _ _ _ c.requires.kind c.requires.possible.triable.target in
     (filled_front _ _ _ _ c.of-whole.ensures).0 ∙ within_some c.args.call.response.target.version (omega (arith, v0)) in
     rw c.from_residual.ensures
-    (λ call i m. search-not i c.requires.kind refl c.of.ensures c.args.commitments.now _ wanted c.in_err-timestamps.ensures.asked refl)
+    (λ call i m. search-not i c.requires.kind refl c.of.ensures c.args.commitments.now _ wanted
+    c.in_err-timestamps.ensures.asked refl)
 
 pub slice_bounds-ladder-end-2 : goal.slice_bounds-ladder-end-2
 slice_bounds-ladder-end-2 c = (filled_front _ _ _ _ c.of-whole.ensures).1

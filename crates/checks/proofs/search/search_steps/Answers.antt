@@ -11,7 +11,8 @@ loop-v-init c = (omega arith, ladder_start _ _ _ _ _ c.requires.ladder (search r
 pub returns-in_err-output : goal.returns-in_err-output
 returns-in_err-output c =
     rw c.from_residual.ensures
-    (ladder-other _ c.args.wanted.now c.loop-v.v-index c.loop-v.invariant.1 (omega arith) c.wanted_step.new.offsets c.in_err-output.ensures)
+    (ladder-other _ c.args.wanted.now c.loop-v.v-index c.loop-v.invariant.1 (omega arith) c.wanted_step.new.offsets
+    c.in_err-output.ensures)
 
 pub loop-v-preserved : goal.loop-v-preserved
 loop-v-preserved c =
