@@ -21,6 +21,7 @@ pub(crate) fn ended_lines(text: &[u8]) -> EndedLines
 {
     let mut count: usize = 0;
     let mut at: usize = 0;
+    // A loop: an iterator of lines would have to hand out the offset and the rest as well.
     loop {
         let read = read_on(text, at);
         match read.line {

@@ -35,6 +35,7 @@ pub(crate) fn judge(
     let line = &line[..outcome.line];
     match outcome.judged {
         Ok(written) => {
+            // A match: in a closure the bound of the part was not proved.
             let value = match written.value {
                 Some(length) => Some(&value[..length]),
                 None => None,

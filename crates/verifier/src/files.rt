@@ -106,7 +106,7 @@ pub fn check_files(
     )
 }
 
-// Whether no file is too long.
+// Whether no file is too long. One test after the other: with `&&` the proof did not close.
 fn files_fit(
     request: &[u8],
     response: &[u8],

@@ -16,6 +16,7 @@ pub fn read_full<R: Read>(input: &mut R, bytes: &mut [u8]) -> Result<usize, usiz
     ensures end { OnOk result (count result < length bytes.new → IsAtEnd (R.remaining input.new)) }
 {
     let mut done: usize = 0;
+    // A loop: std's reads to the end say too little of one that fails.
     while done < bytes.len() {
         match input.read(&mut bytes[done..]) {
             Ok(0) => break,
