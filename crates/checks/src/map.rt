@@ -66,7 +66,8 @@ pub(crate) fn moved_pairs(tree_size: u64, map: MonitoringMap) -> MonitoringMap
     moved
 }
 
-// The version of the pair at a position, 0 where there is none.
+// The version of the pair at a position, 0 where there is none. By index: positions and versions are
+// two arrays (inputs::state says why).
 fn version_there(map: MonitoringMap, position: u64) -> u32
     requires { IsMap map }
     ensures { result ≡ version_at position (pairs_in map) }

@@ -30,7 +30,8 @@ pub fn decoded_length(s: &[u8]) -> Option<usize>
     Some(s.len() / 2)
 }
 
-// The value of 32 bytes that s encodes, if it is exactly the digits of one.
+// The value of 32 bytes that s encodes, if it is exactly the digits of one. By index, since two digits
+// stand for each byte: pieces of two are no plainer, they have no length in their type.
 #[tactic(auto, using(crate::proofs::ReadingLaws::digest_rules))]
 pub fn read_digest(s: &[u8]) -> Option<[u8; 32]>
     ensures { option_of result ≡ read_field (exactly digest_length) s.now }

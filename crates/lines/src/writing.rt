@@ -1,5 +1,6 @@
 // Writing into lent bytes from an offset on: all other bytes stay, and what does not fit is not
-// written at all. Each answer is the offset after what was put, or none where nothing was.
+// written at all. Each answer is the offset after what was put, or none where nothing was. Bytes and
+// offset are two arguments: in a struct, clauses would speak of what stands behind its reference, no plainer.
 ghost use Rattle.std.specs.Prelude.{◌≡◌, ◌+◌, ◌*◌, ◌≤◌, ◌<◌, leb, length};
 ghost use Rattle.std.proofs.Math.Option.{some};
 ghost use Rattle.lists.specs.Choice.{option_of, provided};
@@ -77,7 +78,7 @@ fn end_within(room: usize, at: usize, count: usize) -> Option<usize>
     Some(end)
 }
 
-// The hex digits of bytes, where they fit.
+// The hex digits of bytes, where they fit. By index, as in read_digest.
 #[tactic(auto, using(crate::proofs::WritingLaws::store_rules))]
 fn store_hex(out: &mut [u8], at: usize, s: &[u8])
     requires { at + 2 * length s.now ≤ length out.old }
@@ -99,7 +100,7 @@ fn hex_digit(d: u8) -> u8
     if d < 10 { b'0' + d } else { b'a' + (d - 10) }
 }
 
-// The bytes that a field encodes, where they fit.
+// The bytes that a field encodes, where they fit. By index, as in read_digest.
 #[tactic(auto, using(crate::proofs::WritingLaws::store_rules))]
 fn store_decoded(out: &mut [u8], at: usize, field: &[u8])
     requires decodes { read_hex field.now ≡ some (unhex field.now) }

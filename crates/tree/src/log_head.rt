@@ -11,7 +11,8 @@ use crate::log_text::{entry_from, next_line, position_at};
 use crate::walk_cursor::WalkCursor;
 use lines::layout::Layout;
 
-// Its root, and whether the kept values were met.
+// Its root, and whether the kept values were met. No Option: log_head tells the root also where they
+// were not, and its clause result_after holds it.
 #[derive(Clone, Copy)]
 pub struct LogHead {
     pub root: [u8; 32],

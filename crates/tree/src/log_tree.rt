@@ -196,7 +196,8 @@ pub(crate) fn subtree(log: &KnownLog<'_>, start: u64, width: u64, cursor: &WalkC
 }
 
 // The same walk for where it ends alone.
-// Beside subtree: a trait of what a walk yields would need a contract for each step, no plainer.
+// Beside subtree: a trait of what a walk yields would need a contract for each step, no plainer. Text and
+// kept size are no KnownLog here: nodes_asked is given neither nodes nor kept values.
 pub(crate) fn subtree_end(
     text: &[u8],
     kept_size: u64,
