@@ -1,6 +1,6 @@
 -- Laws of the byte string that a field encodes, and of its length (specs/Hex.antt).
 use mathlib.Core.Path.{◌≡◌, refl, sym, ◌∙◌, ap}
-use mathlib.Core.Bool.{Bool, true, false, false≢true}
+use mathlib.Core.Bool.{Bool, true, false, ◌&&◌, false≢true}
 use mathlib.Core.List.{[], ◌∷◌}
 use mathlib.Core.Option.{Option, none, some, map}
 use Prim.Native.Nat.{ℕ, zero, suc, ◌/◌, ◌%◌, ◌<◌}
@@ -8,8 +8,8 @@ use native.Mathlib.Omega.{arith}
 use lib.Dec.{eqb}
 use lib.ListN.{length, get_or}
 use lib.Pointwise.{pointwise}
+use Rattle.std.specs.List.{list_all}
 use Rattle.lists.proofs.SameLaws.{slices_same}
-use Rattle.lines.proofs.ReadingLaws.{digit-one, digit-other, digits_none}
 use Rattle.lists.specs.Choice.{provided}
 use Rattle.lists.specs.Lists.{Bytes, all, same}
 use Rattle.lists.proofs.ChoiceLaws.{map_some, provided_true}
@@ -123,6 +123,12 @@ pub is_dash : (s d : Bytes) (e : Bool) → d ≡ 45 ∷ [] → e ≡ pointwise e
 unfolding dash ascii
 is_dash s d e p q = rw p at (sym (q ∙ slices_same s d))
 
+-- what `all` tests is as std has it
+pub all_listed : (f : ℕ → Bool) (s : Bytes) → list_all f s ≡ all f s
+unfolding all
+all_listed f [] = refl
+all_listed f (x ∷ s) = ap (λ (b : Bool). f x && b) (all_listed f s)
+
 -- what the code that reads a field's length is proved by
 pub ruleset length_rules = (
   is_dash,
@@ -131,7 +137,4 @@ pub ruleset length_rules = (
   decoded-odd,
   decoded-other,
   decoded-half,
-  digit-one,
-  digit-other,
-  digits_none,
 )

@@ -42,10 +42,7 @@ impl Cursor {
     pub fn past(self, line: Option<(usize, Cursor)>) -> usize
         ensures { result ≡ past (read_of line) self.at }
     {
-        match line {
-            Some((_, next)) => next.at,
-            None => self.at,
-        }
+        line.map_or(self.at, |(_, next)| next.at)
     }
 
     // The field that begins here in a line: the part of the line that it fills.

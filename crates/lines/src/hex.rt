@@ -22,10 +22,8 @@ pub fn decoded_length(s: &[u8]) -> Option<usize>
     if s.len() % 2 != 0 {
         return None;
     }
-    for b in s {
-        if !is_hex_digit(*b) {
-            return None;
-        }
+    if !s.iter().all(|b| is_hex_digit(*b)) {
+        return None;
     }
     Some(s.len() / 2)
 }
