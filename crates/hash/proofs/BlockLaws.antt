@@ -1,7 +1,10 @@
 -- Laws of one block (specs/Block.antt): the words of a block, the schedule by sixteen words, and
 -- the rounds by sixteen.
-use Rattle.std.proofs.Common.{◌≡◌, ℕ, zero, suc, ◌+◌, ◌-◌, ◌*◌, ◌%◌, ◌<◌, ◌≤◌, List, [], ◌∷◌, ◌++◌, length, get_or, take, drop, set, sym, refl, ap, ◌∙◌, append_assoc, append-nil, add-zero, add-suc, add-one, arith, length-append, length-drop, take-append-drop, drop_of_length-le, get_or-drop, take_all, drop-cons, take-suc, get_or-take, get_or-append-add, ◌^◌}
+use Rattle.std.proofs.Common.{◌≡◌, ℕ, zero, suc, ◌+◌, ◌-◌, ◌*◌, ◌/◌, ◌%◌, ◌<◌, ◌≤◌, List, [], ◌∷◌, ◌++◌, length, get_or, take, drop, set, sym, refl, ap, ◌∙◌, append_assoc, append-nil, add-zero, add-suc, add-one, arith, length-append, length-drop, take-append-drop, drop_of_length-le, get_or-drop, take_all, drop-cons, take-suc, get_or-take, get_or-append-add, ◌^◌}
 use native.Mathlib.Decide.{dec_lt}
+use Rattle.std.specs.Simd.{first_chunks}
+use Rattle.hash.proofs.BytesLaws.{chunk_byte}
+use Rattle.std.proofs.lemmas.List.{get_or-set_same, get_or-set_other}
 use lib.ListN.{get_or-append}
 use lib.Seq.{set_at, drop-append-le, take-append-le}
 use Rattle.hash.specs.declared.block.HashValue.{HashValue}
@@ -15,6 +18,24 @@ pub words_of : (n : ℕ) (w b : List ℕ) → n ≤ length w → ((t : ℕ) → 
 unfolding words
 words_of zero w b h at = refl
 words_of (suc n) w b h at = rw (take-suc w n 0 (omega arith), words_of n w b (omega arith) (λ t k. at t (omega arith)), at n (omega arith))
+
+-- the word in a chunk of four bytes
+pub word_chunk : (b : List ℕ) (cs : List (List ℕ)) (t : ℕ) (d : List ℕ) → cs ≡ first_chunks 4 (length b / 4) b → t < length b / 4
+    → ((get_or (get_or cs t d) 0 0 * 256 + get_or (get_or cs t d) 1 0) * 256 + get_or (get_or cs t d) 2 0) * 256 + get_or (get_or cs t d) 3 0 ≡ word b (4 * t)
+word_chunk b cs t d e h =
+    let k = length b / 4 in
+    let z : 4 * t + 0 ≡ 4 * t = omega arith in
+    let at = λ (j : ℕ) (q : j < 4). chunk_byte 4 k b t j d h q in
+    rw (e, at 0 (omega arith), at 1 (omega arith), at 2 (omega arith), at 3 (omega arith), z) refl
+
+-- one word more in its place
+pub words_more : (w b : List ℕ) (t r : ℕ) → t < length w → ((k : ℕ) → k < t → get_or w k 0 ≡ word b (4 * k)) → r ≡ word b (4 * t)
+    → (k : ℕ) → k < t + 1 → get_or (set w t r) k 0 ≡ word b (4 * k)
+words_more w b t r h at e k q = go (dec_lt k t)
+  where
+    go : Dec (k < t) → get_or (set w t r) k 0 ≡ word b (4 * k)
+    go (yes l) = get_or-set_other w t k r 0 (λ p. absurd (omega (arith, p, l))) ∙ at k l
+    go (no n) = let p : k ≡ t = omega (arith, n) in rw p (get_or-set_same w t r 0 h ∙ e)
 
 -- ---- sums modulo 2 ^ 32, made two at a time
 

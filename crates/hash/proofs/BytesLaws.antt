@@ -1,6 +1,8 @@
 -- Laws of numbers as bytes and of lists filled up with zeros (specs/Bytes.antt). A buffer that
 -- starts all zero and is filled from its front is a `padded` list at each step.
-use Rattle.std.proofs.Common.{◌≡◌, ℕ, zero, suc, ◌+◌, ◌-◌, ◌/◌, ◌%◌, ◌<◌, ◌≤◌, List, [], ◌∷◌, ◌++◌, length, get_or, take, drop, set, replicate, sym, refl, ap, ◌∙◌, append_assoc, append-nil, le_of_eq, arith, length-append, length-drop, length-take, length-take-le, take_all, take_at, drop_at, Bor, add-one, take-suc, ◌^◌}
+use Rattle.std.proofs.Common.{◌≡◌, ℕ, zero, suc, ◌+◌, ◌-◌, ◌*◌, ◌/◌, ◌%◌, ◌<◌, ◌≤◌, List, [], ◌∷◌, ◌++◌, length, get_or, take, drop, set, replicate, sym, refl, ap, ◌∙◌, append_assoc, append-nil, le_of_eq, arith, length-append, length-drop, length-take, length-take-le, take_all, take_at, drop_at, Bor, add-one, take-suc, ◌^◌}
+use Rattle.std.specs.Simd.{first_chunks}
+use Rattle.std.proofs.lemmas.List.{get_or-take, get_or-drop}
 use lib.ListN.{length-replicate, replicate-append-replicate}
 use lib.Seq.{paste, drop-append-add, set_at, take-length}
 use Rattle.std.proofs.lemmas.Slice.{put_mid-paste}
@@ -152,3 +154,14 @@ part_count n s h = sym (length-take-le n s h)
 
 pub tail_part : (n : ℕ) (s : List ℕ) → take (length s - n) (drop n s) ≡ drop n s
 tail_part n s = take_all (length s - n) (drop n s) (le_of_eq (length-drop n s))
+
+-- ---- chunks
+
+-- a byte of a chunk, by where it stands in the list that is cut
+pub chunk_byte : (n k : ℕ) (s : List ℕ) (i j : ℕ) (d : List ℕ) → i < k → j < n
+    → get_or (get_or (first_chunks n k s) i d) j 0 ≡ get_or s (n * i + j) 0
+chunk_byte n zero s i j d h q = absurd (omega arith)
+chunk_byte n (suc k) s zero j d h q = let e : n * 0 + j ≡ j = omega arith in get_or-take n s j 0 q ∙ rw e refl
+chunk_byte n (suc k) s (suc i) j d h q =
+    let e : n + (n * i + j) ≡ n * suc i + j = omega arith in
+    chunk_byte n k (drop n s) i j d (omega arith) q ∙ get_or-drop n s (n * i + j) 0 ∙ rw e refl

@@ -3,7 +3,7 @@
 ghost use Rattle.std.specs.Prelude.{◌≡◌, drop};
 ghost use Rattle.hash.specs.Block as Block;
 
-use crate::words::{big_sigma0, big_sigma1, ch, maj, small_sigma0, small_sigma1, word};
+use crate::words::{big_sigma0, big_sigma1, ch, maj, small_sigma0, small_sigma1};
 
 // The eight words of a hash value, and the eight working variables of the rounds.
 #[derive(Clone, Copy)]
@@ -47,8 +47,9 @@ fn first_words(block: &[u8; 64]) -> [u32; 16]
     ensures { result ≡ Block.words 16 block.now }
 {
     let mut words = [0u32; 16];
+    let (parts, _) = block.as_chunks::<4>();
     for (t, w) in words.iter_mut().enumerate() {
-        *w = word(block, 4 * t);
+        *w = u32::from_be_bytes(parts[t]);
     }
     words
 }

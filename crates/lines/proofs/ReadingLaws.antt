@@ -4,7 +4,7 @@ use mathlib.Core.Path.{◌≡◌, refl, sym, ◌∙◌, ap}
 use mathlib.Core.Bool.{Bool, true, false, ◌&&◌, false≢true}
 use mathlib.Core.List.{List, [], ◌∷◌, ◌++◌, append-nil}
 use mathlib.Core.Option.{Option, none, some}
-use Prim.Native.Nat.{ℕ, ◌+◌, ◌-◌, ◌*◌, ◌≤◌, ◌<◌}
+use Prim.Native.Nat.{ℕ, ◌+◌, ◌-◌, ◌*◌, ◌/◌, ◌≤◌, ◌<◌}
 use native.Mathlib.Numerals.{add-one}
 use native.Mathlib.Omega.{arith}
 use lib.Dec.{eqb, leb}
@@ -15,7 +15,9 @@ use Rattle.lists.specs.Choice.{provided, ◌>>◌}
 use Rattle.lists.specs.Lists.{Bytes, all, same}
 use Rattle.lists.proofs.ChoiceLaws.{provided_true, bind_at, test_true}
 use Rattle.lists.proofs.ListLaws.{differ_same}
+use Rattle.std.specs.Simd.{first_chunks}
 use Rattle.hash.specs.Bytes.{AreBytes}
+use Rattle.hash.proofs.BytesLaws.{chunk_byte}
 use Rattle.hash.specs.Sha256.{digest_length}
 use Rattle.lines.specs.Number.{ascii, is_digit, is_decimal, digits_after, read_number}
 use Rattle.lines.specs.Hex.{dash, is_hex_digit, digit_value, unhex, is_hex, read_hex, hex}
@@ -186,6 +188,15 @@ module _ (s : Bytes) (i : ℕ) where
   pub digit-other-second : i + 1 < length s → is_hex_digit (get_or s i 0) ≡ true
       → is_hex_digit (get_or s (i + 1) 0) ≡ false → all is_hex_digit (drop i s) ≡ false
   digit-other-second h d e = digit-one s i (omega arith) d ∙ digit-other s (i + 1) h e
+
+-- the bytes of a pair, by where they stand in what is cut into pairs
+module _ (s : Bytes) (cs : List Bytes) (i : ℕ) (d : Bytes) (e : cs ≡ first_chunks 2 (length s / 2) s)
+    (h : i < length s / 2) where
+  pub pair_high : get_or (get_or cs i d) 0 0 ≡ get_or s (2 * i) 0
+  pair_high = let z : 2 * i + 0 ≡ 2 * i = omega arith in rw e (rw z at (chunk_byte 2 (length s / 2) s i 0 d h (omega arith)))
+
+  pub pair_low : get_or (get_or cs i d) 1 0 ≡ get_or s (2 * i + 1) 0
+  pair_low = rw e (chunk_byte 2 (length s / 2) s i 1 d h (omega arith))
 
 -- one element more of a list that is filled from the front: what is filled and what is left stay
 -- the whole

@@ -28,8 +28,7 @@ pub fn decoded_length(s: &[u8]) -> Option<usize>
     Some(s.len() / 2)
 }
 
-// The value of 32 bytes that s encodes, if it is exactly the digits of one. By index, since two digits
-// stand for each byte: pieces of two are no plainer, they have no length in their type.
+// The value of 32 bytes that s encodes, if it is exactly the digits of one.
 #[tactic(auto, using(crate::proofs::ReadingLaws::digest_rules))]
 pub fn read_digest(s: &[u8]) -> Option<[u8; 32]>
     ensures { option_of result ≡ read_field (exactly digest_length) s.now }
@@ -38,16 +37,15 @@ pub fn read_digest(s: &[u8]) -> Option<[u8; 32]>
         return None;
     }
     let mut value = [0u8; 32];
-    for i in 0..32 {
-        let high = s[2 * i];
-        let low = s[2 * i + 1];
-        if !is_hex_digit(high) {
+    let (pairs, _) = s.as_chunks::<2>();
+    for (i, [high, low]) in pairs.iter().enumerate() {
+        if !is_hex_digit(*high) {
             return None;
         }
-        if !is_hex_digit(low) {
+        if !is_hex_digit(*low) {
             return None;
         }
-        value[i] = digit_value(high) * 16 + digit_value(low);
+        value[i] = digit_value(*high) * 16 + digit_value(*low);
     }
     Some(value)
 }
