@@ -70,8 +70,8 @@ fn lacks_newline(s: &[u8], at: usize, count: usize) -> bool
         ≡ at + length (before newline (drop at s.now)) }
 {
     let mut hit = false;
-    for k in 0..count {
-        hit |= s[at + k] == b'\n';
+    for b in &s[at..at + count] {
+        hit |= *b == b'\n';
     }
     !hit
 }

@@ -1,11 +1,13 @@
 -- `lines::line::lacks_newline` meets its contract: where no newline was met, the next one is the
 -- same from the offset passed on.
-use mathlib.Core.Path.{◌≡◌, refl, sym}
+use mathlib.Core.Path.{◌≡◌, refl, sym, ◌∙◌}
 use mathlib.Core.Bool.{Bool, true, false, ◌||◌, false≢true}
-use Prim.Native.Nat.{ℕ, ◌+◌, ◌<◌}
+use Prim.Native.Nat.{ℕ, ◌+◌, ◌-◌, ◌<◌}
 use native.Mathlib.Omega.{arith}
 use lib.Dec.{eqb}
-use lib.ListN.{length, drop, get_or}
+use lib.ListN.{length, take, drop, get_or, length-drop}
+use lib.Seq.{length-take-le}
+use Rattle.std.proofs.lemmas.List.{get_or-take, get_or-drop}
 use Rattle.lists.specs.Lists.{Bytes}
 use Rattle.lines.specs.Line.{before, newline}
 use Rattle.lines.proofs.OffsetLaws.{span_more}
@@ -24,7 +26,13 @@ step s at k false h v e =
     let w = v refl in
     rw n (omega (arith, m, w))
 
-pub loop-k-preserved : goal.loop-k-preserved
-loop-k-preserved c =
+pub loop-b-preserved : goal.loop-b-preserved
+loop-b-preserved c =
     let a = c.args in
-    step a.s.now a.at c.loop-k.k c.loop-k.hit (omega arith) c.loop-k.invariant
+    let s = a.s.now in
+    let k = c.loop-b.b-index in
+    let m = a.at + a.count - a.at in
+    let n : length (take m (drop a.at s)) ≡ m = length-take-le m (drop a.at s) (omega (arith, length-drop a.at s)) in
+    let e : get_or (take m (drop a.at s)) k 0 ≡ get_or s (a.at + k) 0 =
+        get_or-take m (drop a.at s) k 0 (omega (arith, n)) ∙ get_or-drop a.at s k 0 in
+    rw e (step s a.at k c.loop-b.hit (omega (arith, n)) c.loop-b.invariant)

@@ -7,7 +7,7 @@ use lib.ListN.{length, drop}
 use Rattle.lines.specs.Line.{before, newline}
 use Rattle.lines.proofs.line.lacks_newline.Given as goal
 
-abbrev pub invariant-loop-k : goal.invariant-loop-k
-invariant-loop-k l =
+abbrev pub invariant-loop-b : goal.invariant-loop-b
+invariant-loop-b l =
     l.hit ≡ false
-    → l.at + l.k + length (before newline (drop (l.at + l.k) l.s)) ≡ l.at + length (before newline (drop l.at l.s))
+    → l.at + l.b-index + length (before newline (drop (l.at + l.b-index) l.fn.s)) ≡ l.at + length (before newline (drop l.at l.fn.s))
