@@ -42,7 +42,7 @@ const K: [[u32; 16]; 4] = [
     ],
 ];
 
-// Step 1 for t up to 15: the words of a block.
+// Step 1 for t up to 15: the words of a block. No clause of `iter_mut().zip(..)` says what the words end as.
 fn first_words(block: &[u8; 64]) -> [u32; 16]
     ensures { result ≡ Block.words 16 block.now }
 {

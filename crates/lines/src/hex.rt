@@ -28,7 +28,8 @@ pub fn decoded_length(s: &[u8]) -> Option<usize>
     Some(s.len() / 2)
 }
 
-// The value of 32 bytes that s encodes, if it is exactly the digits of one.
+// The value of 32 bytes that s encodes, if it is exactly the digits of one. It is filled by index, since
+// no clause of `iter_mut().zip(..)` says what the elements end as.
 #[tactic(auto, using(crate::proofs::ReadingLaws::digest_rules))]
 pub fn read_digest(s: &[u8]) -> Option<[u8; 32]>
     ensures { option_of result ≡ read_field (exactly digest_length) s.now }

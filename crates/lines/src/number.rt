@@ -4,7 +4,7 @@ ghost use Rattle.lists.specs.Choice.{option_of};
 ghost use Rattle.lines.specs.Number.{read_number};
 
 // The number that s encodes, if it is a decimal number not above the bound; reading ends at the
-// first byte that makes it none.
+// first byte that makes it none. By hand: `parse` takes a sign and leading zeros.
 #[tactic(auto, using(crate::proofs::ReadingLaws::numbers))]
 pub fn read_number(s: &[u8], bound: u64) -> Option<u64>
     ensures { option_of result ≡ read_number bound s.now }

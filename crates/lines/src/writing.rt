@@ -1,6 +1,6 @@
 // Writing into lent bytes from an offset on: all other bytes stay, and what does not fit is not
 // written at all. Each answer is the offset after what was put, or none where nothing was. Bytes and
-// offset are two arguments: in a struct, clauses would speak of what stands behind its reference, no plainer.
+// offset are two arguments: a struct of both would hold the `&mut` borrow of the bytes across calls.
 ghost use Rattle.std.specs.Prelude.{◌≡◌, ◌+◌, ◌*◌, ◌≤◌, ◌<◌, leb, length};
 ghost use Rattle.std.proofs.Math.Option.{some};
 ghost use Rattle.lists.specs.Choice.{option_of, provided};
@@ -24,7 +24,7 @@ pub fn put_bytes(out: &mut [u8], at: usize, s: &[u8]) -> Option<usize>
     Some(end)
 }
 
-// A number in decimal digits. The loop is by hand: how many digits there are shows only at its end.
+// A number in decimal digits. By hand: the contract of `write!` does not say that it succeeds, as `offset` must.
 #[tactic(auto, using(crate::proofs::WritingLaws::decimal_rules))]
 pub fn put_decimal(out: &mut [u8], at: usize, n: u64) -> Option<usize>
     ensures offset { option_of result ≡ offset_after out.old at (decimal n) }
@@ -78,16 +78,15 @@ fn end_within(room: usize, at: usize, count: usize) -> Option<usize>
     Some(end)
 }
 
-// The hex digits of bytes, where they fit. By index, as in read_digest.
+// The hex digits of bytes, where they fit. By index: no clause of `as_chunks_mut` says what the slice ends as.
 #[tactic(auto, using(crate::proofs::WritingLaws::store_rules))]
 fn store_hex(out: &mut [u8], at: usize, s: &[u8])
     requires { at + 2 * length s.now ≤ length out.old }
     ensures { out.new ≡ written out.old at (hex s.now) }
 {
-    for i in 0..s.len() {
-        let b = s[i];
-        out[at + 2 * i] = hex_digit(b / 16);
-        out[at + 2 * i + 1] = hex_digit(b % 16);
+    for (i, b) in s.iter().enumerate() {
+        out[at + 2 * i] = hex_digit(*b / 16);
+        out[at + 2 * i + 1] = hex_digit(*b % 16);
     }
 }
 
@@ -100,14 +99,15 @@ fn hex_digit(d: u8) -> u8
     if d < 10 { b'0' + d } else { b'a' + (d - 10) }
 }
 
-// The bytes that a field encodes, where they fit. By index, as in read_digest.
+// The bytes that a field encodes, where they fit.
 #[tactic(auto, using(crate::proofs::WritingLaws::store_rules))]
 fn store_decoded(out: &mut [u8], at: usize, field: &[u8])
     requires decodes { read_hex field.now ≡ some (unhex field.now) }
     requires room { at + length (unhex field.now) ≤ length out.old }
     ensures { out.new ≡ written out.old at (unhex field.now) }
 {
-    for i in 0..field.len() / 2 {
-        out[at + i] = digit_value(field[2 * i]) * 16 + digit_value(field[2 * i + 1]);
+    let (pairs, _) = field.as_chunks::<2>();
+    for (i, [high, low]) in pairs.iter().enumerate() {
+        out[at + i] = digit_value(*high) * 16 + digit_value(*low);
     }
 }

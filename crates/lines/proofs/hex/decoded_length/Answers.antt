@@ -13,7 +13,7 @@ pub returns-then-not-all : goal.returns-then-not-all
 returns-then-not-all c =
     let s = c.args.s.now in
     let it = all_from_yields_List is_hex_digit _ _ _ c.all.ensures.ran (YieldsList-from_slice s cc)
-        (λ x b q k. search rules) in
+    (λ x b q k. search rules) in
     let no : all is_hex_digit s ≡ false = sym (all_listed is_hex_digit s) ∙ sym it ∙ c.if-not-all.true in
     search (rules, length_rules)
 
@@ -21,6 +21,6 @@ pub returns : goal.returns
 returns c =
     let s = c.args.s.now in
     let it = all_from_yields_List is_hex_digit _ _ _ c.all.ensures.ran (YieldsList-from_slice s cc)
-        (λ x b q k. search rules) in
+    (λ x b q k. search rules) in
     let yes : all is_hex_digit s ≡ true = sym (all_listed is_hex_digit s) ∙ sym it ∙ c.if-not-all.false in
     search (rules, length_rules)

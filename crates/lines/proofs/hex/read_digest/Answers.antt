@@ -5,9 +5,8 @@ use mathlib.Core.Bool.{true, false}
 use mathlib.Core.List.{[]}
 use Prim.Native.Nat.{◌+◌, ◌*◌}
 use native.Mathlib.Omega.{arith}
-use lib.ListN.{get_or, drop}
+use lib.ListN.{get_or}
 use Rattle.std.proofs.Common.{rules}
-use Rattle.lists.specs.Lists.{all}
 use Rattle.lines.specs.Hex.{is_hex_digit, digit_value, unhex}
 use Rattle.lines.proofs.ReadingLaws.{digest_other, digest_some, pair_high, pair_low}
 use Rattle.lines.proofs.ReadingLaws.{digit-pair, digit-other, digit-other-second, unhex-pair, unhex-end, digits_none}
@@ -30,7 +29,7 @@ returns-then-not-is_hex_digit-2 c =
     let w = pair_low s _ i [] c.as_chunks.ensures.front (omega arith) in
     let d : is_hex_digit (get_or s (2 * i) 0) ≡ true = rw h at (sym c.is_hex_digit.ensures ∙ c.if-not-is_hex_digit.false) in
     let e : is_hex_digit (get_or s (2 * i + 1) 0) ≡ false =
-        rw w at (sym c.is_hex_digit-in-loop-i.ensures ∙ c.if-not-is_hex_digit-2.true) in
+    rw w at (sym c.is_hex_digit-in-loop-i.ensures ∙ c.if-not-is_hex_digit-2.true) in
     sym (digest_other s (c.loop-i.invariant.1 ∙ digit-other-second s (2 * i) (omega arith) d e))
 
 pub loop-i-preserved : goal.loop-i-preserved
@@ -41,7 +40,7 @@ loop-i-preserved c =
     let w = pair_low s _ i [] c.as_chunks.ensures.front (omega arith) in
     let d : is_hex_digit (get_or s (2 * i) 0) ≡ true = rw h at (sym c.is_hex_digit.ensures ∙ c.if-not-is_hex_digit.false) in
     let e : is_hex_digit (get_or s (2 * i + 1) 0) ≡ true =
-        rw w at (sym c.is_hex_digit-in-loop-i.ensures ∙ c.if-not-is_hex_digit-2.false) in
+    rw w at (sym c.is_hex_digit-in-loop-i.ensures ∙ c.if-not-is_hex_digit-2.false) in
     let a : c.digit_value.result ≡ digit_value (get_or s (2 * i) 0) = rw h at c.digit_value.ensures.0 in
     let b : c.digit_value-in-loop-i.result ≡ digit_value (get_or s (2 * i + 1) 0) = rw w at c.digit_value-in-loop-i.ensures.0 in
     let n : 2 * i + 2 ≡ 2 * (i + 1) = omega arith in

@@ -34,5 +34,5 @@ loop-b-preserved c =
     let m = a.at + a.count - a.at in
     let n : length (take m (drop a.at s)) ≡ m = length-take-le m (drop a.at s) (omega (arith, length-drop a.at s)) in
     let e : get_or (take m (drop a.at s)) k 0 ≡ get_or s (a.at + k) 0 =
-        get_or-take m (drop a.at s) k 0 (omega (arith, n)) ∙ get_or-drop a.at s k 0 in
+    get_or-take m (drop a.at s) k 0 (omega (arith, n)) ∙ get_or-drop a.at s k 0 in
     rw e (step s a.at k c.loop-b.hit (omega (arith, n)) c.loop-b.invariant)
