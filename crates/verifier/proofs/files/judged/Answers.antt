@@ -12,12 +12,6 @@ use Rattle.verifier.proofs.FilesLaws.{call-refused, call-accepted}
 use borrow.Author.Rules.{rules}
 use Rattle.verifier.proofs.files.judged.Goals as goal
 
-pub slice_bounds-judge-end : goal.slice_bounds-judge-end
-slice_bounds-judge-end c =
-    let within : c.args.request.length ≤ length c.args.request.identifier =
-    let e : length c.args.request.identifier ≡ identifier_room = search rules in omega (arith, c.requires) in
-    sym (length-take-le _ _ within)
-
 pub returns-in-Err : goal.returns-in-Err
 unfolding arguments_of requested request_in
 returns-in-Err c =
