@@ -21,6 +21,7 @@ use lines::cursor::Cursor;
 use lines::layout::Word;
 use lines::part::Part;
 
+// What a response answers: a search for a version, or monitoring.
 #[derive(Clone, Copy, PartialEq, Eq)]
 pub enum Kind {
     Search,

@@ -70,6 +70,7 @@ pub fn state_in(text: &[u8]) -> State
     match read_state(text) {
         Ok(state) => state,
         Err(refused) => {
+            // A state that stands for none, and no Option: judge takes a State, refuses it in its turn and hands it back (clause answer).
             let mut state = refused.state;
             state.label.length = State::LABEL + 1;
             state
