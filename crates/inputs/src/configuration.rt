@@ -155,14 +155,8 @@ fn uint_at(s: &[u8], at: usize, width: usize) -> Option<(u64, usize)>
     ensures result_value { uint_in s.now result ≡ read_uint width (drop at s.now) }
     ensures within { after_uint result ≤ length s.now }
 {
-    if s.len() < at {
-        return None;
-    }
-    if s.len() - at < width {
-        return None;
-    }
-    let next = at + width;
-    Some((uint_of(&s[at..next]), next))
+    let bytes = s.get(at..)?.get(..width)?;
+    Some((uint_of(bytes), at + width))
 }
 
 // The number that bytes encode, the highest first.

@@ -36,6 +36,7 @@ struct SizeLine {
 
 // The `keep` lines that follow each other: their number, the offset after them, and the first of
 // their values, as many as a block takes.
+// No Option where they are too many: state_from_lines tests the number in any case, and the loop needs no exit.
 #[derive(Clone, Copy)]
 struct Keeps {
     count: usize,
@@ -45,6 +46,7 @@ struct Keeps {
 
 // The `pair` lines that follow each other: their number with the first of their pairs, as many as a
 // state takes, and the offset after them.
+// No Option where they are too many: state_from_lines tests the number in any case, and the loop needs no exit.
 #[derive(Clone, Copy)]
 struct Pairs {
     map: MonitoringMap,
