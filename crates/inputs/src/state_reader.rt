@@ -15,6 +15,7 @@ ghost use Rattle.inputs.specs.StateReader.{label_read, size_read, pair_of, pair_
 ghost use Rattle.inputs.specs.StateReader.{KeepsFrom, PairsFrom, ReadAs, if_valid};
 
 use crate::refusal::Refusal;
+use crate::response_lines::last_bytes;
 use crate::state::{KeptLog, Label, MonitoringMap, Refused, State};
 use crate::text_line::{after_word, line_from, read_from};
 use lines::cursor::Cursor;
@@ -143,15 +144,12 @@ fn last_label(l: &[u8], c: Cursor) -> Option<Label>
     ensures { option_of result ≡ map label_read
         (read_fields (up_to label_limit ∷ []) (fields_from l.now c.at)) }
 {
-    let (length, next) = c.bytes(l)?;
+    let (length, field) = last_bytes(l, c)?;
     if State::LABEL < length {
         return None;
     }
-    if next.at <= l.len() {
-        return None;
-    }
     let mut bytes = [0u8; State::LABEL];
-    put_decoded(&mut bytes, 0, c.field(l));
+    put_decoded(&mut bytes, 0, field.of(l));
     Some(Label { bytes, length })
 }
 
