@@ -89,7 +89,7 @@ NextPartStands l (Some (part, next)) = StandsIn l part
 NextPartStands l None = Unit {0}
 
 abbrev pub LastBytesStand : Bytes → CodeOption (ℕ × Part) → Type 0
-LastBytesStand l (Some (length, part)) = StandsIn l part
+LastBytesStand l (Some (n, part)) = StandsIn l part × (length (decoded (part_of l part)) ≡ n)
 LastBytesStand l None = Unit {0}
 
 abbrev pub LastPartsStand : Bytes → CodeOption (Part × Part) → Type 0

@@ -42,6 +42,7 @@ pub fn read_response(text: &[u8]) -> Option<Response>
 }
 
 // What the lines of a section are. The `end` line is a section of its own.
+// A choice and no closure: SectionOf says by the sort what the lines read as.
 #[derive(Clone, Copy)]
 enum Sort {
     Steps,

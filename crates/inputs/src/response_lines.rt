@@ -21,6 +21,7 @@ use lines::cursor::Cursor;
 use lines::layout::Word;
 use lines::part::Part;
 
+// What a response answers: a search for a version, or monitoring.
 #[derive(Clone, Copy, PartialEq, Eq)]
 pub enum Kind {
     Search,
@@ -213,9 +214,9 @@ fn next_part(l: &[u8], c: Cursor, wanted: usize) -> Option<(Part, Cursor)>
     Some((part, next))
 }
 
-// The field at a cursor as a byte string with which the line ends, by that string's length and the
+// The field at a cursor as a byte string with which a line ends, by that string's length and the
 // part that the field fills; whoever asks says which lengths fit.
-fn last_bytes(l: &[u8], c: Cursor) -> Option<(usize, Part)>
+pub(crate) fn last_bytes(l: &[u8], c: Cursor) -> Option<(usize, Part)>
     ensures read { (fits : ℕ → Bool)
         → last_bytes_of l.now fits result
         ≡ read_fields (bytes fits ∷ []) (fields_from l.now c.at) }
