@@ -24,4 +24,5 @@ returns-in-Ok c =
     let w = c.write_state.ensures in
     let r = c.judge.ensures in
     rw c.length_found.ensures
-    (call-accepted _ _ _ _ _ (omega arith) _ _ r.answer r.bytes _ c.in-Ok.is _ _ _ _ _ _ c.put_accepted.ensures (omega arith) w.answer w.bytes)
+    (call-accepted _ _ _ _ _ (omega arith) _ _ r.answer r.bytes _ c.in-Ok.is _ _ _ _ _ _
+    c.put_accepted.ensures (omega arith) w.answer w.bytes)
