@@ -1,8 +1,6 @@
 -- `verifier::files::check_files` meets its contract: files that were not read or are too long are
 -- refused, and else the call that the request asks for is made.
-use mathlib.Core.Path.{◌≡◌, sym, ◌∙◌}
-use mathlib.Core.Bool.{true}
-use Rattle.verifier.specs.Files.{are_within}
+use mathlib.Core.Path.{sym, ◌∙◌}
 use Rattle.verifier.proofs.FilesLaws.{unread-refused, over-refused, refusal-told, request_within}
 use Rattle.verifier.proofs.FilesLaws.{call-told}
 use Rattle.verifier.proofs.files.check_files.Goals as goal

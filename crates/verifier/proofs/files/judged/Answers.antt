@@ -1,15 +1,10 @@
 -- `verifier::files::judged` meets its contract: the call asked for is judged with the request's own
 -- identifier, the line and the new state's text are written.
-use mathlib.Core.Path.{◌≡◌, sym}
-use Prim.Native.Nat.{◌≤◌}
 use native.Mathlib.Omega.{arith}
-use lib.ListN.{length}
-use lib.Seq.{length-take-le}
 use Rattle.rules.specs.Program.{requested}
 use Rattle.checks.specs.Calls.{arguments_of}
-use Rattle.verifier.specs.Request.{identifier_room, request_in}
+use Rattle.verifier.specs.Request.{request_in}
 use Rattle.verifier.proofs.FilesLaws.{call-refused, call-accepted}
-use borrow.Author.Rules.{rules}
 use Rattle.verifier.proofs.files.judged.Goals as goal
 
 pub returns-in-Err : goal.returns-in-Err
