@@ -175,8 +175,5 @@ fn lookups_shown(entries: &[u8], from: usize, wanted: &[u32]) -> LookupsShown
 pub(crate) fn is_at(wanted: &[u32], i: usize, version: u32) -> bool
     ensures { result ≡ begins (version ∷ []) (drop i wanted.now) }
 {
-    if wanted.len() <= i {
-        return false;
-    }
-    version == wanted[i]
+    wanted.get(i) == Some(&version)
 }

@@ -57,6 +57,7 @@ pub(crate) fn moved_pairs(tree_size: u64, map: MonitoringMap) -> MonitoringMap
         versions: [0u32; State::PAIRS],
         count: 0,
     };
+    // By index, backwards: positions and versions are two arrays (inputs::state says why).
     for i in (0..map.count).rev() {
         let end = last_right_ancestor(tree_size, positions[i]);
         let there = version_there(moved, end);

@@ -39,10 +39,10 @@ pub(crate) fn wanted_step(
         outputs.now offsets.old result offsets.new }
 {
     let step = next_step(steps, at)?;
-    if (step.version != version) | (step.committed != committed) {
+    if (step.version != version) | (step.commitment.is_some() != committed) {
         return None;
     }
-    let there = note_commitment(outputs, version, step.commitment, offsets);
+    let there = note_commitment(outputs, version, step.commitment.unwrap_or(0), offsets);
     Some((there, step.next))
 }
 
