@@ -36,6 +36,7 @@ pub(crate) fn next_step(steps: &[u8], at: usize) -> Option<NextStep>
 }
 
 // The offset after the line of the entry at an offset where no lookup stands, if an entry does.
+// Text and offset are no struct: it would be made anew at each line, and both facts of it proved there.
 pub(crate) fn next_entry(entries: &[u8], at: usize) -> Option<usize>
     requires lines { EntryLines (drop at entries.now) }
     requires loose { loose_in (drop at entries.now) ≡ [] }
