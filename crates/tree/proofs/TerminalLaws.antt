@@ -1,7 +1,7 @@
 -- What stands at the place a lookup ends in, as the code holds it (specs/Lookups.antt): its value,
 -- and whether it fits.
 use mathlib.Core.Path.{◌≡◌, refl, sym, ap, ◌∙◌}
-use mathlib.Core.Bool.{true, false}
+use mathlib.Core.Bool.{Bool, true, false}
 use mathlib.Core.List.{List, [], ◌∷◌, ◌++◌}
 use Prim.Native.Nat.{ℕ, ◌<◌, ◌≤◌}
 use lib.Dec.{leb}
@@ -13,6 +13,7 @@ use denote.Array.{each}
 use denote.Shadow.{shadow}
 use mir.Syntax.{w8}
 use mir.Val.{Val}
+use Rattle.std.specs.Prelude.{Option, Some, None, MatchOption}
 use Rattle.lists.specs.Lists.{Bytes, same}
 use Rattle.lists.proofs.ListLaws.{equal_same, differ_same}
 use Rattle.hash.specs.Bytes.{AreBytes}
@@ -82,3 +83,10 @@ other_fits o p m t n depth h e d =
 pub same_unfit : (o p m : Bytes) (t : Held) (depth : ℕ) → t ≡ OtherLeaf p m → o ≡ p → false ≡ terminal_fits o (terminal_of t) depth
 unfolding terminal_of terminal_fits
 same_unfit o p m t depth h e = rw (h, equal_same o p e) refl
+
+-- The bits that two outputs share decide whether another leaf fits.
+pub shared_fits : (o p m : Bytes) (t : Held) (depth : ℕ) → t ≡ OtherLeaf p m → (r : Option ℕ) (b : Bool) (Q : ℕ → Type 0)
+    → MatchOption r (o ≡ p) (λ n. (take n (bits o) ≡ take n (bits p)) × (get_or (bits o) n 0 ≡ get_or (bits p) n 0 → ⊥))
+    → MatchOption r (b ≡ false) Q → ((n : ℕ) → Q n → b ≡ leb depth n) → b ≡ terminal_fits o (terminal_of t) depth
+shared_fits o p m t depth h None b Q e f k = f ∙ same_unfit o p m t depth h e
+shared_fits o p m t depth h (Some n) b Q e f k = k n f ∙ other_fits o p m t n depth h e.0 e.1

@@ -19,14 +19,8 @@ pub returns : goal.returns
 returns c =
     let held = c.well_formed in
     let e : c.loop-n.n ≡ output_bits = omega arith in
-    let i = rw e at c.loop-n.invariant in (
-      omega arith,
-      i,
-      λ h. absurd (omega arith),
-      λ _.
-          all_shared c.args.a c.args.b output_bits (bytes_held c.args.a held.0.0 held.0.1.1)
-          (bytes_held c.args.b held.1.0.0 held.1.0.1.1)
-          (omega (arith, held.0.1.0.1))
-          (omega (arith, held.1.0.1.0.1))
-          i,
-    )
+    all_shared c.args.a c.args.b output_bits (bytes_held c.args.a held.0.0 held.0.1.1)
+    (bytes_held c.args.b held.1.0.0 held.1.0.1.1)
+    (omega (arith, held.0.1.0.1))
+    (omega (arith, held.1.0.1.0.1))
+    (rw e at c.loop-n.invariant)
