@@ -90,12 +90,7 @@ fn shared_bits(a: [u8; 32], b: [u8; 32]) -> Option<usize>
     ensures { MatchOption result (a ≡ b) (λ n. (take n (bits a) ≡ take n (bits b))
         × (get_or (bits a) n 0 ≡ get_or (bits b) n 0 → ⊥)) }
 {
-    for n in 0..OUTPUT_BITS {
-        if bit_at(a, n) != bit_at(b, n) {
-            return Some(n);
-        }
-    }
-    None
+    (0..OUTPUT_BITS).position(|n| bit_at(a, n) != bit_at(b, n))
 }
 
 // Whether what stands at the place fits a lookup of so many siblings (001, 11.2): another leaf has
