@@ -100,7 +100,9 @@ all_shared o p n x y l k e =
     (sym (take_all n (bits o) (omega (arith, length_bits o))) ∙ e ∙ take_all n (bits p) (omega (arith, length_bits p)))
 
 -- Two lists that agree at each place before the first n share those.
-pub shared_up : (x y : List ℕ) (n : ℕ) → n ≤ length x → n ≤ length y → ((k : ℕ) → k < n → get_or x k 0 ≡ get_or y k 0) → take n x ≡ take n y
+pub shared_up : (x y : List ℕ) (n : ℕ) → n ≤ length x → n ≤ length y
+    → ((k : ℕ) → k < n → get_or x k 0 ≡ get_or y k 0) → take n x ≡ take n y
 shared_up x y zero h k e = refl
 shared_up x y (suc n) h k e =
-    rw (sym (add-one n)) (one_more x y n (omega arith) (omega arith) (shared_up x y n (omega arith) (omega arith) (λ i l. e i (omega arith))) (e n (omega arith)))
+    let below : take n x ≡ take n y = shared_up x y n (omega arith) (omega arith) (λ i l. e i (omega arith)) in
+    rw (sym (add-one n)) (one_more x y n (omega arith) (omega arith) below (e n (omega arith)))

@@ -97,8 +97,10 @@ shared_fits o p m t depth h (Some n) b Q e f k = k n f ∙ other_fits o p m t n 
 
 -- What is found among the numbers of the bits is where two outputs part.
 pub parting_found : (o p : Bytes) → AreBytes o → AreBytes p → length o ≡ 32 → length p ≡ 32 → (r : Option ℕ)
-    → MatchOption r (AllWithin (λ n. get_or (bits o) n 0 ≡ get_or (bits p) n 0) (range_with_len 0 256) 0 (length (range_with_len 0 256)))
-    (λ i. (i < length (range_with_len 0 256)) × HoldsAt (λ n. get_or (bits o) n 0 ≡ get_or (bits p) n 0 → ⊥) (range_with_len 0 256) i
+    → MatchOption r
+    (AllWithin (λ n. get_or (bits o) n 0 ≡ get_or (bits p) n 0) (range_with_len 0 256) 0 (length (range_with_len 0 256)))
+    (λ i. (i < length (range_with_len 0 256))
+    × HoldsAt (λ n. get_or (bits o) n 0 ≡ get_or (bits p) n 0 → ⊥) (range_with_len 0 256) i
     × AllWithin (λ n. get_or (bits o) n 0 ≡ get_or (bits p) n 0) (range_with_len 0 256) 0 i)
     → MatchOption r (o ≡ p) (λ n. (take n (bits o) ≡ take n (bits p)) × (get_or (bits o) n 0 ≡ get_or (bits p) n 0 → ⊥))
 parting_found o p a b l m r f = go r f
@@ -117,9 +119,13 @@ parting_found o p a b l m r f = go r f
         shared_up (bits o) (bits p) n (omega (arith, length_bits o)) (omega (arith, length_bits p))
         (λ k i. subst Same (get_or-range_with_len 0 256 k 0 (omega arith) ∙ omega arith) (w k 0 (omega arith) (omega arith)))
 
-    go : (q : Option ℕ) → MatchOption q (AllWithin Same all 0 (length all)) (λ i. (i < length all) × HoldsAt (λ n. Same n → ⊥) all i × AllWithin Same all 0 i)
+    go : (q : Option ℕ) → MatchOption q (AllWithin Same all 0 (length all))
+        (λ i. (i < length all) × HoldsAt (λ n. Same n → ⊥) all i × AllWithin Same all 0 i)
         → MatchOption q (o ≡ p) (λ n. (take n (bits o) ≡ take n (bits p)) × (Same n → ⊥))
-    go None w = all_shared o p 256 a b (omega arith) (omega arith) (same_below 256 (omega arith) (subst (AllWithin Same all 0) long w))
+    go None w =
+        let all_same : take 256 (bits o) ≡ take 256 (bits p) =
+        same_below 256 (omega arith) (subst (AllWithin Same all 0) long w) in
+        all_shared o p 256 a b (omega arith) (omega arith) all_same
     go (Some n) w =
         let h : n < 256 = omega (arith, w.0, long) in
         (same_below n (omega arith) w.2, subst (λ k. Same k → ⊥) (get_or-range_with_len 0 256 n 0 h ∙ omega arith) (w.1 0))

@@ -8,7 +8,8 @@ use Rattle.tree.proofs.prefix_tree.terminal_fits.Goals as goal
 pub returns-in-OtherLeaf : goal.returns-in-OtherLeaf
 returns-in-OtherLeaf c =
     let s = c.args in
-    shared_fits s.output _ _ s.terminal s.depth c.in-OtherLeaf.is _ _ _ c.shared_bits.ensures c.is_some_and.ensures (λ n k. search rules)
+    shared_fits s.output _ _ s.terminal s.depth c.in-OtherLeaf.is _ _ _ c.shared_bits.ensures c.is_some_and.ensures
+    (λ n k. search rules)
 
 pub returns-in-SearchedLeaf : goal.returns-in-SearchedLeaf
 returns-in-SearchedLeaf c =
