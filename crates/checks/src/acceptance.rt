@@ -21,6 +21,7 @@ use tree::log_head::LogHead;
 
 // 16, or acceptance: the log as the response shows it, the new map, and the value that a search
 // found in the first output bytes.
+// Behind a reference the lengths of a state's arrays are not known from their types, so `Sized` is asked.
 pub(crate) fn accepted(
     text: &[u8],
     call: Call,

@@ -58,6 +58,7 @@ struct Results {
 
 // Tries 12 and 13 on a call to which none of 6 to 11 applies, whose commitments stand at the
 // offsets given; answers the position of a search's first complete entry.
+// The label's limit is a clause: a state may hold a longer label, so that it is no fact of its type.
 pub(crate) fn try_12_and_13(
     text: &[u8],
     call: Call,
@@ -108,7 +109,8 @@ fn search_judged(
     first_refusal(results.reached, first)
 }
 
-// The same of monitoring: every lookup is included. There is no position to answer.
+// The same of monitoring: every lookup is included. There is no position to answer: it is 0, and no
+// Option, which the new map of a search would have to open although the kind has told that it is there.
 fn monitoring_judged(
     text: &[u8],
     call: Call,
@@ -120,6 +122,7 @@ fn monitoring_judged(
     ensures { (label : Bytes) → IsJudged text.now call label outputs.now
         commitments.now result }
 {
+    // Zeros and no Option: one step sums the lookups of both kinds, and would open it in each to no end here.
     let sought = Sought {
         kind: Kind::Monitor,
         version: 0,

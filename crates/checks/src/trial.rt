@@ -52,6 +52,7 @@ pub(crate) struct Shape {
 
 // Tries 1 to 14 on what a call is given, for the kind of call asked for. The values of the full
 // subtrees go into the block lent.
+// Behind a reference the lengths of a state's arrays are not known from their types, so `Sized` is asked.
 pub(crate) fn try_1_to_14(
     asked: Option<Kind>,
     response: &[u8],
@@ -171,9 +172,8 @@ fn try_9_to_11(
     ensures { Is9to11Tried text.now call positions.now versions.now
         outputs.now result commitments.new }
 {
-    let Some(shape) = asked_by_kind(text, call, positions, versions, outputs, commitments) else {
-        return Err(Refusal::Shape);
-    };
+    let shape = asked_by_kind(text, call, positions, versions, outputs, commitments)
+        .ok_or(Refusal::Shape)?;
     let nodes = nodes_asked(
         call.response.entries.part.of(text),
         call.response.tree_size,
@@ -198,7 +198,7 @@ fn try_9_to_11(
 
 // What else is told of a response that shows what its kind asks. The offsets of the commitments go
 // into the table lent.
-// Text, call, pairs and outputs are no struct: clauses would speak of each of its references.
+// Text, call, pairs and outputs are no struct: the table written to could not go along, and 12 takes no pairs.
 fn asked_by_kind(
     text: &[u8],
     call: Call,
