@@ -13,7 +13,8 @@ pub returns-then-state-gt-TEXT : goal.returns-then-state-gt-TEXT
 returns-then-state-gt-TEXT c =
     let a = c.args in
     let given = arguments_of a.response.now a.configuration.now a.identifier.now a.clock a.vrf_outputs.now in
-    let it = call-over (asked_kind a.asked) a.state.now given a.signed_text.now a.output.now a.new_state.now (omega arith) in
+    let it =
+    call-over (asked_kind a.asked) a.state.now given a.signed_text.now a.output.now a.new_state.now (omega arith) in
     record { answer = c.number.ensures ∙ it.0; output = it.1.0; state = it.1.1 }
 
 -- there is too little room for the new one
@@ -22,7 +23,8 @@ returns-then-new_state-lt-TEXT c =
     let a = c.args in
     let given = arguments_of a.response.now a.configuration.now a.identifier.now a.clock a.vrf_outputs.now in
     let it =
-    call-unplaced (asked_kind a.asked) a.state.now given a.signed_text.now a.output.now a.new_state.now (omega arith) (omega arith) in
+    call-unplaced (asked_kind a.asked) a.state.now given a.signed_text.now a.output.now a.new_state.now
+    (omega arith) (omega arith) in
     record { answer = c.number-then-new_state-lt-TEXT.ensures ∙ it.0; output = it.1.0; state = it.1.1 }
 
 -- the call is refused
@@ -32,8 +34,9 @@ returns-in-Err c =
     let r = c.judge in
     let given = arguments_of a.response.now a.configuration.now a.identifier.now a.clock a.vrf_outputs.now in
     let it =
-    call-refused (asked_kind a.asked) a.state.now given a.signed_text.now a.output.now a.new_state.now (omega arith) (omega arith)
-    c.state_in-held.result c.state_in-held.ensures r.result r.new.output r.ensures.answer r.ensures.bytes _ c.in-Err.is in
+    call-refused (asked_kind a.asked) a.state.now given a.signed_text.now a.output.now a.new_state.now
+    (omega arith) (omega arith) c.state_in-held.result c.state_in-held.ensures
+    r.result r.new.output r.ensures.answer r.ensures.bytes _ c.in-Err.is in
     record { answer = c.number-in-Err.ensures ∙ it.0; output = it.1.0; state = it.1.1 }
 
 -- ---- the lengths in the answer are not too large
@@ -43,8 +46,8 @@ overflow_mul-result c =
     let a = c.args in
     let given = arguments_of a.response.now a.configuration.now a.identifier.now a.clock a.vrf_outputs.now in
     let value =
-    answer_short (asked_kind a.asked) given a.signed_text.now (length a.output.now) c.state_in-held.result c.judge.result
-    c.judge.ensures.answer _ c.in-Ok.is in
+    answer_short (asked_kind a.asked) given a.signed_text.now (length a.output.now) c.state_in-held.result
+    c.judge.result c.judge.ensures.answer _ c.in-Ok.is in
     omega (arith, value, c.length_found-value.ensures)
 
 pub overflow_mul-result-in-Ok : goal.overflow_mul-result-in-Ok
@@ -59,8 +62,8 @@ overflow_add-result c =
     let w = c.write_state-text in
     let given = arguments_of a.response.now a.configuration.now a.identifier.now a.clock a.vrf_outputs.now in
     let value =
-    answer_short (asked_kind a.asked) given a.signed_text.now (length a.output.now) c.state_in-held.result c.judge.result
-    c.judge.ensures.answer _ c.in-Ok.is in
+    answer_short (asked_kind a.asked) given a.signed_text.now (length a.output.now) c.state_in-held.result
+    c.judge.result c.judge.ensures.answer _ c.in-Ok.is in
     let text = text_short c.in-Ok.accepted.state a.new_state.now w.result w.ensures.answer in
     omega (arith, value, text, c.length_found-value.ensures)
 
@@ -73,8 +76,9 @@ returns-in-Ok c =
     let w = c.write_state-text in
     let given = arguments_of a.response.now a.configuration.now a.identifier.now a.clock a.vrf_outputs.now in
     let it =
-    call-answered (asked_kind a.asked) a.state.now given a.signed_text.now a.output.now a.new_state.now (omega arith) (omega arith)
-    c.state_in-held.result c.state_in-held.ensures r.result r.new.output r.ensures.answer r.ensures.bytes _ c.in-Ok.is
+    call-answered (asked_kind a.asked) a.state.now given a.signed_text.now a.output.now a.new_state.now
+    (omega arith) (omega arith) c.state_in-held.result c.state_in-held.ensures
+    r.result r.new.output r.ensures.answer r.ensures.bytes _ c.in-Ok.is
     w.result w.new.lent w.ensures.answer w.ensures.bytes in
     let n = ap (λ (k : ℕ). k * 2 ^ 8 + w.result * 2 ^ 32) c.length_found-value.ensures in
     record { answer = n ∙ it.0; output = it.1.0; state = it.1.1 }

@@ -18,8 +18,9 @@ returns-in-Ok c =
     let t = c.signed_text in
     let given = arguments_of a.response.now a.configuration.now a.identifier.now a.clock a.vrf_outputs.now in
     let it =
-    signed-text-answered a.kind a.state.now given a.buffer.now a.offset (omega arith) c.state_in-held.result c.state_in-held.ensures
-    (asked_kind c.kind_numbered.result) c.kind_numbered.ensures _ t.new.buffer
+    signed-text-answered a.kind a.state.now given a.buffer.now a.offset (omega arith)
+    c.state_in-held.result c.state_in-held.ensures (asked_kind c.kind_numbered.result)
+    c.kind_numbered.ensures _ t.new.buffer
     (ap length_in (sym c.in-Ok.is) ∙ t.ensures.answer, t.ensures.bytes) in
     record { answer = it.0; bytes = it.1 }
 
@@ -30,7 +31,8 @@ returns-in-Err c =
     let t = c.signed_text in
     let given = arguments_of a.response.now a.configuration.now a.identifier.now a.clock a.vrf_outputs.now in
     let it =
-    signed-text-answered a.kind a.state.now given a.buffer.now a.offset (omega arith) c.state_in-held.result c.state_in-held.ensures
-    (asked_kind c.kind_numbered.result) c.kind_numbered.ensures _ t.new.buffer
+    signed-text-answered a.kind a.state.now given a.buffer.now a.offset (omega arith)
+    c.state_in-held.result c.state_in-held.ensures (asked_kind c.kind_numbered.result)
+    c.kind_numbered.ensures _ t.new.buffer
     (c.number-in-Err.ensures ∙ ap length_in (sym c.in-Err.is) ∙ t.ensures.answer, t.ensures.bytes) in
     record { answer = it.0; bytes = it.1 }
