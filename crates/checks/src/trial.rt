@@ -15,7 +15,7 @@ use crate::search::search_asked;
 use crate::steps::Commitments;
 use crate::timestamps::{Timestamps, near_clock};
 use inputs::refusal::Refusal;
-use inputs::response_lines::Kind;
+use inputs::response_lines::{Finding, Kind};
 use inputs::state::State;
 use tree::log_head::{LogHead, log_head, nodes_asked};
 
@@ -211,10 +211,16 @@ fn asked_by_kind(
     ensures { IsShape text.now call positions.now versions.now
         outputs.now result commitments.new }
 {
-    let response = call.response;
-    let kind = response.kind;
-    match kind {
-        Kind::Search => search_asked(text, call, positions, versions, outputs, commitments),
-        Kind::Monitor => monitoring_asked(text, call, positions, versions, outputs, commitments),
+    match call.response.finding {
+        Finding::Search(target) => search_asked(
+            text,
+            call,
+            target,
+            positions,
+            versions,
+            outputs,
+            commitments,
+        ),
+        Finding::Monitor => monitoring_asked(text, call, positions, versions, outputs, commitments),
     }
 }

@@ -69,7 +69,9 @@ module _ (s : Bytes) (at : ℕ) (l : Bytes) (next : ℕ) (e : line_from s at ≡
 
     -- the line is what a search found, with its fields as parts of the text
     pub target_found : target_of l (Some t) ≡ read_line target_form l
-        → finding_of s (Some (Search (record { version = t.version; opening = shifted at t.opening; value = shifted at t.value }), next)) ≡ read_finding search s at
+        → finding_of s
+        (Some (Search (record { version = t.version; opening = shifted at t.opening; value = shifted at t.value }), next))
+        ≡ read_finding search s at
     unfolding finding_in read_finding bind
     target_found q =
         let f = from-its-line (read_line target_form) s at l next e ∙ ap (map (followed_by next)) (sym q) in

@@ -16,7 +16,8 @@ returns-in_err-tree_size-clause-header c =
 pub returns-in_err-finding-clause-header : goal.returns-in_err-finding-clause-header
 returns-in_err-finding-clause-header c =
     let e = sym c.in_ok-first.ensures.read in
-    rw c.from_residual-in_err-finding.ensures (sym (response-unfound _ _ _ _ _ e _ _ (sym c.in_ok-tree_size.ensures) (sym c.in_err-finding.ensures.read)))
+    rw c.from_residual-in_err-finding.ensures
+    (sym (response-unfound _ _ _ _ _ e _ _ (sym c.in_ok-tree_size.ensures) (sym c.in_err-finding.ensures.read)))
 
 pub returns : goal.returns
 unfolding parts_after
