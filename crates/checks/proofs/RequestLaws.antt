@@ -123,34 +123,34 @@ kind_test text r asked kind is_kind c p q =
 module _ (text : Bytes) (r : Response) (asked : CodeOption Kind) (identifier label : Bytes) (kind : Kind)
     (is_kind : kind ≡ kind_found r.finding)
   where
-  -- one of another kind is not that of the call
-  pub kind_foreign : is_kind_asked kind asked ≡ false → IsRequested asked text r identifier label false
-  unfolding foreign
-  kind_foreign e c p q i l = rw (kind_test text r asked kind is_kind c p q ∙ e) refl
+    -- one of another kind is not that of the call
+    pub kind_foreign : is_kind_asked kind asked ≡ false → IsRequested asked text r identifier label false
+    unfolding foreign
+    kind_foreign e c p q i l = rw (kind_test text r asked kind is_kind c p q ∙ e) refl
 
-  module _ (f : Fields text r) (k : is_kind_asked kind asked ≡ true) (field : Bytes)
-      (w : field ≡ part_of text r.identifier)
-    where
-    -- nor is one with another identifier
-    pub identifier-foreign : Option-elim (read_hex field) false (λ (b : Bytes). same b identifier) ≡ false
-        → IsRequested asked text r identifier label false
-    unfolding foreign parts_in
-    identifier-foreign e c p q i l =
-        let z : same (decoded (part_of text r.identifier)) identifier ≡ false =
-        sym (decoded_same field _ identifier w f.identifier) ∙ e in
-        rw (kind_test text r asked kind is_kind c p q ∙ k, p, i, z) refl
+    module _ (f : Fields text r) (k : is_kind_asked kind asked ≡ true) (field : Bytes)
+        (w : field ≡ part_of text r.identifier)
+      where
+        -- nor is one with another identifier
+        pub identifier-foreign : Option-elim (read_hex field) false (λ (b : Bytes). same b identifier) ≡ false
+            → IsRequested asked text r identifier label false
+        unfolding foreign parts_in
+        identifier-foreign e c p q i l =
+            let z : same (decoded (part_of text r.identifier)) identifier ≡ false =
+            sym (decoded_same field _ identifier w f.identifier) ∙ e in
+            rw (kind_test text r asked kind is_kind c p q ∙ k, p, i, z) refl
 
-    -- with the same identifier, the label decides
-    pub label-decides : Option-elim (read_hex field) false (λ (b : Bytes). same b identifier) ≡ true
-        → (t : Bool) (g : Bytes) → g ≡ part_of text r.label
-        → t ≡ Option-elim (read_hex g) false (λ (b : Bytes). same b label)
-        → IsRequested asked text r identifier label t
-    unfolding foreign parts_in
-    label-decides e t g v d c p q i l =
-        let z : same (decoded (part_of text r.identifier)) identifier ≡ true =
-        sym (decoded_same field _ identifier w f.identifier) ∙ e in
-        let y : same (decoded (part_of text r.label)) label ≡ t = sym (decoded_same g _ label v f.label) ∙ sym d in
-        rw (kind_test text r asked kind is_kind c p q ∙ k, p, i, l, z, y) (sym (not-not t))
+        -- with the same identifier, the label decides
+        pub label-decides : Option-elim (read_hex field) false (λ (b : Bytes). same b identifier) ≡ true
+            → (t : Bool) (g : Bytes) → g ≡ part_of text r.label
+            → t ≡ Option-elim (read_hex g) false (λ (b : Bytes). same b label)
+            → IsRequested asked text r identifier label t
+        unfolding foreign parts_in
+        label-decides e t g v d c p q i l =
+            let z : same (decoded (part_of text r.identifier)) identifier ≡ true =
+            sym (decoded_same field _ identifier w f.identifier) ∙ e in
+            let y : same (decoded (part_of text r.label)) label ≡ t = sym (decoded_same g _ label v f.label) ∙ sym d in
+            rw (kind_test text r asked kind is_kind c p q ∙ k, p, i, l, z, y) (sym (not-not t))
 
 -- ---- 7: the size
 
