@@ -46,8 +46,7 @@ fn kt_from(text: &[u8]) -> Option<(KtLine, usize)>
     ensures read { opened_of text.now result ≡ read_from read_kt text.now 0 }
     ensures decodes { OpenedDecodes text.now result }
 {
-    let (line, next) = line_from(text, 0)?;
-    Some((kt_line(line)?, next))
+    read_from(text, 0, kt_line)
 }
 
 // n of the `head` line at an offset, and the offset after it.
