@@ -23,8 +23,11 @@ unfolding ascii
 put_counts-requires c =
     let a = c.args in
     let room : 0 + length (word ++ decimal a.version ++ counts_text a.tree_size a.pairs) ≤ length a.out.now =
-    omega (arith, c.put_bytes-arg-1.given.0,
-    found_fits a.version a.tree_size a.pairs (omega arith) (omega arith) (omega arith)) in
+    omega (
+      arith,
+      c.put_bytes-arg-1.given.0,
+      found_fits a.version a.tree_size a.pairs (omega arith) (omega arith) (omega arith),
+    ) in
     let front : Wrote a.out.now 0 (word ++ decimal a.version) c.unwrap_or-end.result c.put_decimal.new.out =
     both_put word (decimal a.version) _ _
     (room_first (word ++ decimal a.version) (counts_text a.tree_size a.pairs) _ _ room)
@@ -38,8 +41,11 @@ unfolding ascii
 returns c =
     let a = c.args in
     let room : 0 + length (word ++ decimal a.version ++ counts_text a.tree_size a.pairs) ≤ length a.out.now =
-    omega (arith, c.put_bytes-arg-1.given.0,
-    found_fits a.version a.tree_size a.pairs (omega arith) (omega arith) (omega arith)) in
+    omega (
+      arith,
+      c.put_bytes-arg-1.given.0,
+      found_fits a.version a.tree_size a.pairs (omega arith) (omega arith) (omega arith),
+    ) in
     let front : Wrote a.out.now 0 (word ++ decimal a.version) c.unwrap_or-end.result c.put_decimal.new.out =
     both_put word (decimal a.version) _ _
     (room_first (word ++ decimal a.version) (counts_text a.tree_size a.pairs) _ _ room)
