@@ -282,19 +282,21 @@ module _ (s : Bytes) (at : ℕ) (a : StepLines (drop at s)) where
         let hn = h.next_is in
         let committed = eqb (length l) (field + value_digits) in
         let given : is_some x.commitment ≡ committed = ap is_some k ∙ commitment_told c (length l) field g m in
-        let within : at + field ≤ length s = omega arith in
-        ((
-          x,
-          f.values,
-          sym (ap (λ (y : ℕ × ℕ). y.0) p),
-          given ∙ sym (noted_given committed (at + field)),
-          noted_right s committed (at + field) x.commitment given
-              (rw k (step_commitment_lem s (at + field) c (newline ∷ drop next s) g b d)),
-          f.others,
-          omega arith,
-          omega arith,
-          noted_within committed (at + field) (length s) within,
-        ), within)
+        let within : at + field ≤ length s = omega arith in (
+          (
+            x,
+            f.values,
+            sym (ap (λ (y : ℕ × ℕ). y.0) p),
+            given ∙ sym (noted_given committed (at + field)),
+            noted_right s committed (at + field) x.commitment given
+                (rw k (step_commitment_lem s (at + field) c (newline ∷ drop next s) g b d)),
+            f.others,
+            omega arith,
+            omega arith,
+            noted_within committed (at + field) (length s) within,
+          ),
+          within,
+        )
 
     -- its version is read after its word
     pub step-number : read_at (read_number version_bound) (take (stop - at) (drop at s)) step_fields ≡ none → ⊥

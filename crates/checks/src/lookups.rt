@@ -3,7 +3,7 @@
 ghost use Rattle.std.specs.Prelude.{◌≡◌, [], ◌≤◌, length, drop};
 ghost use Rattle.lists.specs.Lists.{Bytes};
 ghost use Rattle.rules.specs.Limits.{label_limit};
-ghost use Rattle.inputs.specs.declared.response_lines.Kind.TheVariants.{Search, Monitor};
+ghost use Rattle.inputs.specs.declared.response_lines.Finding.TheVariants.{Search, Monitor};
 ghost use Rattle.inputs.specs.Response.{entries_in, loose_in};
 ghost use Rattle.checks.specs.Calls.{offset_bound, Triable, IsJudged};
 ghost use Rattle.checks.specs.Sections.{EntryLines, AfterLookups};
@@ -18,7 +18,7 @@ use crate::sections::{is_included, lookup_version, next_entry, next_lookup};
 use crate::sought::Sought;
 use crate::steps::Commitments;
 use inputs::refusal::Refusal;
-use inputs::response_lines::Kind;
+use inputs::response_lines::{Finding, Kind, Target};
 use lines::layout::Layout;
 use tree::ladder::Ladder;
 use tree::log_text::{position_at, prefix_root_at};
@@ -71,29 +71,30 @@ pub(crate) fn try_12_and_13(
     ensures { IsJudged text.now call label.now outputs.now
         commitments.now result }
 {
-    match call.response.kind {
-        Kind::Search => search_judged(text, call, label, outputs, commitments),
-        Kind::Monitor => monitoring_judged(text, call, outputs, commitments),
+    match call.response.finding {
+        Finding::Search(target) => search_judged(text, call, target, label, outputs, commitments),
+        Finding::Monitor => monitoring_judged(text, call, outputs, commitments),
     }
 }
 
-// The same of a search: short entries come first, then whole ones, the last one whole.
+// The same of a search for a target: short entries come first, then whole ones, the last one whole.
 fn search_judged(
     text: &[u8],
     call: Call,
+    target: Target,
     label: &[u8],
     outputs: &[u8],
     commitments: &[u32; Commitments::RECORDS],
 ) -> Result<u64, Refusal>
     requires possible { Triable text.now call outputs.now }
-    requires kind { call.response.kind ≡ Search }
+    requires finding { call.response.finding ≡ Search target }
     requires label { length label.now ≤ label_limit }
     ensures { IsJudged text.now call label.now outputs.now
         commitments.now result }
 {
-    let version = call.response.target.version;
-    let opening = call.response.target.opening.of(text);
-    let value = call.response.target.value.of(text);
+    let version = target.version;
+    let opening = target.opening.of(text);
+    let value = target.value.of(text);
     let whole = Ladder::of(version);
     let sought = Sought {
         kind: Kind::Search,
@@ -118,7 +119,7 @@ fn monitoring_judged(
     commitments: &[u32; Commitments::RECORDS],
 ) -> Result<u64, Refusal>
     requires possible { Triable text.now call outputs.now }
-    requires kind { call.response.kind ≡ Monitor }
+    requires finding { call.response.finding ≡ Monitor }
     ensures { (label : Bytes) → IsJudged text.now call label outputs.now
         commitments.now result }
 {

@@ -13,7 +13,7 @@ use crate::limits::InputLimit;
 use crate::readings::Call;
 use inputs::refusal::Refusal;
 use inputs::response::Response;
-use inputs::response_lines::{Kind, KtLine};
+use inputs::response_lines::{Finding, Kind, KtLine};
 use inputs::state::State;
 use lines::writing::put_decoded;
 use tree::log_head::has_size;
@@ -71,7 +71,7 @@ pub(crate) fn try_6_to_8(
     if !has_size(r.tree_size, call.kept_size) {
         return Err(Refusal::TreeSize);
     }
-    if !target_fits(r.kind, r.target.version, versions) {
+    if !target_fits(r.finding, versions) {
         return Err(Refusal::Target);
     }
     Ok(())
@@ -91,7 +91,7 @@ fn is_requested(
     ensures { IsRequested asked text.now r identifier.now label.now
         result }
 {
-    if !is_kind_asked(r.kind, asked) {
+    if !is_kind_asked(r.finding.kind(), asked) {
         return false;
     }
     if !decodes(r.identifier.of(text), identifier) {
@@ -108,12 +108,12 @@ fn is_kind_asked(kind: Kind, asked: Option<Kind>) -> bool
 }
 
 // Whether a search's version is one that can be searched for, and not below one in the map.
-fn target_fits(kind: Kind, version: u32, versions: &[u32]) -> bool
-    ensures { FitsTarget kind version versions.now result }
+fn target_fits(finding: Finding, versions: &[u32]) -> bool
+    ensures { FitsTarget finding versions.now result }
 {
-    match kind {
-        Kind::Search => version_fits(version, versions),
-        Kind::Monitor => true,
+    match finding {
+        Finding::Search(target) => version_fits(target.version, versions),
+        Finding::Monitor => true,
     }
 }
 

@@ -310,7 +310,9 @@ module _ (s : Bytes) (cs : List Bytes) (e : cs
   rise_as_all h zero l = refl
   rise_as_all h (suc i) l =
       let m : i + 1 ≡ suc i = omega arith in
-      rise_as_all h i (omega arith) ∙ rises_on s i (omega arith) (h i (omega arith)) ∙ ap (λ (k : ℕ). rising (drop k (versions s))) m
+      rise_as_all h i (omega arith)
+      ∙ rises_on s i (omega arith) (h i (omega arith))
+      ∙ ap (λ (k : ℕ). rising (drop k (versions s))) m
 
   -- so all rise
   rise-whole : ((k : ℕ) → k + 1 < length s / record_length → (record_at s k).version < (record_at s (k + 1)).version)
@@ -326,7 +328,8 @@ module _ (s : Bytes) (cs : List Bytes) (e : cs
   rise_by_pairs true all = sym (rise-whole (λ k l.
       let a = version_there k [] (omega arith) in
       let b = version_there (k + 1) [] l in
-      let t = ltb-true (chunk_version (get_or cs k [])) (chunk_version (get_or cs (k + 1) [])) (sym (all k [] (omega arith))) in
+      let t = ltb-true (chunk_version (get_or cs k [])) (chunk_version (get_or cs (k + 1) []))
+      (sym (all k [] (omega arith))) in
       omega arith))
   rise_by_pairs false (k, l, broken) = go (rising (versions s)) refl
     where

@@ -11,6 +11,7 @@ ghost use Rattle.rules.specs.ResponseText.{siblings_field, kind_word, head_form,
 ghost use Rattle.rules.specs.ResponseText.{read_kind_line, read_step, read_entry_line, read_in, read_no, read_nl};
 ghost use Rattle.rules.specs.ResponseText.{read_node};
 ghost use Rattle.inputs.specs.ResponseLines.{number_after, lookup_form, kind_of, kt_of, head_of, target_of};
+ghost use Rattle.inputs.specs.ResponseLines.{kind_found};
 ghost use Rattle.inputs.specs.ResponseLines.{next_part_of, last_bytes_of, last_parts_of};
 ghost use Rattle.inputs.specs.ResponseLines.{KtStands, TargetStands, NextPartStands, LastBytesStand};
 ghost use Rattle.inputs.specs.ResponseLines.{LastPartsStand};
@@ -36,6 +37,13 @@ pub struct Target {
     pub value: Part,
 }
 
+// What a response found: of a search its target.
+#[derive(Clone, Copy)]
+pub enum Finding {
+    Search(Target),
+    Monitor,
+}
+
 // A first line: the kind, and the fields that encode identifier and label.
 #[derive(Clone, Copy)]
 pub struct KtLine {
@@ -52,6 +60,18 @@ impl Kind {
         match self {
             Kind::Search => &Word::SEARCH,
             Kind::Monitor => &Word::MONITOR,
+        }
+    }
+}
+
+impl Finding {
+    // The kind of the response.
+    pub fn kind(self) -> Kind
+        ensures { result ≡ kind_found self }
+    {
+        match self {
+            Finding::Search(_) => Kind::Search,
+            Finding::Monitor => Kind::Monitor,
         }
     }
 }
