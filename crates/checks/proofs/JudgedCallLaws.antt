@@ -26,8 +26,9 @@ use Rattle.rules.specs.Search.{early_then_complete, search_rules}
 use Rattle.rules.specs.Monitoring.{all_included, monitoring_rules}
 use Rattle.rules.specs.Refusals.{Call, not_as_asked, output_missing, lookups_hold, lookup_fails, results_wrong}
 use Rattle.rules.proofs.KindLaws.{search-rules, monitoring-rules}
-use Rattle.inputs.specs.declared.response_lines.Kind.{Kind}
 use Rattle.inputs.specs.declared.response_lines.Kind.TheVariants.{Search, Monitor}
+use Rattle.inputs.specs.declared.response_lines.Finding.TheVariants.{Search as Searched, Monitor as Monitored}
+use Rattle.inputs.specs.declared.response_lines.Target.{Target as TargetBlock}
 use Rattle.inputs.specs.declared.refusal.Refusal.{Refusal}
 use Rattle.inputs.specs.declared.refusal.Refusal.TheVariants.{Ladder as LadderFails}
 use Rattle.inputs.specs.ResponseLines.{decoded}
@@ -63,9 +64,9 @@ entries_ready text k outputs h s e =
 
 -- the target of a search has a possible version, and fields of possible lengths
 pub target_ready : (text : Bytes) (k : CallBlock) (outputs : Bytes) → Triable text k outputs
-    → k.response.kind ≡ Search
-    → TargetFits Search text k.response.target
-target_ready text k outputs h e = subst (λ (x : Kind). TargetFits x text k.response.target) e h.target
+    → (t : TargetBlock) → k.response.finding ≡ Searched t
+    → TargetFits text (Searched t)
+target_ready text k outputs h t e = subst (TargetFits text) e h.target
 
 -- so many first numbers of an array are the ladder of a version
 abbrev pub HoldsLadder : ℕ → ℕ → List ℕ → Type 0
@@ -141,28 +142,28 @@ module _ (text : Bytes) (k : CallBlock) (label : Bytes) (s : Sought) (entries : 
     judged-call : (shown : CodeOption ℕ)
         → ((c : Call) → IsCall c k text s.outputs.now → results_wrong c ≡ not (is_found shown))
         → ((c : Call) → IsCall c k text s.outputs.now → (p : ℕ) → shown ≡ Some p
-        → IsFirst k.response.kind c k.response.target.version p)
+        → IsFirst k.response.finding c p)
         → (j : CodeResult ℕ Refusal) → j ≡ judged_by r.reached shown → Judged j
     judged-call shown thirteen is_first j told c g l n o stand =
         rw told
-        (judged-tried c (IsFirst k.response.kind c k.response.target.version) r.reached shown
+        (judged-tried c (IsFirst k.response.finding c) r.reached shown
         (twelve-known c g l n o stand) (thirteen c g) (is_first c g))
 
   -- in a search
-  module _ (is_search : k.response.kind ≡ Search) (sought_search : s.kind ≡ Search)
-      (sought_version : s.version ≡ k.response.target.version)
-      (is_ladder : s.ladder.now ≡ ladder k.response.target.version) (o v : Bytes)
-      (is_opening : o ≡ part_of text k.response.target.opening)
-      (is_value : v ≡ part_of text k.response.target.value)
+  module _ (target : TargetBlock) (is_search : k.response.finding ≡ Searched target) (sought_search : s.kind ≡ Search)
+      (sought_version : s.version ≡ target.version)
+      (is_ladder : s.ladder.now ≡ ladder target.version) (o v : Bytes)
+      (is_opening : o ≡ part_of text target.opening)
+      (is_value : v ≡ part_of text target.value)
       (is_commitment : s.commitment ≡ commitment_to (decoded o) label (decoded v)) where
     abbrev t : ℕ
-    t = k.response.target.version
+    t = target.version
 
     search_sought : IsSoughtBy text k label s.outputs.now s
     search_sought c g l =
         rw sought_search (
-          target_in text k.response,
-          call-found text k.response is_search c g.parts,
+          target_in text target,
+          call-found text k.response target is_search c g.parts,
           sym sought_version,
           is_commitment ∙ rw (is_opening, is_value, l) refl,
         )
@@ -186,9 +187,9 @@ module _ (text : Bytes) (k : CallBlock) (label : Bytes) (s : Sought) (entries : 
 
         thirteen : (c : Call) → IsCall c k text s.outputs.now → results_wrong c ≡ not (is_found shown)
         thirteen c g =
-            let found = call-found text k.response is_search c g.parts in
+            let found = call-found text k.response target is_search c g.parts in
             ap not
-            (ap (λ (x : KindRules). x.results_fit) (search-rules c (target_in text k.response) found)
+            (ap (λ (x : KindRules). x.results_fit) (search-rules c (target_in text target) found)
             ∙ judged_is c g ∙ is_shown way)
 
         from : ((r.fits ≡ true) × (shown ≡ r.first)) ⊎ ((r.fits ≡ false) × (shown ≡ None)) → (p : ℕ)
@@ -197,7 +198,7 @@ module _ (text : Bytes) (k : CallBlock) (label : Bytes) (s : Sought) (entries : 
         from (inr (f, e)) p q = absurd (false≢true (ap is_found (sym e ∙ q)))
 
         is_first : (c : Call) → IsCall c k text s.outputs.now → (p : ℕ) → shown ≡ Some p
-            → IsFirst k.response.kind c t p
+            → IsFirst k.response.finding c p
         is_first c g p q =
             let (e, i, n) = h.position p (from way p q) in
             rw is_search (e, rw (entries-given c g, ← is_ladder, ← sought_version) i, n)
@@ -206,7 +207,7 @@ module _ (text : Bytes) (k : CallBlock) (label : Bytes) (s : Sought) (entries : 
   abbrev no_position : CodeOption ℕ
   no_position = then_some r.included 0
 
-  pub monitoring-judged : k.response.kind ≡ Monitor → s.kind ≡ Monitor
+  pub monitoring-judged : k.response.finding ≡ Monitored → s.kind ≡ Monitor
       → (j : CodeResult ℕ Refusal) → j ≡ judged_by r.reached no_position → Judged j
   unfolding results_wrong monitoring_rules
   monitoring-judged is_monitoring sought_monitoring =

@@ -5,6 +5,7 @@ pub mod NotAboveLaws
 pub mod NextVersionLaws
 pub mod MarkLaws
 pub mod EntryLaws
+pub mod FoundLaws
 pub mod EntryAskedLaws
 pub mod TimestampLaws
 pub mod GatheredLaws

@@ -1,7 +1,7 @@
 -- Laws of the lines of a response's sections, one at a time (specs/Sections.antt): what they say
 -- where, and a section from its first line on.
 use mathlib.Core.Path.{◌≡◌, refl, sym, ◌∙◌, ap, ap₂}
-use mathlib.Core.Bool.{true, ◌||◌}
+use mathlib.Core.Bool.{Bool, true, false, ◌||◌, false≢true}
 use mathlib.Core.Logic.{◌⊎◌, inl, inr}
 use mathlib.Core.List.{List, [], ◌∷◌, ◌++◌, append_assoc, cons-ne-nil}
 use mathlib.Core.Option.{Option, none, some, bind, map, none-ne-some, some-injective}
@@ -11,7 +11,8 @@ use lib.Dec.{eqb}
 use lib.ListN.{length, length-append, length-drop, take, drop, get_or}
 use lib.Seq.{length-take-le, drop-drop, drop-append_seam}
 use borrow.Author.Tests.{eq-eqb, ne_eqb, eqb-true}
-use Rattle.std.specs.Prelude.{Some}
+use Rattle.std.specs.Prelude.{Some, is_some as is_given, unwrap_or}
+use Rattle.std.specs.Bool.{then_some}
 use Rattle.lists.specs.Choice.{is_some, or_else}
 use Rattle.lists.specs.Lists.{Bytes}
 use Rattle.lists.proofs.ChoiceLaws.{or_holds, provided_some, bind_some, bind_by, map_some}
@@ -230,6 +231,24 @@ commitment_told (x ∷ c) k m f e =
     let n = commitment_length x c f in
     sym (eq-eqb k (m + value_digits) (omega (arith, length_hex (x ∷ c))))
 
+-- an offset that is noted where there is a commitment is given there
+noted_given : (b : Bool) (offset : ℕ) → is_given (then_some b offset) ≡ b
+noted_given true offset = refl
+noted_given false offset = refl
+
+-- where there is one it stands at the offset noted
+noted_right : (s : Bytes) (b : Bool) (offset : ℕ) (o : Option Bytes) → is_some o ≡ b → CommitmentAt s offset o
+    → CommitmentAt s (unwrap_or (then_some b offset) 0) o
+unfolding is_some
+noted_right s b offset none e h = tt
+noted_right s true offset (some c) e h = h
+noted_right s false offset (some c) e h = absurd (false≢true (sym e))
+
+-- the offset noted is within the same bound
+pub noted_within : (b : Bool) (offset n : ℕ) → offset ≤ n → unwrap_or (then_some b offset) 0 ≤ n
+noted_within true offset n h = h
+noted_within false offset n h = omega arith
+
 module _ (s : Bytes) (at : ℕ) (a : StepLines (drop at s)) where
   module _ (stop next : ℕ) (e : line_at s at ≡ some (stop, next)) where
     -- the line at an offset of step lines is that of the next step
@@ -237,10 +256,10 @@ module _ (s : Bytes) (at : ℕ) (a : StepLines (drop at s)) where
         → IsNextStep s at
         (Some (record {
           version = v;
-          committed = eqb (length (take (stop - at) (drop at s))) (field + value_digits);
-          commitment = at + field;
+          commitment = then_some (eqb (length (take (stop - at) (drop at s))) (field + value_digits)) (at + field);
           next = next;
         }))
+        × (at + field ≤ length s)
     unfolding steps_in ascii
     step-next v field r =
         let l = take (stop - at) (drop at s) in
@@ -260,16 +279,23 @@ module _ (s : Bytes) (at : ℕ) (a : StepLines (drop at s)) where
         let z = line_length s at stop next h in
         let hf = h.forward in
         let hw = h.within in
-        let hn = h.next_is in (
-          x,
-          f.values,
-          sym (ap (λ (y : ℕ × ℕ). y.0) p),
-          ap is_some k ∙ commitment_told c (length l) field g m,
-          rw k (step_commitment_lem s (at + field) c (newline ∷ drop next s) g b d),
-          f.others,
-          omega arith,
-          omega arith,
-          omega arith,
+        let hn = h.next_is in
+        let committed = eqb (length l) (field + value_digits) in
+        let given : is_some x.commitment ≡ committed = ap is_some k ∙ commitment_told c (length l) field g m in
+        let within : at + field ≤ length s = omega arith in (
+          (
+            x,
+            f.values,
+            sym (ap (λ (y : ℕ × ℕ). y.0) p),
+            given ∙ sym (noted_given committed (at + field)),
+            noted_right s committed (at + field) x.commitment given
+                (rw k (step_commitment_lem s (at + field) c (newline ∷ drop next s) g b d)),
+            f.others,
+            omega arith,
+            omega arith,
+            noted_within committed (at + field) (length s) within,
+          ),
+          within,
         )
 
     -- its version is read after its word

@@ -29,8 +29,11 @@ use Rattle.rules.specs.Refusals.{Call, rule, kind_asked, same_kind, foreign, siz
 use Rattle.rules.proofs.KindLaws.{search-rules, monitoring-rules}
 use Rattle.inputs.specs.declared.response_lines.Kind.{Kind}
 use Rattle.inputs.specs.declared.response_lines.Kind.TheVariants.{Search, Monitor}
+use Rattle.inputs.specs.declared.response_lines.Finding.{Finding as FindingBlock}
+use Rattle.inputs.specs.declared.response_lines.Finding.TheVariants.{Search as Searched, Monitor as Monitored}
 use Rattle.inputs.specs.declared.response.Response.{Response}
-use Rattle.inputs.specs.declared.response_lines.Target.{Target}
+use Rattle.inputs.specs.declared.response_lines.Target.{Target as TargetBlock}
+use Rattle.inputs.specs.ResponseLines.{kind_found}
 use Rattle.inputs.specs.ResponseLines.{decoded}
 use Rattle.inputs.specs.Response.{finding_in, parts_in, Fields}
 use Rattle.inputs.proofs.FrontLaws.{put_first, offset-fits, offset-over}
@@ -105,44 +108,49 @@ kinds_equal Monitor (Some Monitor) = refl
 kinds_equal Monitor None = refl
 
 -- what was found is of the kind of the response
-found_kind : (text : Bytes) (k : Kind) (t : Target) → kind_of (finding_in text k t) ≡ kind_in k
+found_kind : (text : Bytes) (f : FindingBlock) → kind_of (finding_in text f) ≡ kind_in (kind_found f)
 unfolding kind_of kind_in finding_in
-found_kind text Search t = refl
-found_kind text Monitor t = refl
+found_kind text (Searched t) = refl
+found_kind text Monitored = refl
 
 -- a response is of the kind asked for
-kind_test : (text : Bytes) (r : Response) (asked : CodeOption Kind) (c : Call) → c.parts ≡ parts_in text r
-    → c.inputs.kind ≡ asked_kind asked → kind_asked c ≡ is_kind_asked r.kind asked
+kind_test : (text : Bytes) (r : Response) (asked : CodeOption Kind) (kind : Kind) → kind ≡ kind_found r.finding
+    → (c : Call) → c.parts ≡ parts_in text r → c.inputs.kind ≡ asked_kind asked → kind_asked c ≡ is_kind_asked kind asked
 unfolding kind_asked parts_in
-kind_test text r asked c p q = rw (q, p, found_kind text r.kind r.target) (asked_kinds r.kind asked)
+kind_test text r asked kind is_kind c p q =
+    rw (q, p, found_kind text r.finding, is_kind) (asked_kinds (kind_found r.finding) asked)
 
-module _ (text : Bytes) (r : Response) (asked : CodeOption Kind) (identifier label : Bytes) where
-  -- one of another kind is not that of the call
-  pub kind_foreign : is_kind_asked r.kind asked ≡ false → IsRequested asked text r identifier label false
-  unfolding foreign
-  kind_foreign e c p q i l = rw (kind_test text r asked c p q ∙ e) refl
+module _ (text : Bytes) (r : Response) (asked : CodeOption Kind) (identifier label : Bytes) (kind : Kind)
+    (is_kind : kind ≡ kind_found r.finding)
+  where
+    -- one of another kind is not that of the call
+    pub kind_foreign : is_kind_asked kind asked ≡ false → IsRequested asked text r identifier label false
+    unfolding foreign
+    kind_foreign e c p q i l = rw (kind_test text r asked kind is_kind c p q ∙ e) refl
 
-  module _ (f : Fields text r) (k : is_kind_asked r.kind asked ≡ true) (field : Bytes) (w : field ≡ part_of text r.identifier) where
-    -- nor is one with another identifier
-    pub identifier-foreign : Option-elim (read_hex field) false (λ (b : Bytes). same b identifier) ≡ false
-        → IsRequested asked text r identifier label false
-    unfolding foreign parts_in
-    identifier-foreign e c p q i l =
-        let z : same (decoded (part_of text r.identifier)) identifier ≡ false =
-        sym (decoded_same field _ identifier w f.identifier) ∙ e in
-        rw (kind_test text r asked c p q ∙ k, p, i, z) refl
+    module _ (f : Fields text r) (k : is_kind_asked kind asked ≡ true) (field : Bytes)
+        (w : field ≡ part_of text r.identifier)
+      where
+        -- nor is one with another identifier
+        pub identifier-foreign : Option-elim (read_hex field) false (λ (b : Bytes). same b identifier) ≡ false
+            → IsRequested asked text r identifier label false
+        unfolding foreign parts_in
+        identifier-foreign e c p q i l =
+            let z : same (decoded (part_of text r.identifier)) identifier ≡ false =
+            sym (decoded_same field _ identifier w f.identifier) ∙ e in
+            rw (kind_test text r asked kind is_kind c p q ∙ k, p, i, z) refl
 
-    -- with the same identifier, the label decides
-    pub label-decides : Option-elim (read_hex field) false (λ (b : Bytes). same b identifier) ≡ true
-        → (t : Bool) (g : Bytes) → g ≡ part_of text r.label
-        → t ≡ Option-elim (read_hex g) false (λ (b : Bytes). same b label)
-        → IsRequested asked text r identifier label t
-    unfolding foreign parts_in
-    label-decides e t g v d c p q i l =
-        let z : same (decoded (part_of text r.identifier)) identifier ≡ true =
-        sym (decoded_same field _ identifier w f.identifier) ∙ e in
-        let y : same (decoded (part_of text r.label)) label ≡ t = sym (decoded_same g _ label v f.label) ∙ sym d in
-        rw (kind_test text r asked c p q ∙ k, p, i, l, z, y) (sym (not-not t))
+        -- with the same identifier, the label decides
+        pub label-decides : Option-elim (read_hex field) false (λ (b : Bytes). same b identifier) ≡ true
+            → (t : Bool) (g : Bytes) → g ≡ part_of text r.label
+            → t ≡ Option-elim (read_hex g) false (λ (b : Bytes). same b label)
+            → IsRequested asked text r identifier label t
+        unfolding foreign parts_in
+        label-decides e t g v d c p q i l =
+            let z : same (decoded (part_of text r.identifier)) identifier ≡ true =
+            sym (decoded_same field _ identifier w f.identifier) ∙ e in
+            let y : same (decoded (part_of text r.label)) label ≡ t = sym (decoded_same g _ label v f.label) ∙ sym d in
+            rw (kind_test text r asked kind is_kind c p q ∙ k, p, i, l, z, y) (sym (not-not t))
 
 -- ---- 7: the size
 
@@ -155,17 +163,17 @@ size_test text r size c p s = rw (p, s) refl
 -- ---- 8: the version
 
 -- what was found is of the kind of the response, with its version
-found_target : (text : Bytes) (k : Kind) (t : Target) → FoundKind k t.version (finding_in text k t)
+found_target : (text : Bytes) (f : FindingBlock) → FoundKind f (finding_in text f)
 unfolding finding_in
-found_target text Search t = (_, refl, refl)
-found_target text Monitor t = refl
+found_target text (Searched t) = (_, refl, refl)
+found_target text Monitored = refl
 
 -- so what fits it fits the call
-target_test : (text : Bytes) (r : Response) (map : List ℕ) (b : Bool) (c : Call) → FitsTarget r.kind r.target.version map b
+target_test : (text : Bytes) (r : Response) (map : List ℕ) (b : Bool) (c : Call) → FitsTarget r.finding map b
     → c.parts ≡ parts_in text r → versions c.state.monitoring_map ≡ map → b ≡ not (target_wrong c)
 unfolding parts_in
 target_test text r map b c h p m =
-    h c (subst (λ (x : Parts). FoundKind r.kind r.target.version x.finding) (sym p) (found_target text r.kind r.target)) m
+    h c (subst (λ (x : Parts). FoundKind r.finding x.finding) (sym p) (found_target text r.finding)) m
 
 -- in a search the version decides, and those of the map
 search_wrong : (c : Call) (t : TargetRead) → c.parts.finding ≡ searched t
@@ -178,26 +186,27 @@ monitoring_right : (c : Call) → c.parts.finding ≡ monitored → target_wrong
 unfolding target_wrong monitoring_rules
 monitoring_right c f = ap (λ (k : KindRules). k.target_wrong) (monitoring-rules c f)
 
-module _ (kind : Kind) (version : ℕ) (map : List ℕ) where
-  pub search-fits : kind ≡ Search → (b : Bool) → b ≡ not (ltb greatest_version version || any (λ (v : ℕ). ltb version v) map)
-      → FitsTarget kind version map b
-  search-fits k b e c g m =
-      let (t, q, v) : FoundKind Search version c.parts.finding = subst (λ (x : Kind). FoundKind x version c.parts.finding) k g in
-      let w : target_wrong c ≡ (ltb greatest_version version || any (λ (v : ℕ). ltb version v) map) =
+module _ (finding : FindingBlock) (map : List ℕ) where
+  pub search-fits : (s : TargetBlock) → finding ≡ Searched s → (b : Bool)
+      → b ≡ not (ltb greatest_version s.version || any (λ (v : ℕ). ltb s.version v) map) → FitsTarget finding map b
+  search-fits s k b e c g m =
+      let (t, q, v) : FoundKind (Searched s) c.parts.finding =
+      subst (λ (x : FindingBlock). FoundKind x c.parts.finding) k g in
+      let w : target_wrong c ≡ (ltb greatest_version s.version || any (λ (v : ℕ). ltb s.version v) map) =
       rw (← v, ← m) (search_wrong c t q) in
       e ∙ ap not (sym w)
 
-  pub monitor-fits : kind ≡ Monitor → FitsTarget kind version map true
+  pub monitor-fits : finding ≡ Monitored → FitsTarget finding map true
   monitor-fits k c g m =
-      let q : FoundKind Monitor version c.parts.finding = subst (λ (x : Kind). FoundKind x version c.parts.finding) k g in
+      let q : FoundKind Monitored c.parts.finding = subst (λ (x : FindingBlock). FoundKind x c.parts.finding) k g in
       ap not (sym (monitoring_right c q))
 
 -- the version of a search to which 8 does not apply is one that can be searched for
-pub version_possible : (text : Bytes) (r : Response) (c : Call) → c.parts ≡ parts_in text r → target_wrong c ≡ false → r.kind ≡ Search
-    → r.target.version ≤ greatest_version
-version_possible text r c p e k =
-    let w = search_wrong c (target_in text r) (call-found text r k c p) in
-    ltb-false greatest_version r.target.version (or_fails _ _ (sym w ∙ e)).0
+pub version_possible : (text : Bytes) (r : Response) (c : Call) → c.parts ≡ parts_in text r → target_wrong c ≡ false
+    → (t : TargetBlock) → r.finding ≡ Searched t → t.version ≤ greatest_version
+version_possible text r c p e t k =
+    let w = search_wrong c (target_in text t) (call-found text r t k c p) in
+    ltb-false greatest_version t.version (or_fails _ _ (sym w ∙ e)).0
 
 module _ (f : ℕ → Bool) (xs : List ℕ) (i : ℕ) where
   -- an element of which a test does not hold is passed over
@@ -257,12 +266,12 @@ module _ (asked : CodeOption Kind) (text : Bytes) (k : CallBlock) (identifier la
           ∙ number-next 6 foreign _ c (not-true _ (sym (o c p q i l)))
 
       -- one with a wrong version
-      pub first-version : FitsTarget r.kind r.target.version map false → First 8
+      pub first-version : FitsTarget r.finding map false → First 8
       first-version v c p s q i l m =
           number-first 8 target_wrong _ c (not-false _ (sym (target_test text r map false c v p m))) ∙ target_first c p s q i l
 
       -- one to which none of the three applies
-      pub first_none : FitsTarget r.kind r.target.version map true → First 0
+      pub first_none : FitsTarget r.finding map true → First 0
       first_none v c p s q i l m =
           number_none c ∙ number-next 8 target_wrong _ c (not-true _ (sym (target_test text r map true c v p m)))
           ∙ target_first c p s q i l

@@ -25,8 +25,9 @@ use Rattle.rules.specs.Refusals.{Call, kind_rules, asked, commitment_asked, entr
 use Rattle.rules.specs.Refusals.{timestamp_fits}
 use Rattle.rules.specs.Refusals.{last_timestamp}
 use Rattle.rules.proofs.KindLaws.{search-rules, monitoring-rules}
-use Rattle.inputs.specs.declared.response_lines.Kind.{Kind}
+use Rattle.inputs.specs.declared.response_lines.Finding.{Finding as FindingBlock}
 use Rattle.inputs.specs.declared.response_lines.Kind.TheVariants.{Search, Monitor}
+use Rattle.inputs.specs.declared.response_lines.Finding.TheVariants.{Search as Searched, Monitor as Monitored}
 use Rattle.inputs.specs.declared.response_lines.Target.{Target as TargetBlock}
 use Rattle.inputs.specs.Response.{steps_in, entries_in, parts_in}
 use Rattle.inputs.specs.State.{map_of}
@@ -50,9 +51,9 @@ part_short s p k h = omega (arith, h, length-take (p.stop - p.start) (drop p.sta
 -- ---- what sections are tried with
 
 -- the version of the target of a search
-pub target_version : (kind : Kind) (text : Bytes) (t : TargetBlock) → kind ≡ Search → TargetFits kind text t
-    → t.version ≤ greatest_version
-target_version kind text t e h = (subst (λ (x : Kind). TargetFits x text t) e h).0
+pub target_version : (finding : FindingBlock) (text : Bytes) (t : TargetBlock) → finding ≡ Searched t
+    → TargetFits text finding → t.version ≤ greatest_version
+target_version finding text t e h = (subst (TargetFits text) e h).0
 
 -- a search has no pairs
 pub no_pairs : ArePairs [] []
@@ -139,16 +140,16 @@ module _ {c : Call} {k : CallBlock} {text outputs : Bytes} (i : IsCall c k text 
 -- ---- a search
 
 module _ {c : Call} {k : CallBlock} {text outputs : Bytes} (i : IsCall c k text outputs)
-    (kind : k.response.kind ≡ Search) {st en : Bytes} (is_steps : st ≡ steps_text text k)
+    (t : TargetBlock) (is_search : k.response.finding ≡ Searched t) {st en : Bytes} (is_steps : st ≡ steps_text text k)
     (is_entries : en ≡ entries_text text k) (offsets : List ℕ)
-    (wanted : List ℕ) (is_ladder : wanted ≡ ladder k.response.target.version) {ea : Bool}
+    (wanted : List ℕ) (is_ladder : wanted ≡ ladder t.version) {ea : Bool}
     (entries : ea ≡ are_asked Search wanted k.response.tree_size [] [] (entries_in en)) where
   -- what its rules are
-  search-known : kind_rules c ≡ search_rules (target_in text k.response) c.configuration c.state c.parts
-  search-known = search-rules c (target_in text k.response) (call-found text k.response kind c i.parts)
+  search-known : kind_rules c ≡ search_rules (target_in text t) c.configuration c.state c.parts
+  search-known = search-rules c (target_in text t) (call-found text k.response t is_search c i.parts)
 
   -- whether its entries, which are those of the frontier, are as asked
-  search_entries : ea ≡ entries_asked is_beginning (asked_by_search c.parts.tree_size k.response.target.version)
+  search_entries : ea ≡ entries_asked is_beginning (asked_by_search c.parts.tree_size t.version)
       (entries_in en)
   unfolding asked_by_search fit_by wanted_by frontier_and_paths parts_in
   search_entries =
@@ -164,15 +165,15 @@ module _ {c : Call} {k : CallBlock} {text outputs : Bytes} (i : IsCall c k text 
 
   module _ (h : ea ≡ true) where
     -- or its steps are not
-    pub search-unasked : Answered st outputs (ladder k.response.target.version)
-        (λ (v : ℕ). ltb v k.response.target.version)
+    pub search-unasked : Answered st outputs (ladder t.version)
+        (λ (v : ℕ). ltb v t.version)
         None offsets → HasShape c (steps_text text k) None offsets
     unfolding search_rules
     search-unasked = steps-unasked i search-known is_steps is_entries offsets search_entries h
 
     -- and where both are
     pub search-shape : (s : Shape)
-        → Answered st outputs (ladder k.response.target.version) (λ (v : ℕ). ltb v k.response.target.version)
+        → Answered st outputs (ladder t.version) (λ (v : ℕ). ltb v t.version)
         (Some s.outputs) offsets
         → AreTimestamps k.kept_size k.kept_timestamp (entries_in en) s.timestamps
         → HasShape c (steps_text text k) (Some s) offsets
@@ -191,11 +192,11 @@ monitoring_asks n ps vs e l =
     (sym (map_positions ps vs e))
 
 module _ {c : Call} {k : CallBlock} {text outputs : Bytes} (i : IsCall c k text outputs)
-    (kind : k.response.kind ≡ Monitor) (ps vs : List ℕ) (is_map : c.state.monitoring_map ≡ map_of ps vs)
+    (is_monitoring : k.response.finding ≡ Monitored) (ps vs : List ℕ) (is_map : c.state.monitoring_map ≡ map_of ps vs)
     (alike : length ps ≡ length vs) where
   -- what it asks
   monitoring-known : kind_rules c ≡ monitoring_rules c.configuration c.state c.parts
-  monitoring-known = monitoring-rules c (nothing-found text k.response kind c i.parts)
+  monitoring-known = monitoring-rules c (nothing-found text k.response is_monitoring c i.parts)
 
   -- of its entries
   entries-known : asked_by_monitoring c.parts.tree_size c.state.monitoring_map

@@ -36,7 +36,7 @@ use Rattle.inputs.specs.Response.{steps_in}
 use Rattle.inputs.proofs.VrfOutputLaws.{found_none, found_some, fewer_below}
 use Rattle.checks.proofs.LineStepLaws.{no-line-end, some-line}
 use Rattle.checks.specs.declared.sections.NextStep.{NextStep}
-use Rattle.checks.specs.Sections.{StepLines, CommitmentAt, IsNextStep}
+use Rattle.checks.specs.Sections.{StepLines, CommitmentAt, IsNextStep, has_commitment, noted_of}
 use Rattle.checks.specs.Steps.{versions_of, records_capacity, CommitmentsBy, IsNoted, IsWantedStep}
 use Rattle.checks.specs.Steps.{ArePlaced, AreSteps}
 
@@ -248,10 +248,10 @@ module _ {s outputs : Bytes} {wanted : List ℕ} {f : ℕ → Bool} {left offset
       go true q = read-end (no-line-end read_step s at (omega (arith, eqb-true at (length s) q))) e
       go false q = read_more (some-line read_step s at r.lines (omega (arith, eqb-false at (length s) q))) e
 
-  module _ {n : NextStep} (k : IsNextStep s at (Some n)) where
+  module _ (n : NextStep) (k : IsNextStep s at (Some n)) where
     -- nor where the next step has another version than the next one left, or a commitment that is
     -- not asked, or lacks one that is
-    pub read_other : {v : ℕ} {rest : List ℕ} → left ≡ v ∷ rest → (n.version ≡ v → n.committed ≡ f n.version → ⊥)
+    pub read_other : {v : ℕ} {rest : List ℕ} → left ≡ v ∷ rest → (n.version ≡ v → has_commitment n ≡ f n.version → ⊥)
         → Answered s outputs wanted f None offsets
     read_other {v} e h = refuted (λ w c.
         h (sym k.2 ∙ ap (λ (l : List ℕ). get_or l 0 0) (sym (ap versions_of k.1) ∙ w ∙ e))
@@ -262,8 +262,8 @@ module _ {s outputs : Bytes} {wanted : List ℕ} {f : ℕ → Bool} {left offset
 
     -- otherwise it is one of those read, once its commitment is noted
     pub read_next : {rest offsets' : List ℕ} {b : Bool} → Nodup wanted → length outputs ≤ vrf_outputs_limit
-        → left ≡ n.version ∷ rest → n.committed ≡ f n.version
-        → IsNoted outputs n.version n.commitment offsets b offsets'
+        → left ≡ n.version ∷ rest → has_commitment n ≡ f n.version
+        → IsNoted outputs n.version (noted_of n) offsets b offsets'
         → length offsets' ≡ records_capacity → StepsRead s outputs wanted f rest offsets' n.next (there && b)
     read_next {rest} {offsets'} {b} d l e g i z = record {
       done = r.done ++ x ∷ [];
@@ -277,7 +277,7 @@ module _ {s outputs : Bytes} {wanted : List ℕ} {f : ℕ → Bool} {left offset
       asked = all_with (commitment_asked f) r.done x (commitment-right f x (k.3 ∙ g ∙ ap f (sym k.2))) ∙ r.asked;
       room = z;
       placed =
-          placed-next s outputs offsets there r.done r.placed r.room l x n.commitment b offsets' (rw k.2 i) k.4
+          placed-next s outputs offsets there r.done r.placed r.room l x (noted_of n) b offsets' (rw k.2 i) k.4
           other;
       lines = k.5;
     }
@@ -298,7 +298,7 @@ module _ {s outputs : Bytes} {wanted : List ℕ} {f : ℕ → Bool} {left offset
     -- where the step at the offset is not the one wanted, they are not as asked
     pub read_refused : (offsets' : List ℕ) → IsWantedStep s at v (f v) outputs offsets None offsets'
         → Answered s outputs wanted f None offsets'
-    read_refused offsets' k = ⊎_elim (λ n. read_short n e) (λ m. read_other m.1 e (λ a b. m.2 a (b ∙ ap f a))) k
+    read_refused offsets' k = ⊎_elim (λ n. read_short n e) (λ m. read_other m.0 m.1 e (λ a b. m.2 a (b ∙ ap f a))) k
 
     -- otherwise it is one of those read
     pub read_taken : {offsets' : List ℕ} {b : Bool} {next : ℕ} → Nodup wanted → length outputs ≤ vrf_outputs_limit
@@ -306,4 +306,4 @@ module _ {s outputs : Bytes} {wanted : List ℕ} {f : ℕ → Bool} {left offset
         → length offsets' ≡ records_capacity → StepsRead s outputs wanted f rest offsets' next (there && b)
     read_taken {offsets'} {b} d l (n, k, a, c, q, i) z =
         subst (λ (y : ℕ). StepsRead s outputs wanted f rest offsets' y (there && b)) q
-        (read_next k d l (e ∙ ap (λ (y : ℕ). y ∷ rest) (sym a)) (c ∙ ap f (sym a)) (rw a i) z)
+        (read_next n k d l (e ∙ ap (λ (y : ℕ). y ∷ rest) (sym a)) (c ∙ ap f (sym a)) (rw a i) z)

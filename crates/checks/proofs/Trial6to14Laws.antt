@@ -22,7 +22,8 @@ use Rattle.rules.specs.Refusals.{history_differs}
 use Rattle.rules.proofs.RefusalLaws.{NoneApplies}
 use Rattle.rules.proofs.AcceptedLaws.{requested-was, size-was}
 use Rattle.inputs.specs.declared.response_lines.Kind.{Kind as KindBlock}
-use Rattle.inputs.specs.declared.response_lines.Kind.TheVariants.{Search, Monitor}
+use Rattle.inputs.specs.declared.response_lines.Finding.{Finding as FindingBlock}
+use Rattle.inputs.specs.declared.response_lines.Finding.TheVariants.{Search, Monitor}
 use Rattle.inputs.specs.declared.state.State.{State as StateBlock}
 use Rattle.inputs.specs.State.{map_of}
 use Rattle.inputs.specs.Response.{parts_in}
@@ -82,7 +83,7 @@ module _ (text : Bytes) (k : CallBlock) (label : Bytes) (ps vs : List ℕ) (outp
     JudgedBy judged =
         (c : Call) → IsCall c k text outputs → c.parts.label ≡ label → not_as_asked c ≡ false
         → output_missing c ≡ false → Stand c
-        → Tells judged rules12and13 c (IsFirst k.response.kind c k.response.target.version)
+        → Tells judged rules12and13 c (IsFirst k.response.finding c)
 
     module _ (timestamp : ℕ) (h : TriedBy (Ok timestamp)) where
       -- none of 9 to 11 applies
@@ -146,13 +147,13 @@ module _ (text : Bytes) (k : CallBlock) (t : Tried) (kept s nodes : Bytes)
 -- where 8 does not apply, the target of a search fits
 target_fits : (text : Bytes) (k : CallBlock) → read_response text ≡ some (parts_in text k.response)
     → (c : Call) → c.parts ≡ parts_in text k.response → target_wrong c ≡ false
-    → TargetFits k.response.kind text k.response.target
-target_fits text k read c p e = go k.response.kind refl
+    → TargetFits text k.response.finding
+target_fits text k read c p e = go k.response.finding refl
   where
-    go : (x : KindBlock) → k.response.kind ≡ x → TargetFits x text k.response.target
-    go Search q =
-        let (o, v) = target-lengths text k.response q read in
-        (version_possible text k.response c p e q, o, v)
+    go : (x : FindingBlock) → k.response.finding ≡ x → TargetFits text x
+    go (Search t) q =
+        let (o, v) = target-lengths text k.response t q read in
+        (version_possible text k.response c p e t q, o, v)
     go Monitor q = tt
 
 module _ {text : Bytes} {k : CallBlock} {identifier : Bytes} {b : StateBlock} {outputs : Bytes}

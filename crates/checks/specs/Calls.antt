@@ -42,7 +42,8 @@ use Rattle.inputs.specs.Configuration.{configuration_in}
 use Rattle.inputs.specs.ResponseLines.{decoded}
 use Rattle.inputs.specs.declared.response_lines.Kind.{Kind as KindBlock}
 use Rattle.inputs.specs.declared.response_lines.Kind.TheVariants.{Search, Monitor}
-use Rattle.inputs.specs.declared.response_lines.Target.{Target as TargetBlock}
+use Rattle.inputs.specs.declared.response_lines.Finding.{Finding as FindingBlock}
+use Rattle.inputs.specs.declared.response_lines.Finding.TheVariants.{Search as Searched, Monitor as Monitored}
 use Rattle.inputs.specs.declared.response.Response.{Response}
 use Rattle.inputs.specs.Response.{parts_in, Offsets}
 use Rattle.checks.specs.declared.call.Accepted.{Accepted}
@@ -260,15 +261,15 @@ IsRequested asked text r identifier label b =
     → c.inputs.identifier ≡ identifier
     → c.state.label ≡ label → b ≡ not (foreign c)
 
--- a finding is of a kind, with the version of a search
-abbrev pub FoundKind : KindBlock → ℕ → Finding → Type 0
-FoundKind Search version f = (t : Target) × (f ≡ searched t) × (t.version ≡ version)
-FoundKind Monitor version f = f ≡ monitored
+-- a finding is of the kind of another, with the version of a search
+abbrev pub FoundKind : FindingBlock → Finding → Type 0
+FoundKind (Searched b) f = (t : Target) × (f ≡ searched t) × (t.version ≡ b.version)
+FoundKind Monitored f = f ≡ monitored
 
 -- 8
-abbrev pub FitsTarget : KindBlock → ℕ → List ℕ → Bool → Type 0
-FitsTarget kind version map b =
-    (c : Call) → FoundKind kind version c.parts.finding → versions c.state.monitoring_map ≡ map
+abbrev pub FitsTarget : FindingBlock → List ℕ → Bool → Type 0
+FitsTarget finding map b =
+    (c : Call) → FoundKind finding c.parts.finding → versions c.state.monitoring_map ≡ map
     → b ≡ not (target_wrong c)
 
 abbrev pub IsNumber6to8 : CodeOption KindBlock → Bytes → CallBlock → Bytes → Bytes → List ℕ → ℕ → Type 0
@@ -280,18 +281,18 @@ IsNumber6to8 asked text k identifier label map n =
 -- ---- 9 to 14
 
 -- the fields of the target of a search have their lengths
-abbrev pub TargetFits : KindBlock → Bytes → TargetBlock → Type 0
-TargetFits Search text t =
+abbrev pub TargetFits : Bytes → FindingBlock → Type 0
+TargetFits text (Searched t) =
     (t.version ≤ greatest_version) × (length (decoded (part_of text t.opening)) ≡ opening_length)
     × (length (decoded (part_of text t.value)) ≤ value_limit)
-TargetFits Monitor text t = Unit {0}
+TargetFits text Monitored = Unit {0}
 
 -- what is known of a response that was read, to which 8 does not apply, and of the outputs
 pub record Triable (text : Bytes) (k : CallBlock) (outputs' : Bytes) : Type 0 where
   pub offsets : Offsets text (Some k.response)
   pub short : length text ≤ offset_bound
   pub outputs : length outputs' ≤ vrf_outputs_limit
-  pub target : TargetFits k.response.kind text k.response.target
+  pub target : TargetFits text k.response.finding
 
 -- and of the pairs of a valid state, where none of 6 to 8 applies
 pub record Shapeable (text : Bytes) (k : CallBlock) (positions versions' : List ℕ)
@@ -338,10 +339,10 @@ Is9to11Tried text k ps vs outputs r offsets =
     × CommitmentsBy (steps_text text k) c.outputs offsets c.parts.steps)
 
 -- the position of the first complete entry of a search
-abbrev pub IsFirst : KindBlock → Call → ℕ → ℕ → Type 0
-IsFirst Search c t position =
-    (e : Entry) × (first (is_complete (ladder t) t) c.parts.entries ≡ some e) × (position ≡ e.position)
-IsFirst Monitor c t position = Unit {0}
+abbrev pub IsFirst : FindingBlock → Call → ℕ → Type 0
+IsFirst (Searched t) c position =
+    (e : Entry) × (first (is_complete (ladder t.version) t.version) c.parts.entries ≡ some e) × (position ≡ e.position)
+IsFirst Monitored c position = Unit {0}
 
 -- 12 and 13, of a call to which neither 9 nor 10 applies, and where neither of them does the
 -- position of the first complete entry
@@ -350,11 +351,11 @@ IsJudged text k label outputs offsets j =
     (c : Call) → IsCall c k text outputs → c.parts.label ≡ label → not_as_asked c ≡ false
     → output_missing c ≡ false
     → CommitmentsBy (steps_text text k) c.outputs offsets c.parts.steps
-    → Tells j rules12and13 c (IsFirst k.response.kind c k.response.target.version)
+    → Tells j rules12and13 c (IsFirst k.response.finding c)
 
 -- what comes of a call to which none of 6 to 13 applies
 pub record Passed (c : Call) (k : CallBlock) (t : Tried) : Type 0 where
-  pub is_first : IsFirst k.response.kind c k.response.target.version t.position
+  pub is_first : IsFirst k.response.finding c t.position
   pub timestamp : t.timestamp ≡ last_timestamp c
 
 -- 9 to 13, of a call to which none of 6 to 8 applies
@@ -371,7 +372,7 @@ values_block c =
 
 -- what comes of a call to which none of 6 to 14 applies
 pub record Leaves (c : Call) (k : CallBlock) (r : Checked) (block : Bytes) : Type 0 where
-  pub is_first : IsFirst k.response.kind c k.response.target.version r.position
+  pub is_first : IsFirst k.response.finding c r.position
   pub timestamp : r.timestamp ≡ last_timestamp c
   pub root : r.root ≡ log_root c
   pub values : block ≡ values_block c
@@ -427,17 +428,16 @@ Is1to14Tried asked text configuration b identifier clock outputs signed (Ok p) b
 
 -- ---- 15 and 16
 
--- what is written to the output bytes, from the field of a value: the value of a search, of
--- monitoring nothing
-abbrev pub value_by : KindBlock → Bytes → Option Bytes
-value_by Search field = read_hex field
-value_by Monitor field = some []
+-- what is written to the output bytes: the value of a search, of monitoring nothing
+abbrev pub value_by : Bytes → FindingBlock → Option Bytes
+value_by text (Searched t) = read_hex (part_of text t.value)
+value_by text Monitored = some []
 
 -- what is found, from the offset after what was written
-unfoldable pub found_by : KindBlock → ℕ → Option ℕ → Result (CodeOption Found) Refusal
-found_by kind version none = Err Room
-found_by Search version (some n) = Ok (Some (record { version = version; length = n }))
-found_by Monitor version (some n) = Ok None
+unfoldable pub found_by : FindingBlock → Option ℕ → Result (CodeOption Found) Refusal
+found_by finding none = Err Room
+found_by (Searched t) (some n) = Ok (Some (record { version = t.version; length = n }))
+found_by Monitored (some n) = Ok None
 
 -- what is answered, of a state lent: a refusal gives it back
 unfoldable pub answer_from : StateBlock → Result Accepted Refusal → Answer

@@ -89,8 +89,8 @@ abbrev pub IsStep : Call → Lookup → Type 0
 IsStep c l = Memᴰ l.version (step_versions c.parts)
 
 -- and so are all of some lookups
-abbrev pub AreSteps : Call → List Lookup → Type 0
-AreSteps c ls = (l : Lookup) → Memᴰ l ls → IsStep c l
+abbrev pub EachIsStep : Call → List Lookup → Type 0
+EachIsStep c ls = (l : Lookup) → Memᴰ l ls → IsStep c l
 
 -- whether a lookup line passes (rule 12)
 abbrev pub Passes : Sought → Bytes → Bytes → Bool → Type 0
@@ -115,7 +115,7 @@ no_lookups root =
 -- what is known of some
 pub record IsSummary (s : Sought) (root' : Bytes) (ls : List Lookup) (x : Summary) : Type 0 where
   pub root : x.root ≡ root'
-  pub reached : (c : Call) → TriedWith c s → AreSteps c ls → x.reached ≡ all (lookup_passes c root') ls
+  pub reached : (c : Call) → TriedWith c s → EachIsStep c ls → x.reached ≡ all (lookup_passes c root') ls
   pub count : x.count ≡ length ls
   pub begin : x.begin ≡ begins (versions_of ls) s.ladder.now
   pub fits : x.fits ≡ all (result_fits s.version) ls
@@ -141,7 +141,7 @@ fit_so_far ladder t false es = all (λ (e : Entry). ends_early t e.lookups) es
 
 -- all versions looked up in them are those of steps
 abbrev pub AllSteps : Call → List Entry → Type 0
-AllSteps c es = (e : Entry) → Memᴰ e es → AreSteps c e.lookups
+AllSteps c es = (e : Entry) → Memᴰ e es → EachIsStep c e.lookups
 
 -- what is known of some
 pub record AreResults (s : Sought) (es : List Entry) (x : Results) : Type 0 where

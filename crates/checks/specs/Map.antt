@@ -8,8 +8,8 @@ use Rattle.rules.specs.Limits.{map_limit}
 use Rattle.rules.specs.State.{MapEntry, positions as positions_of, versions as versions_of}
 use Rattle.rules.specs.Kinds.{put_entry}
 use Rattle.rules.specs.Monitoring.{map_after_monitoring}
-use Rattle.inputs.specs.declared.response_lines.Kind.{Kind}
-use Rattle.inputs.specs.declared.response_lines.Kind.TheVariants.{Search, Monitor}
+use Rattle.inputs.specs.declared.response_lines.Finding.{Finding}
+use Rattle.inputs.specs.declared.response_lines.Finding.TheVariants.{Search, Monitor}
 use Rattle.inputs.specs.declared.state.MonitoringMap.{MonitoringMap}
 use Rattle.inputs.specs.State.{map_of}
 
@@ -39,10 +39,10 @@ abbrev pub HoldsIfRoom : List MapEntry → CodeOption MonitoringMap → Type 0
 HoldsIfRoom es None = map_limit < length es
 HoldsIfRoom es (Some m) = (length es ≤ map_limit) × Holds es m
 
--- the new map by the kind
-abbrev pub IsNewMap : Kind → ℕ → MonitoringMap → ℕ → ℕ → CodeOption MonitoringMap → Type 0
-IsNewMap Search n m p v r = HoldsIfRoom (put_version p v (pairs_in m)) r
-IsNewMap Monitor n m p v r = HoldsIfRoom (map_after_monitoring n (pairs_in m)) r
+-- the new map by what was found
+abbrev pub IsNewMap : Finding → ℕ → MonitoringMap → ℕ → CodeOption MonitoringMap → Type 0
+IsNewMap (Search t) n m p r = HoldsIfRoom (put_version p t.version (pairs_in m)) r
+IsNewMap Monitor n m p r = HoldsIfRoom (map_after_monitoring n (pairs_in m)) r
 
 -- the version at a position, 0 where no pair stands there
 unfoldable pub version_at : ℕ → List MapEntry → ℕ

@@ -1,7 +1,7 @@
 -- The lines of a response's sections, one after the other, once the response has been read: for
 -- contracts of private functions alone.
-use Rattle.std.specs.Prelude.{◌≡◌, List, [], ◌∷◌, ℕ, ◌+◌, ◌-◌, ◌≤◌, ◌<◌, length, take, drop}
-use Rattle.std.specs.Prelude.{Some, None, Option as CodeOption}
+use Rattle.std.specs.Prelude.{◌≡◌, Bool, List, [], ◌∷◌, ℕ, ◌+◌, ◌-◌, ◌≤◌, ◌<◌, length, take, drop}
+use Rattle.std.specs.Prelude.{Some, None, Option as CodeOption, is_some as is_given, unwrap_or}
 use Rattle.std.proofs.Math.Option.{Option, none, some}
 use Rattle.lists.specs.Choice.{is_some, or_else}
 use Rattle.lists.specs.Lists.{Bytes}
@@ -26,13 +26,22 @@ abbrev pub CommitmentAt : Bytes → ℕ → Option Bytes → Type 0
 CommitmentAt s offset none = Unit {0}
 CommitmentAt s offset (some c) = value_in (take value_digits (drop offset s)) ≡ c
 
--- the step at an offset: its version, whether it has a commitment, and where; the offset after it
+-- whether a step has a commitment
+abbrev pub has_commitment : NextStep → Bool
+has_commitment n = is_given n.commitment
+
+-- the offset that is noted of a step: 0 where it has no commitment
+abbrev pub noted_of : NextStep → ℕ
+noted_of n = unwrap_or n.commitment 0
+
+-- the step at an offset: its version, and where its commitment stands if it has one; the offset after
+-- it
 abbrev pub IsNextStep : Bytes → ℕ → CodeOption NextStep → Type 0
 IsNextStep s at (Some n) =
     (x : Step) × (steps_in (drop at s) ≡ x ∷ steps_in (drop n.next s)) × (x.version ≡ n.version)
-    × (is_some x.commitment ≡ n.committed)
-    × CommitmentAt s n.commitment x.commitment × StepLines (drop n.next s) × (at < n.next) × (n.next ≤ length s)
-    × (n.commitment ≤ length s)
+    × (is_some x.commitment ≡ has_commitment n)
+    × CommitmentAt s (noted_of n) x.commitment × StepLines (drop n.next s) × (at < n.next) × (n.next ≤ length s)
+    × (noted_of n ≤ length s)
 IsNextStep s at None = steps_in (drop at s) ≡ []
 
 -- ---- entries

@@ -11,7 +11,7 @@ use Rattle.rules.specs.Refusals.{commitment_asked}
 use Rattle.inputs.specs.VrfOutputs.{records_below}
 use Rattle.inputs.specs.Response.{steps_in}
 use Rattle.checks.specs.declared.sections.NextStep.{NextStep}
-use Rattle.checks.specs.Sections.{CommitmentAt, IsNextStep}
+use Rattle.checks.specs.Sections.{CommitmentAt, IsNextStep, has_commitment, noted_of}
 use Rattle.checks.specs.MonitoredVersions.{counted}
 
 abbrev pub versions_of : List Step → List ℕ
@@ -43,10 +43,10 @@ IsNoted outputs v offset offsets r offsets' =
 abbrev pub IsWantedStep : Bytes → ℕ → ℕ → Bool → Bytes → List ℕ → CodeOption (Bool × ℕ) → List ℕ → Type 0
 IsWantedStep s at v committed outputs offsets None offsets' =
     (steps_in (drop at s) ≡ [])
-    ⊎ ((n : NextStep) × IsNextStep s at (Some n) × (n.version ≡ v → n.committed ≡ committed → ⊥))
+    ⊎ ((n : NextStep) × IsNextStep s at (Some n) × (n.version ≡ v → has_commitment n ≡ committed → ⊥))
 IsWantedStep s at v committed outputs offsets (Some (there, next)) offsets' =
-    (n : NextStep) × IsNextStep s at (Some n) × (n.version ≡ v) × (n.committed ≡ committed) × (n.next ≡ next)
-    × IsNoted outputs v n.commitment offsets there offsets'
+    (n : NextStep) × IsNextStep s at (Some n) × (n.version ≡ v) × (has_commitment n ≡ committed) × (n.next ≡ next)
+    × IsNoted outputs v (noted_of n) offsets there offsets'
 
 -- ---- whether the steps are as asked
 

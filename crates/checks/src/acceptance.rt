@@ -14,13 +14,14 @@ use crate::map::{moved_pairs, with_pair};
 use crate::readings::Call;
 use crate::trial::Checked;
 use inputs::refusal::Refusal;
-use inputs::response_lines::Kind;
+use inputs::response_lines::Finding;
 use inputs::state::{KeptLog, MonitoringMap, State};
 use lines::writing::put_decoded;
 use tree::log_head::LogHead;
 
 // 16, or acceptance: the log as the response shows it, the new map, and the value that a search
 // found in the first output bytes.
+// Behind a reference the lengths of a state's arrays are not known from their types, so `Sized` is asked.
 pub(crate) fn accepted(
     text: &[u8],
     call: Call,
@@ -37,22 +38,15 @@ pub(crate) fn accepted(
         output.old output.new }
 {
     let response = call.response;
-    let version = response.target.version;
     let Some(map) = new_map(
-        response.kind,
+        response.finding,
         response.tree_size,
         state.map,
         checked.position,
-        version,
     ) else {
         return Err(Refusal::Room);
     };
-    let found = put_found(
-        response.kind,
-        version,
-        response.target.value.of(text),
-        output,
-    )?;
+    let found = put_found(text, response.finding, output)?;
     Ok(Accepted {
         state: State {
             label: state.label,
@@ -70,39 +64,36 @@ pub(crate) fn accepted(
 // The new map: in a search with the version at the position of the first complete entry; in
 // monitoring each pair at the end of its right path. None where it has no room.
 fn new_map(
-    kind: Kind,
+    finding: Finding,
     tree_size: u64,
     map: MonitoringMap,
     position: u64,
-    version: u32,
 ) -> Option<MonitoringMap>
     requires { IsMap map }
-    ensures { IsNewMap kind tree_size map position version result }
+    ensures { IsNewMap finding tree_size map position result }
 {
-    match kind {
-        Kind::Search => with_pair(map, position, version),
-        Kind::Monitor => Some(moved_pairs(tree_size, map)),
+    match finding {
+        Finding::Search(target) => with_pair(map, position, target.version),
+        Finding::Monitor => Some(moved_pairs(tree_size, map)),
     }
 }
 
-// What a response of a kind finds: of a search its version and the value, given by its field, which
-// is written to the first output bytes.
-fn put_found(
-    kind: Kind,
-    version: u32,
-    field: &[u8],
-    output: &mut [u8],
-) -> Result<Option<Found>, Refusal>
+// What a response finds: of a search its version and the value, which is written to the first output
+// bytes.
+fn put_found(text: &[u8], finding: Finding, output: &mut [u8]) -> Result<Option<Found>, Refusal>
     ensures found { result
-        ≡ found_by kind version (offset_after_any output.old 0 (value_by kind field.now)) }
+        ≡ found_by finding (offset_after_any output.old 0 (value_by text.now finding)) }
     ensures bytes { output.new
-        ≡ put_any output.old 0 (value_by kind field.now) }
+        ≡ put_any output.old 0 (value_by text.now finding) }
 {
-    match kind {
-        Kind::Search => match put_decoded(output, 0, field) {
-            Some(length) => Ok(Some(Found { version, length })),
+    match finding {
+        Finding::Search(target) => match put_decoded(output, 0, target.value.of(text)) {
+            Some(length) => Ok(Some(Found {
+                version: target.version,
+                length,
+            })),
             None => Err(Refusal::Room),
         },
-        Kind::Monitor => Ok(None),
+        Finding::Monitor => Ok(None),
     }
 }

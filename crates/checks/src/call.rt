@@ -78,6 +78,7 @@ pub fn value(output: &[u8], length: usize) -> &[u8]
 }
 
 // The same with a state lent: 1 to 14, then 15, then 16 and what comes of an acceptance.
+// Behind a reference the lengths of a state's arrays are not known from their types, so `Sized` is asked.
 fn answered(
     asked: Option<Kind>,
     response: &[u8],

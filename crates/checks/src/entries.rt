@@ -30,7 +30,8 @@ struct LookupsShown {
 // The times of the entries, if these are as asked of a log of so many: the frontier and the right
 // paths of the positions of pairs, of which a search has none. A search looks up a beginning of its
 // ladder in each; monitoring the versions of the pair that counts there, whose mark becomes 0.
-// Pairs are no struct, nor are the kept size and time: clauses would take it apart, no plainer.
+// A kind and no closure: monitoring's marks are written in each step, and a closure's clauses would have to say so.
+// Pairs are no struct: monitoring's steps take versions alone, and marks, written to, could not go along.
 pub(crate) fn entries_asked(
     kind: Kind,
     entries: &[u8],
@@ -175,8 +176,5 @@ fn lookups_shown(entries: &[u8], from: usize, wanted: &[u32]) -> LookupsShown
 pub(crate) fn is_at(wanted: &[u32], i: usize, version: u32) -> bool
     ensures { result ≡ begins (version ∷ []) (drop i wanted.now) }
 {
-    if wanted.len() <= i {
-        return false;
-    }
-    version == wanted[i]
+    wanted.get(i) == Some(&version)
 }

@@ -3,7 +3,7 @@
 ghost use Rattle.std.specs.Prelude.{◌≡◌, [], ◌≤◌, length, drop};
 ghost use Rattle.lists.specs.Lists.{Bytes};
 ghost use Rattle.rules.specs.Limits.{label_limit};
-ghost use Rattle.inputs.specs.declared.response_lines.Kind.TheVariants.{Search, Monitor};
+ghost use Rattle.inputs.specs.declared.response_lines.Finding.TheVariants.{Search, Monitor};
 ghost use Rattle.inputs.specs.Response.{entries_in, loose_in};
 ghost use Rattle.checks.specs.Calls.{offset_bound, Triable, IsJudged};
 ghost use Rattle.checks.specs.Sections.{EntryLines, AfterLookups};
@@ -18,7 +18,7 @@ use crate::sections::{is_included, lookup_version, next_entry, next_lookup};
 use crate::sought::Sought;
 use crate::steps::Commitments;
 use inputs::refusal::Refusal;
-use inputs::response_lines::Kind;
+use inputs::response_lines::{Finding, Kind, Target};
 use lines::layout::Layout;
 use tree::ladder::Ladder;
 use tree::log_text::{position_at, prefix_root_at};
@@ -58,6 +58,7 @@ struct Results {
 
 // Tries 12 and 13 on a call to which none of 6 to 11 applies, whose commitments stand at the
 // offsets given; answers the position of a search's first complete entry.
+// The label's limit is a clause: a state may hold a longer label, so that it is no fact of its type.
 pub(crate) fn try_12_and_13(
     text: &[u8],
     call: Call,
@@ -70,29 +71,30 @@ pub(crate) fn try_12_and_13(
     ensures { IsJudged text.now call label.now outputs.now
         commitments.now result }
 {
-    match call.response.kind {
-        Kind::Search => search_judged(text, call, label, outputs, commitments),
-        Kind::Monitor => monitoring_judged(text, call, outputs, commitments),
+    match call.response.finding {
+        Finding::Search(target) => search_judged(text, call, target, label, outputs, commitments),
+        Finding::Monitor => monitoring_judged(text, call, outputs, commitments),
     }
 }
 
-// The same of a search: short entries come first, then whole ones, the last one whole.
+// The same of a search for a target: short entries come first, then whole ones, the last one whole.
 fn search_judged(
     text: &[u8],
     call: Call,
+    target: Target,
     label: &[u8],
     outputs: &[u8],
     commitments: &[u32; Commitments::RECORDS],
 ) -> Result<u64, Refusal>
     requires possible { Triable text.now call outputs.now }
-    requires kind { call.response.kind ≡ Search }
+    requires finding { call.response.finding ≡ Search target }
     requires label { length label.now ≤ label_limit }
     ensures { IsJudged text.now call label.now outputs.now
         commitments.now result }
 {
-    let version = call.response.target.version;
-    let opening = call.response.target.opening.of(text);
-    let value = call.response.target.value.of(text);
+    let version = target.version;
+    let opening = target.opening.of(text);
+    let value = target.value.of(text);
     let whole = Ladder::of(version);
     let sought = Sought {
         kind: Kind::Search,
@@ -108,7 +110,8 @@ fn search_judged(
     first_refusal(results.reached, first)
 }
 
-// The same of monitoring: every lookup is included. There is no position to answer.
+// The same of monitoring: every lookup is included. There is no position to answer: it is 0, and no
+// Option, which the new map of a search would have to open although the kind has told that it is there.
 fn monitoring_judged(
     text: &[u8],
     call: Call,
@@ -116,10 +119,11 @@ fn monitoring_judged(
     commitments: &[u32; Commitments::RECORDS],
 ) -> Result<u64, Refusal>
     requires possible { Triable text.now call outputs.now }
-    requires kind { call.response.kind ≡ Monitor }
+    requires finding { call.response.finding ≡ Monitor }
     ensures { (label : Bytes) → IsJudged text.now call label outputs.now
         commitments.now result }
 {
+    // Zeros and no Option: one step sums the lookups of both kinds, and would open it in each to no end here.
     let sought = Sought {
         kind: Kind::Monitor,
         version: 0,

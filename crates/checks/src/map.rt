@@ -9,6 +9,7 @@ use tree::search_tree::last_right_ancestor;
 
 // The map with a version at a position, over a version that stands there; none where there is no
 // room for one pair more.
+// By hand and no `binary_search`: both arrays would be rotated, and one pass finds the place and moves both.
 pub(crate) fn with_pair(map: MonitoringMap, position: u64, version: u32) -> Option<MonitoringMap>
     requires { IsMap map }
     ensures { HoldsIfRoom (put_version position version (pairs_in map)) result }
@@ -57,6 +58,7 @@ pub(crate) fn moved_pairs(tree_size: u64, map: MonitoringMap) -> MonitoringMap
         versions: [0u32; State::PAIRS],
         count: 0,
     };
+    // By index, backwards: positions and versions are two arrays (inputs::state says why).
     for i in (0..map.count).rev() {
         let end = last_right_ancestor(tree_size, positions[i]);
         let there = version_there(moved, end);

@@ -15,6 +15,7 @@ pub(crate) const NONE: u32 = u32::MAX;
 
 // The pair, by its number, with the largest version of those whose right path holds an entry of a
 // log of tree_size entries, if there is one.
+// By index: the pair's number is the answer, and positions and versions are two arrays.
 pub(crate) fn largest_pair(
     tree_size: u64,
     positions: &[u64],

@@ -2,7 +2,7 @@
 ghost use Rattle.std.specs.Prelude.{◌≡◌, true, ℕ, ◌≤◌, leb, length};
 ghost use Rattle.lists.specs.Lists.{all};
 ghost use Rattle.rules.specs.Limits.{vrf_outputs_limit, greatest_version};
-ghost use Rattle.inputs.specs.declared.response_lines.Kind.TheVariants.{Monitor};
+ghost use Rattle.inputs.specs.declared.response_lines.Finding.TheVariants.{Monitor};
 ghost use Rattle.checks.specs.Calls.{offset_bound, Shapeable, IsShape};
 ghost use Rattle.checks.specs.Sections.{StepLines};
 ghost use Rattle.checks.specs.Steps.{are_monitoring_steps, AreSteps};
@@ -28,7 +28,7 @@ pub(crate) fn monitoring_asked(
     commitments: &mut [u32; Commitments::RECORDS],
 ) -> Option<Shape>
     requires possible { Shapeable text.now call positions.now versions.now outputs.now }
-    requires kind { call.response.kind ≡ Monitor }
+    requires finding { call.response.finding ≡ Monitor }
     ensures { IsShape text.now call positions.now versions.now
         outputs.now result commitments.new }
 {

@@ -1,10 +1,10 @@
 // What is tried before the sections of a response are looked at (paper 01, Sixteen numbers):
 // lengths, kind, identifier and label, size, version.
-ghost use Rattle.std.specs.Prelude.{◌≡◌, false, not, ◌||◌, ℕ, ◌≤◌, eqb, ltb, length};
+ghost use Rattle.std.specs.Prelude.{◌≡◌, false, not, ◌||◌, ℕ, ◌≤◌, ltb, length};
 ghost use Rattle.std.proofs.Math.Option.{Option-elim};
 ghost use Rattle.lists.specs.Lists.{Bytes, any, same};
 ghost use Rattle.lines.specs.Hex.{read_hex};
-ghost use Rattle.rules.specs.Limits.{label_limit, tree_size_limit, greatest_version};
+ghost use Rattle.rules.specs.Limits.{label_limit, greatest_version};
 ghost use Rattle.inputs.specs.Refusal.{number_in};
 ghost use Rattle.inputs.specs.Response.{Fields};
 ghost use Rattle.checks.specs.Calls.{are_lengths_fit, is_kind_asked, IsRequested, FitsTarget, IsNumber6to8};
@@ -13,10 +13,10 @@ use crate::limits::InputLimit;
 use crate::readings::Call;
 use inputs::refusal::Refusal;
 use inputs::response::Response;
-use inputs::response_lines::{Kind, KtLine};
+use inputs::response_lines::{Finding, Kind, KtLine};
 use inputs::state::State;
 use lines::writing::put_decoded;
-use tree::log_head::LogHead;
+use tree::log_head::has_size;
 
 // Whether no input is too long, a response being limited to so many bytes, and the identifier has
 // its length.
@@ -68,10 +68,10 @@ pub(crate) fn try_6_to_8(
     if !is_requested(asked, text, r, identifier, label) {
         return Err(Refusal::Request);
     }
-    if !size_fits(r.tree_size, call.kept_size) {
+    if !has_size(r.tree_size, call.kept_size) {
         return Err(Refusal::TreeSize);
     }
-    if !target_fits(r.kind, r.target.version, versions) {
+    if !target_fits(r.finding, versions) {
         return Err(Refusal::Target);
     }
     Ok(())
@@ -91,7 +91,7 @@ fn is_requested(
     ensures { IsRequested asked text.now r identifier.now label.now
         result }
 {
-    if !is_kind_asked(r.kind, asked) {
+    if !is_kind_asked(r.finding.kind(), asked) {
         return false;
     }
     if !decodes(r.identifier.of(text), identifier) {
@@ -107,27 +107,13 @@ fn is_kind_asked(kind: Kind, asked: Option<Kind>) -> bool
     asked == Some(kind)
 }
 
-// Whether the size of the log is neither 0 nor too large, nor below the kept one.
-fn size_fits(tree_size: u64, kept_size: u64) -> bool
-    ensures { result ≡ not
-        (eqb tree_size 0 || ltb tree_size_limit tree_size || ltb tree_size kept_size) }
-{
-    if tree_size == 0 {
-        return false;
-    }
-    if LogHead::LARGEST_SIZE < tree_size {
-        return false;
-    }
-    kept_size <= tree_size
-}
-
 // Whether a search's version is one that can be searched for, and not below one in the map.
-fn target_fits(kind: Kind, version: u32, versions: &[u32]) -> bool
-    ensures { FitsTarget kind version versions.now result }
+fn target_fits(finding: Finding, versions: &[u32]) -> bool
+    ensures { FitsTarget finding versions.now result }
 {
-    match kind {
-        Kind::Search => version_fits(version, versions),
-        Kind::Monitor => true,
+    match finding {
+        Finding::Search(target) => version_fits(target.version, versions),
+        Finding::Monitor => true,
     }
 }
 

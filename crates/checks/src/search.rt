@@ -2,7 +2,7 @@
 ghost use Rattle.std.specs.Prelude.{◌≡◌, ◌≤◌, length};
 ghost use Rattle.tree.specs.Ladder.{ladder};
 ghost use Rattle.rules.specs.Limits.{vrf_outputs_limit};
-ghost use Rattle.inputs.specs.declared.response_lines.Kind.TheVariants.{Search};
+ghost use Rattle.inputs.specs.declared.response_lines.Finding.TheVariants.{Search};
 ghost use Rattle.checks.specs.Calls.{offset_bound, Shapeable, IsShape};
 ghost use Rattle.checks.specs.Sections.{StepLines};
 ghost use Rattle.checks.specs.Steps.{are_search_steps, AreSteps};
@@ -11,25 +11,26 @@ use crate::entries::entries_asked;
 use crate::readings::Call;
 use crate::steps::{Commitments, wanted_step};
 use crate::trial::Shape;
-use inputs::response_lines::Kind;
+use inputs::response_lines::{Kind, Target};
 use tree::ladder::Ladder;
 
-// What else is told of a search that shows what is asked: the frontier, in each entry a beginning
+// What else is told of a search for a target that shows what is asked: the frontier, in each entry a beginning
 // of the ladder, and the ladder as steps. The offsets of the commitments go into the table lent.
 pub(crate) fn search_asked(
     text: &[u8],
     call: Call,
+    target: Target,
     positions: &[u64],
     versions: &[u32],
     outputs: &[u8],
     commitments: &mut [u32; Commitments::RECORDS],
 ) -> Option<Shape>
     requires possible { Shapeable text.now call positions.now versions.now outputs.now }
-    requires kind { call.response.kind ≡ Search }
+    requires finding { call.response.finding ≡ Search target }
     ensures { IsShape text.now call positions.now versions.now
         outputs.now result commitments.new }
 {
-    let version = call.response.target.version;
+    let version = target.version;
     let whole = Ladder::of(version);
     let ladder = whole.versions;
     let length = whole.length;

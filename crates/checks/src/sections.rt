@@ -9,13 +9,12 @@ ghost use Rattle.checks.specs.Sections.{OfLookup};
 use lines::cursor::Cursor;
 use lines::layout::Layout;
 
-// A step: its version, whether it has a commitment, and the offset of its digits; the offset of the
-// next line.
+// A step: its version, and the offset of the digits of its commitment if it has one; the offset of
+// the next line.
 #[derive(Clone, Copy)]
 pub(crate) struct NextStep {
     pub version: u32,
-    pub committed: bool,
-    pub commitment: usize,
+    pub commitment: Option<usize>,
     pub next: usize,
 }
 
@@ -28,15 +27,16 @@ pub(crate) fn next_step(steps: &[u8], at: usize) -> Option<NextStep>
     let (stop, next) = Cursor { at }.line(steps)?;
     let line = &steps[at..stop];
     let (value, field) = Cursor { at: Layout::STEP }.number(line, u32::MAX as u64)?;
+    let committed = line.len() == field.at + Layout::DIGITS;
     Some(NextStep {
         version: value as u32,
-        committed: line.len() == field.at + Layout::DIGITS,
-        commitment: at + field.at,
+        commitment: committed.then_some(at + field.at),
         next: next.at,
     })
 }
 
 // The offset after the line of the entry at an offset where no lookup stands, if an entry does.
+// Text and offset are no struct: it would be made anew at each line, and both facts of it proved there.
 pub(crate) fn next_entry(entries: &[u8], at: usize) -> Option<usize>
     requires lines { EntryLines (drop at entries.now) }
     requires loose { loose_in (drop at entries.now) ≡ [] }
@@ -76,8 +76,5 @@ pub(crate) fn lookup_version(line: &[u8]) -> u32
 pub(crate) fn is_included(line: &[u8]) -> bool
     ensures { OfLookup line.now (λ (l : Lookup). is_included l.result) result }
 {
-    if line.len() == 0 {
-        return false;
-    }
-    line[0] == Layout::IN_LETTER
+    line.first() == Some(&Layout::IN_LETTER)
 }

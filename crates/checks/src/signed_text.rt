@@ -65,11 +65,9 @@ pub fn signed_text(
 pub fn kind_numbered(kind: u32) -> Option<Kind>
     ensures { asked_kind result ≡ kind_numbered kind }
 {
-    if kind == 0 {
-        return Some(Kind::Search);
+    match kind {
+        0 => Some(Kind::Search),
+        1 => Some(Kind::Monitor),
+        _ => None,
     }
-    if kind == 1 {
-        return Some(Kind::Monitor);
-    }
-    None
 }

@@ -22,7 +22,7 @@ impl Commitments {
 // The step at an offset, if it is of a version wanted and has a commitment exactly where one is
 // wanted: whether there is an output of the version, and the offset of the next step. The offset of
 // the commitment goes into the table lent.
-// Steps, outputs and table are no struct: clauses would speak of each of its references, no plainer.
+// Steps, outputs and table are no struct: the table is written to, so each call would have to lend it anew.
 pub(crate) fn wanted_step(
     steps: &[u8],
     at: usize,
@@ -39,10 +39,10 @@ pub(crate) fn wanted_step(
         outputs.now offsets.old result offsets.new }
 {
     let step = next_step(steps, at)?;
-    if (step.version != version) | (step.committed != committed) {
+    if (step.version != version) | (step.commitment.is_some() != committed) {
         return None;
     }
-    let there = note_commitment(outputs, version, step.commitment, offsets);
+    let there = note_commitment(outputs, version, step.commitment.unwrap_or(0), offsets);
     Some((there, step.next))
 }
 

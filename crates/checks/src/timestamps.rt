@@ -3,6 +3,7 @@ ghost use Rattle.std.specs.Prelude.{◌≡◌};
 ghost use Rattle.checks.specs.Entries.{no_timestamps, timestamps_after, near_clock, fits_kept};
 
 // The time of the latest entry, 0 where there is none, and whether all times fit so far.
+// `fit` is a flag and no early end: what shape is asked (9) is told of all entries, whatever their times.
 #[derive(Clone, Copy)]
 pub(crate) struct Timestamps {
     pub latest: u64,

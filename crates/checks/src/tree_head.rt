@@ -33,7 +33,7 @@ pub(crate) fn is_tree_head(
 }
 
 // Writes the signed text of a log into bytes from an offset on and answers its length; with too
-// little room there it answers 16 and writes nothing.
+// little room there it refuses with 16 and writes nothing.
 pub(crate) fn place_tree_head(
     buffer: &mut [u8],
     offset: u64,

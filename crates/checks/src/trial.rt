@@ -15,7 +15,7 @@ use crate::search::search_asked;
 use crate::steps::Commitments;
 use crate::timestamps::{Timestamps, near_clock};
 use inputs::refusal::Refusal;
-use inputs::response_lines::Kind;
+use inputs::response_lines::{Finding, Kind};
 use inputs::state::State;
 use tree::log_head::{LogHead, log_head, nodes_asked};
 
@@ -28,6 +28,7 @@ pub(crate) struct Tried {
 }
 
 // The same of 6 to 14, and the root of the log.
+// No `Tried` in it: acceptance reads each field alone, and would only have one name more to go through.
 #[derive(Clone, Copy)]
 pub(crate) struct Checked {
     pub(crate) position: u64,
@@ -52,6 +53,7 @@ pub(crate) struct Shape {
 
 // Tries 1 to 14 on what a call is given, for the kind of call asked for. The values of the full
 // subtrees go into the block lent.
+// Behind a reference the lengths of a state's arrays are not known from their types, so `Sized` is asked.
 pub(crate) fn try_1_to_14(
     asked: Option<Kind>,
     response: &[u8],
@@ -171,9 +173,9 @@ fn try_9_to_11(
     ensures { Is9to11Tried text.now call positions.now versions.now
         outputs.now result commitments.new }
 {
-    let Some(shape) = asked_by_kind(text, call, positions, versions, outputs, commitments) else {
-        return Err(Refusal::Shape);
-    };
+    let shape = asked_by_kind(text, call, positions, versions, outputs, commitments).ok_or(
+        Refusal::Shape,
+    )?;
     let nodes = nodes_asked(
         call.response.entries.part.of(text),
         call.response.tree_size,
@@ -198,7 +200,7 @@ fn try_9_to_11(
 
 // What else is told of a response that shows what its kind asks. The offsets of the commitments go
 // into the table lent.
-// Text, call, pairs and outputs are no struct: clauses would speak of each of its references.
+// Text, call, pairs and outputs are no struct: the table written to could not go along, and 12 takes no pairs.
 fn asked_by_kind(
     text: &[u8],
     call: Call,
@@ -211,10 +213,16 @@ fn asked_by_kind(
     ensures { IsShape text.now call positions.now versions.now
         outputs.now result commitments.new }
 {
-    let response = call.response;
-    let kind = response.kind;
-    match kind {
-        Kind::Search => search_asked(text, call, positions, versions, outputs, commitments),
-        Kind::Monitor => monitoring_asked(text, call, positions, versions, outputs, commitments),
+    match call.response.finding {
+        Finding::Search(target) => search_asked(
+            text,
+            call,
+            target,
+            positions,
+            versions,
+            outputs,
+            commitments,
+        ),
+        Finding::Monitor => monitoring_asked(text, call, positions, versions, outputs, commitments),
     }
 }

@@ -3,8 +3,7 @@
 use mathlib.Core.Path.{◌≡◌, refl, sym, ◌∙◌, ap}
 use mathlib.Core.List.{[]}
 use mathlib.Core.Option.{Option, none, some, bind}
-use Prim.Native.Nat.{ℕ, zero, suc, ◌+◌, ◌-◌, ◌*◌, ◌^◌, ◌≤◌, ◌<◌}
-use native.Mathlib.Nat.{pow-le-pow_right}
+use Prim.Native.Nat.{ℕ, zero, suc, ◌+◌, ◌-◌, ◌*◌, ◌≤◌, ◌<◌}
 use native.Mathlib.Omega.{arith}
 use lib.Dec.{eqb}
 use lib.ListN.{length, take, drop, get_or, length-drop}
@@ -19,9 +18,9 @@ use Rattle.lines.proofs.OffsetLaws.{at_cons, at_end}
 use Rattle.rules.specs.Encoding.{bytes_after, uint, read_uint, read_opaque}
 use Rattle.rules.specs.Configuration.{Configuration, p256_suite, contact_monitoring, read_present}
 use Rattle.rules.specs.Configuration.{read_configuration}
-use Rattle.rules.proofs.EncodingLaws.{after_byte, after_none, byte_fits, bytes_front, bytes_short, uint_front}
+use Rattle.rules.proofs.EncodingLaws.{after_byte, after_none, bytes_front, bytes_short, uint_front}
 use Rattle.rules.proofs.EncodingLaws.{uint_short}
-use Rattle.inputs.specs.Configuration.{uint64, read_front, read_times}
+use Rattle.inputs.specs.Configuration.{read_front, read_times}
 
 -- ---- numbers
 

@@ -44,11 +44,10 @@ module _
     abbrev whole : Response
     whole =
         record {
-          kind = h.kind;
           identifier = h.identifier;
           label = h.label;
           tree_size = h.tree_size;
-          target = h.target;
+          finding = h.finding;
           steps = steps;
           entries = entries;
           nodes = nodes;

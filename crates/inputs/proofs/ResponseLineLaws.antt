@@ -114,6 +114,14 @@ module _ (l : Bytes) where
         let r = f.within in
         (omega arith, (omega arith, omega arith, part-decodes))
 
+    -- and encodes as many bytes as were told
+    pub part-length : length (decoded (part_of l (field_part at next))) ≡ n
+    unfolding decoded part_of
+    part-length =
+        let f = (here-read l decoded_length at n next e).0 in
+        let (b, h, q, d) = bytes_fit l (λ _. true) at n next e refl in
+        rw (f.part, h) q
+
     -- a byte string whose length fits is read of that part
     pub part-read : (fits : ℕ → Bool) → fits n ≡ true → read_at (read_field (bytes fits)) l at ≡ some (decoded (part_of l (field_part at next)), next)
     unfolding decoded part_of

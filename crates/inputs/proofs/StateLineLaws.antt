@@ -3,28 +3,34 @@
 use mathlib.Core.Path.{◌≡◌, refl, sym, ◌∙◌, ap}
 use mathlib.Core.List.{List, [], ◌∷◌}
 use mathlib.Core.Option.{Option, none, some, bind, map, some-injective, none-ne-some}
+use mathlib.Core.Bool.{Bool, true, false≢true}
+use Rattle.std.proofs.Math.Option.{get_or}
 use Prim.Native.Nat.{ℕ, ◌-◌, ◌≤◌, ◌<◌}
 use native.Mathlib.Omega.{arith}
 use lib.Dec.{leb}
 use lib.ListN.{length, replicate}
 use borrow.Author.Tests.{lt-ltb, le-ltb, le-leb, lt-leb}
-use Rattle.lists.specs.Choice.{provided}
+use Rattle.std.specs.Prelude.{Some, None, Option as CodeOption}
+use Rattle.lists.specs.Choice.{provided, is_some}
 use Rattle.lists.specs.Lists.{Bytes}
 use Rattle.hash.specs.Bytes.{padded}
 use Rattle.lines.specs.Number.{ascii, read_number}
-use Rattle.lines.specs.Hex.{read_hex, decoded_length}
-use Rattle.lines.specs.Field.{Field, number, exactly, up_to, Value, Values, read_field, read_fields}
+use Rattle.lines.specs.Hex.{read_hex}
+use Rattle.lines.specs.Readings.{part_of}
+use Rattle.lines.specs.declared.part.Part.{Part}
+use Rattle.lines.specs.Field.{Field, bytes, number, exactly, up_to, Value, Values, read_field, read_fields}
 use Rattle.lines.specs.Line.{read_line}
 use Rattle.lines.specs.Cursor.{field_at, fields_from, read_at, word_at}
 use Rattle.lines.specs.Writing.{put_any}
 use Rattle.lines.proofs.NumberLaws.{decimal_read}
 use Rattle.lines.proofs.CursorLaws.{read-beyond, read_some}
-use Rattle.lines.proofs.FormLaws.{with_rest, here-read, read-not, read-ended, read-number-on, bytes_fit}
-use Rattle.lines.proofs.FormLaws.{bytes-unfit, bytes-none, line_on, line-off, field-on, field_off}
+use Rattle.lines.proofs.FormLaws.{with_rest, here-read, read-not, read-ended, read-number-on}
+use Rattle.lines.proofs.FormLaws.{line_on, line-off, field-on, field_off}
 use Rattle.rules.specs.Limits.{label_limit, hash_length, number_bound, version_bound}
 use Rattle.rules.specs.StateText.{size_form, keep_form, pair_form, read_keep, read_pair}
 use Rattle.inputs.specs.declared.state.Label.{Label}
 use Rattle.inputs.specs.State.{label_block}
+use Rattle.inputs.specs.ResponseLines.{decoded, last_bytes_of}
 use Rattle.inputs.specs.StateReader.{label_read, size_read}
 use Rattle.inputs.proofs.FrontLaws.{put_first}
 
@@ -115,30 +121,42 @@ size-whole m t (some vs) x e = ap (λ (y : Label). some (record { size = m; time
 
 -- ---- its label
 
-module _ (l : Bytes) (at : ℕ) where
-  -- where the field encodes nothing, there is none
-  pub label-none : read_at decoded_length l at ≡ none → read_fields label_fields (fields_from l at) ≡ none
-  label-none e = field_off l (up_to label_limit) [] at (bytes-none l (λ (n : ℕ). leb n label_limit) at e)
+-- a field that encodes a byte string encodes what it decodes to
+decoded_some : (f : Bytes) → is_some (read_hex f) ≡ true → read_hex f ≡ some (decoded f)
+unfolding decoded is_some
+decoded_some f h = go (read_hex f) h
+  where
+    go : (o : Option Bytes) → is_some o ≡ true → o ≡ some (get_or o [])
+    go none q = absurd (false≢true q)
+    go (some b) q = refl
 
-  module _ (n next : ℕ) (e : read_at decoded_length l at ≡ some (n, next)) where
-    -- nor where the label is too long
-    pub label-long : label_limit < n → read_fields label_fields (fields_from l at) ≡ none
-    label-long h = field_off l (up_to label_limit) [] at (bytes-unfit l (λ (k : ℕ). leb k label_limit) at n next e (lt-leb n label_limit h))
+module _ (l : Bytes) (at : ℕ) (r : CodeOption (ℕ × Part))
+    (e : (fits : ℕ → Bool) → last_bytes_of l fits r ≡ read_fields (bytes fits ∷ []) (fields_from l at)) where
+  -- the bytes that were last, if they are not too long
+  label-last : last_bytes_of l (λ (k : ℕ). leb k label_limit) r ≡ read_fields label_fields (fields_from l at)
+  label-last = e (λ (k : ℕ). leb k label_limit)
 
-    -- nor where another field follows
-    pub label-more : n ≤ label_limit → next ≤ length l → read_fields label_fields (fields_from l at) ≡ none
-    label-more h w =
-        let (b, r, k, f) = bytes_fit l (λ (k : ℕ). leb k label_limit) at n next e (le-leb n label_limit h) in
-        last_more l at (up_to label_limit) b next f w
+  -- where no bytes are last, there is no label
+  pub label-none : r ≡ None → none ≡ read_fields label_fields (fields_from l at)
+  label-none q = rw q at label-last
+
+  module _ (n : ℕ) (p : Part) (q : r ≡ Some (n, p)) where
+    -- nor where they are too long
+    pub label-long : label_limit < n → none ≡ read_fields label_fields (fields_from l at)
+    unfolding provided
+    label-long h = rw (q, lt-leb n label_limit h) at label-last
 
     -- else the label is what the field encodes, with zeros after it
-    pub label-read : (s d : Bytes) → n ≤ label_limit → length l < next → s ≡ field_at l at → d ≡ put_any (replicate label_limit 0) 0 (read_hex s)
+    pub label-read : n ≤ label_limit → is_some (read_hex (part_of l p)) ≡ true → length (decoded (part_of l p)) ≡ n
+        → (s d : Bytes) → s ≡ part_of l p → d ≡ put_any (replicate label_limit 0) 0 (read_hex s)
         → some (record { bytes = d; length = n }) ≡ map label_read (read_fields label_fields (fields_from l at))
-    unfolding label_block
-    label-read s d h w es ed =
-        let (b, r, k, f) = bytes_fit l (λ (k : ℕ). leb k label_limit) at n next e (le-leb n label_limit h) in
-        let p : d ≡ padded label_limit b = ed ∙ put_first label_limit (read_hex s) b (ap read_hex es ∙ r) (omega arith) in
-        rw (last-read l at (up_to label_limit) b next f w, p, k) refl
+    unfolding label_block provided
+    label-read h t k s d es ed =
+        let b = decoded (part_of l p) in
+        let g : d ≡ padded label_limit b =
+        ed ∙ put_first label_limit (read_hex s) b (ap read_hex es ∙ decoded_some (part_of l p) t) (omega arith) in
+        let f : some (b, tt) ≡ read_fields label_fields (fields_from l at) = rw (q, le-leb n label_limit h) at label-last in
+        rw (sym f, g, sym k) refl
 
 -- ---- the `keep` line
 

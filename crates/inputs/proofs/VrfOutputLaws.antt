@@ -6,11 +6,11 @@ use mathlib.Core.Bool.{Bool, true, false, ◌&&◌, false≢true}
 use mathlib.Core.List.Memᴰ
 use mathlib.Core.List.{List, [], ◌∷◌, map, Memᴰ}
 use mathlib.Core.Option.{Option, Option-elim, none, some}
-use Prim.Native.Nat.{ℕ, zero, suc, ◌+◌, ◌*◌, ◌^◌, ◌/◌, ◌%◌, ◌≤◌, ◌<◌}
+use Prim.Native.Nat.{ℕ, zero, suc, ◌+◌, ◌-◌, ◌*◌, ◌^◌, ◌/◌, ◌%◌, ◌≤◌, ◌<◌}
 use native.Mathlib.Omega.{arith}
 use lib.Dec.{eqb, ltb}
 use lib.ListN.{length, take, drop, get_or, length-map, length-drop, get_or-map}
-use borrow.Author.Tests.{eq-eqb, ne_eqb, eqb-true, lt-ltb, le-ltb, ltb-true}
+use borrow.Author.Tests.{eq-eqb, ne_eqb, eqb-true, lt-ltb, le-ltb, ltb-true, ltb-false}
 use Rattle.lists.specs.Choice.{is_some}
 use Rattle.lists.specs.Lists.{Bytes, select, first, rising, runs}
 use Rattle.lists.proofs.ChoiceLaws.{given_first, given_provided, provided_some, and_holds}
@@ -26,7 +26,9 @@ use Rattle.tree.proofs.RunLaws.{length_runs, mapped-run, runs-at}
 use Rattle.inputs.specs.VrfOutputs.{record_at, found_output, record_of, records_below, IsRecordOf}
 use Rattle.inputs.specs.VrfOutputs.{IsOfSomeRecord}
 use Rattle.std.specs.Prelude.{Some, None, is_some as is_given, Option as CodeOption}
-use Rattle.std.specs.Prelude.{Result, Ok, Err, MatchResult}
+use Rattle.std.specs.Prelude.{Result, Ok, Err, MatchOption}
+use Rattle.std.specs.Result.{result_ok}
+use Rattle.std.specs.List.{IsAllAdjacentAnswer}
 use Rattle.std.specs.Simd.{first_chunks}
 use Rattle.std.specs.List.Sorted.{IsSearchInRange, IsBinarySearchResult, IsNonDecreasingBy}
 use Rattle.std.specs.Ordering.{nat_cmp, ordering_index}
@@ -284,7 +286,7 @@ module _ (s : Bytes) (v : ℕ) (cs : List Bytes) (e : cs
   -- a search by the version ends at a record of it, or where versions rise there is none
   pub searched : (r : Result ℕ ℕ) → IsSearchInRange r (length cs)
       → IsBinarySearchResult (λ (t : Bytes). nat_cmp (chunk_version t) v) cs r
-      → MatchResult r (λ i. (i < length s / record_length) × ((record_at s i).version ≡ v)) (λ _. NoneIs s v)
+      → MatchOption (result_ok r) (NoneIs s v) (λ i. (i < length s / record_length) × ((record_at s i).version ≡ v))
   searched (Ok i) l equal =
       (omega arith, sym (ap version_in (chunk_at s cs i [] e (omega arith))) ∙ ranked _ v _ (sym (equal [])))
   searched (Err k) l parted = λ r i h q.
@@ -292,6 +294,53 @@ module _ (s : Bytes) (v : ℕ) (cs : List Bytes) (e : cs
       let p = parted (comparisons_rise r) in
       by_order i k (λ b. let a = ranked _ v _ (sym (p.0 i [] (omega arith) b)) in omega arith) (λ b. let a =
       ranked _ v _ (sym (p.1 i [] b (omega arith))) in omega arith)
+
+-- ---- the versions of chunks, two at a time
+
+module _ (s : Bytes) (cs : List Bytes) (e : cs
+    ≡ first_chunks record_length (length s / record_length) s) (n : length cs ≡ length s / record_length) where
+  -- the version in a chunk is that of the record with its number
+  version_there : (i : ℕ) (d : Bytes) → i < length s / record_length
+      → chunk_version (get_or cs i d) ≡ (record_at s i).version
+  version_there i d h = ap version_in (chunk_at s cs i d e h)
+
+  -- where each is below the next, the versions from one on rise as all do
+  rise_as_all : ((k : ℕ) → k + 1 < length s / record_length → (record_at s k).version < (record_at s (k + 1)).version)
+      → (i : ℕ) → i < length s / record_length → rising (versions s) ≡ rising (drop i (versions s))
+  rise_as_all h zero l = refl
+  rise_as_all h (suc i) l =
+      let m : i + 1 ≡ suc i = omega arith in
+      rise_as_all h i (omega arith)
+      ∙ rises_on s i (omega arith) (h i (omega arith))
+      ∙ ap (λ (k : ℕ). rising (drop k (versions s))) m
+
+  -- so all rise
+  rise-whole : ((k : ℕ) → k + 1 < length s / record_length → (record_at s k).version < (record_at s (k + 1)).version)
+      → rising (versions s) ≡ true
+  rise-whole h =
+      let m = length s / record_length in
+      by_order 1 m (λ l. rise_as_all h (m - 1) (omega arith) ∙ rises_last s (m - 1) (omega arith))
+      (λ l. rises_last s 0 (omega arith))
+
+  -- they rise where each chunk's version is below the next one's, and nowhere else
+  pub rise_by_pairs : (r : Bool) → IsAllAdjacentAnswer (λ x y b. b ≡ ltb (chunk_version x) (chunk_version y)) cs r
+      → r ≡ rising (versions s)
+  rise_by_pairs true all = sym (rise-whole (λ k l.
+      let a = version_there k [] (omega arith) in
+      let b = version_there (k + 1) [] l in
+      let t = ltb-true (chunk_version (get_or cs k [])) (chunk_version (get_or cs (k + 1) []))
+      (sym (all k [] (omega arith))) in
+      omega arith))
+  rise_by_pairs false (k, l, broken) = go (rising (versions s)) refl
+    where
+      go : (b : Bool) → rising (versions s) ≡ b → false ≡ b
+      go false q = refl
+      go true q =
+          let a = version_there k [] (omega arith) in
+          let b = version_there (k + 1) [] (omega arith) in
+          let t = ltb-false (chunk_version (get_or cs k [])) (chunk_version (get_or cs (k + 1) [])) (sym (broken [])) in
+          let u = version_rises s k (k + 1) q (omega arith) (omega arith) in
+          absurd (omega arith)
 
 -- a record of the version is what was to be found
 pub found_record : (s : Bytes) (v m : ℕ) (r : CodeOption FoundOutput) → m < length s / record_length

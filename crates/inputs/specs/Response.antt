@@ -7,9 +7,8 @@ use Rattle.lines.specs.Readings.{part_of}
 use Rattle.rules.specs.Response.{Finding, searched, monitored, Step, Lookup, Entry, Parts}
 use Rattle.rules.specs.ResponseText.{read_step, read_node}
 use Rattle.rules.specs.ResponseText.{read_item, grouped}
-use Rattle.inputs.specs.declared.response_lines.Kind.{Kind}
-use Rattle.inputs.specs.declared.response_lines.Kind.TheVariants.{Search, Monitor}
-use Rattle.inputs.specs.declared.response_lines.Target.{Target}
+use Rattle.inputs.specs.declared.response_lines.Finding.{Finding as FindingBlock}
+use Rattle.inputs.specs.declared.response_lines.Finding.TheVariants.{Search, Monitor}
 use Rattle.inputs.specs.ResponseLines.{decoded, Decodes}
 use Rattle.inputs.specs.declared.response.Response.{Response}
 
@@ -30,15 +29,15 @@ nodes_in s = (leading read_node (ended_lines s)).0
 
 -- ---- the whole
 
--- the kind, with the target of a search
-unfoldable pub finding_in : Bytes → Kind → Target → Finding
-finding_in s Search t =
+-- what was found: of a search its target
+unfoldable pub finding_in : Bytes → FindingBlock → Finding
+finding_in s (Search t) =
     searched (record {
       version = t.version;
       opening = decoded (part_of s t.opening);
       value = decoded (part_of s t.value);
     })
-finding_in s Monitor t = monitored
+finding_in s Monitor = monitored
 
 -- each field and each section is what its part of the text says
 unfoldable pub parts_in : Bytes → Response → Parts
@@ -47,7 +46,7 @@ parts_in s r =
       identifier = decoded (part_of s r.identifier);
       label = decoded (part_of s r.label);
       tree_size = r.tree_size;
-      finding = finding_in s r.kind r.target;
+      finding = finding_in s r.finding;
       steps = steps_in (part_of s r.steps.part);
       entries = entries_in (part_of s r.entries.part);
       nodes = nodes_in (part_of s r.nodes.part);
@@ -85,15 +84,15 @@ pub record Filled (s : Bytes) (r : Response) : Type 0 where
   pub nodes : AllRead read_node (part_of s r.nodes.part)
 
 -- opening and value of a search are parts that encode byte strings
-abbrev pub TargetDecodes : Bytes → Kind → Target → Type 0
-TargetDecodes s Search t = Decodes s t.opening × Decodes s t.value
-TargetDecodes s Monitor t = Unit {0}
+abbrev pub TargetDecodes : Bytes → FindingBlock → Type 0
+TargetDecodes s (Search t) = Decodes s t.opening × Decodes s t.value
+TargetDecodes s Monitor = Unit {0}
 
 -- and so are all parts that are handed on
 pub record Fields (s : Bytes) (r : Response) : Type 0 where
   pub identifier : Decodes s r.identifier
   pub label : Decodes s r.label
-  pub target : TargetDecodes s r.kind r.target
+  pub target : TargetDecodes s r.finding
 
 -- what is promised of the offsets
 abbrev pub Offsets : Bytes → CodeOption Response → Type 0

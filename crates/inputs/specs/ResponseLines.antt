@@ -1,5 +1,5 @@
--- What the readers of single lines of a response give back, from what is read. All but `decoded`
--- and `Decodes` is for contracts of private functions alone.
+-- What the readers of single lines of a response give back, from what is read. All but `decoded`,
+-- `Decodes` and `kind_found` is for contracts of private functions alone.
 use Rattle.std.specs.Prelude.{◌≡◌, Bool, true, [], ◌∷◌, ℕ, ◌≤◌, length, Some, None, Option as CodeOption}
 use Rattle.std.proofs.Math.Option.{Option, none, some, get_or, bind}
 use Rattle.lists.specs.Choice.{provided, is_some}
@@ -15,6 +15,8 @@ use Rattle.rules.specs.Response.{Kind, search, monitor}
 use Rattle.rules.specs.ResponseText.{version_field, siblings_field, kt_form, head_form, target_form}
 use Rattle.inputs.specs.declared.response_lines.Kind.{Kind as KindOfLine}
 use Rattle.inputs.specs.declared.response_lines.Kind.TheVariants.{Search, Monitor}
+use Rattle.inputs.specs.declared.response_lines.Finding.{Finding}
+use Rattle.inputs.specs.declared.response_lines.Finding.TheVariants.{Search as Searched, Monitor as Monitored}
 use Rattle.inputs.specs.declared.response_lines.KtLine.{KtLine}
 use Rattle.inputs.specs.declared.response_lines.Target.{Target}
 
@@ -38,6 +40,11 @@ number_after word bound l = bind (word_at word l 0) (read_at (read_number bound)
 abbrev pub kind_of : KindOfLine → Kind
 kind_of Search = search
 kind_of Monitor = monitor
+
+-- the kind of the response that found it
+abbrev pub kind_found : Finding → KindOfLine
+kind_found (Searched t) = Search
+kind_found Monitored = Monitor
 
 -- the kind, the identifier and the label
 abbrev pub kt_of : Bytes → CodeOption KtLine → Option (Kind × Read (kt_form search))
@@ -89,7 +96,7 @@ NextPartStands l (Some (part, next)) = StandsIn l part
 NextPartStands l None = Unit {0}
 
 abbrev pub LastBytesStand : Bytes → CodeOption (ℕ × Part) → Type 0
-LastBytesStand l (Some (length, part)) = StandsIn l part
+LastBytesStand l (Some (n, part)) = StandsIn l part × (length (decoded (part_of l part)) ≡ n)
 LastBytesStand l None = Unit {0}
 
 abbrev pub LastPartsStand : Bytes → CodeOption (Part × Part) → Type 0

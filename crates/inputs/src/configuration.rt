@@ -10,6 +10,7 @@ use lines::part::Part;
 // The fields in the order of the encoding: suite and mode; the public keys, each the part of the
 // encoded configuration that it fills; how far the log's time may be ahead of the clock and behind
 // it; the monitoring window; the maximum lifetime, in milliseconds, where there is one.
+// Suite and mode stay numbers: the definition configuration_in names them.
 #[derive(Clone, Copy)]
 pub struct Configuration {
     pub suite: u16,
@@ -154,17 +155,12 @@ fn uint_at(s: &[u8], at: usize, width: usize) -> Option<(u64, usize)>
     ensures result_value { uint_in s.now result ≡ read_uint width (drop at s.now) }
     ensures within { after_uint result ≤ length s.now }
 {
-    if s.len() < at {
-        return None;
-    }
-    if s.len() - at < width {
-        return None;
-    }
-    let next = at + width;
-    Some((uint_of(&s[at..next]), next))
+    let bytes = s.get(at..)?.get(..width)?;
+    Some((uint_of(bytes), at + width))
 }
 
 // The number that bytes encode, the highest first.
+// By hand: from_be_bytes is for one width, and there are three.
 fn uint_of(s: &[u8]) -> u64
     requires { length s.now ≤ uint64 }
     ensures { result ≡ uint s.now }

@@ -8,7 +8,7 @@ ghost use Rattle.inputs.specs.Response.{parts_of, Offsets, loose_in};
 ghost use Rattle.inputs.specs.ResponseSections.{read_role, role_of, role_from_of, SectionOf};
 
 use crate::response_header::{Header, read_header};
-use crate::response_lines::{Kind, Target, is_end, is_entry, is_lookup, is_node, is_step};
+use crate::response_lines::{Finding, is_end, is_entry, is_lookup, is_node, is_step};
 use crate::text_line::read_from;
 use lines::part::Part;
 
@@ -19,15 +19,14 @@ pub struct Section {
     pub count: usize,
 }
 
-// The fields that encode identifier and label; n; the target of a search; the lines of steps, of
-// entries with their lookups, and of nodes.
+// The fields that encode identifier and label; n; what was found; the lines of steps, of entries
+// with their lookups, and of nodes.
 #[derive(Clone, Copy)]
 pub struct Response {
-    pub kind: Kind,
     pub identifier: Part,
     pub label: Part,
     pub tree_size: u64,
-    pub target: Target,
+    pub finding: Finding,
     pub steps: Section,
     pub entries: Section,
     pub nodes: Section,
@@ -42,6 +41,7 @@ pub fn read_response(text: &[u8]) -> Option<Response>
 }
 
 // What the lines of a section are. The `end` line is a section of its own.
+// A choice and no closure: SectionOf says by the sort what the lines read as.
 #[derive(Clone, Copy)]
 enum Sort {
     Steps,
@@ -78,11 +78,10 @@ fn read_body(text: &[u8], h: Header) -> Option<Response>
         return None;
     }
     Some(Response {
-        kind: h.kind,
         identifier: h.identifier,
         label: h.label,
         tree_size: h.tree_size,
-        target: h.target,
+        finding: h.finding,
         steps,
         entries,
         nodes,

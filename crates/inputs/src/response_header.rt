@@ -10,18 +10,17 @@ ghost use Rattle.inputs.specs.ResponseHeader.{read_kt, read_finding, opened_of, 
 ghost use Rattle.inputs.specs.ResponseHeader.{finding_of, headed_of, OpenedDecodes, FoundDecodes};
 ghost use Rattle.inputs.specs.ResponseHeader.{HeaderStands};
 
-use crate::response_lines::{Kind, KtLine, Target, head_line, kt_line, target_line};
+use crate::response_lines::{Finding, Kind, KtLine, Target, head_line, kt_line, target_line};
 use crate::text_line::{line_from, read_from};
 use lines::part::Part;
 
 // What stands before the sections, and the offset where these begin.
 #[derive(Clone, Copy)]
 pub(crate) struct Header {
-    pub(crate) kind: Kind,
     pub(crate) identifier: Part,
     pub(crate) label: Part,
     pub(crate) tree_size: u64,
-    pub(crate) target: Target,
+    pub(crate) finding: Finding,
     pub(crate) next: usize,
 }
 
@@ -32,13 +31,12 @@ pub(crate) fn read_header(text: &[u8]) -> Option<Header>
 {
     let (first, next) = kt_from(text)?;
     let (tree_size, next) = head_from(text, next)?;
-    let (target, next) = finding_from(text, first.kind, next)?;
+    let (finding, next) = finding_from(text, first.kind, next)?;
     Some(Header {
-        kind: first.kind,
         identifier: first.identifier,
         label: first.label,
         tree_size,
-        target,
+        finding,
         next,
     })
 }
@@ -48,8 +46,7 @@ fn kt_from(text: &[u8]) -> Option<(KtLine, usize)>
     ensures read { opened_of text.now result ≡ read_from read_kt text.now 0 }
     ensures decodes { OpenedDecodes text.now result }
 {
-    let (line, next) = line_from(text, 0)?;
-    Some((kt_line(line)?, next))
+    read_from(text, 0, kt_line)
 }
 
 // n of the `head` line at an offset, and the offset after it.
@@ -61,22 +58,21 @@ fn head_from(text: &[u8], at: usize) -> Option<(u64, usize)>
 
 // What stands at an offset after the `head` line, and the offset after it: for a search its
 // `target` line, for monitoring no line.
-fn finding_from(text: &[u8], kind: Kind, at: usize) -> Option<(Target, usize)>
-    ensures read { finding_of text.now kind result
-        ≡ read_finding (kind_of kind) text.now at }
-    ensures decodes { FoundDecodes text.now kind result }
+fn finding_from(text: &[u8], kind: Kind, at: usize) -> Option<(Finding, usize)>
+    ensures read { finding_of text.now result ≡ read_finding (kind_of kind) text.now at }
+    ensures decodes { FoundDecodes text.now result }
 {
     match kind {
         Kind::Search => target_from(text, at),
-        Kind::Monitor => Some((no_target(), at)),
+        Kind::Monitor => Some((Finding::Monitor, at)),
     }
 }
 
-// The `target` line at an offset, its fields as parts of the text, and the offset after it.
-fn target_from(text: &[u8], at: usize) -> Option<(Target, usize)>
-    ensures read { finding_of text.now Kind.Search result
-        ≡ read_finding search text.now at }
-    ensures decodes { FoundDecodes text.now Kind.Search result }
+// What a search found, by the `target` line at an offset, its fields as parts of the text; the
+// offset after it.
+fn target_from(text: &[u8], at: usize) -> Option<(Finding, usize)>
+    ensures read { finding_of text.now result ≡ read_finding search text.now at }
+    ensures decodes { FoundDecodes text.now result }
 {
     let (line, next) = line_from(text, at)?;
     let found = target_line(line)?;
@@ -85,7 +81,7 @@ fn target_from(text: &[u8], at: usize) -> Option<(Target, usize)>
         opening: shift(found.opening, at),
         value: shift(found.value, at),
     };
-    Some((target, next))
+    Some((Finding::Search(target), next))
 }
 
 // A part of a line that begins at an offset of a text, as a part of the text.
@@ -96,15 +92,5 @@ fn shift(part: Part, at: usize) -> Part
     Part {
         start: at + part.start,
         stop: at + part.stop,
-    }
-}
-
-// The target of a response that has none.
-// An Option in its place is no plainer: whoever reads a target has matched the kind before, and needs no test of it.
-fn no_target() -> Target {
-    Target {
-        version: 0,
-        opening: Part { start: 0, stop: 0 },
-        value: Part { start: 0, stop: 0 },
     }
 }

@@ -11,6 +11,7 @@ ghost use Rattle.rules.specs.ResponseText.{siblings_field, kind_word, head_form,
 ghost use Rattle.rules.specs.ResponseText.{read_kind_line, read_step, read_entry_line, read_in, read_no, read_nl};
 ghost use Rattle.rules.specs.ResponseText.{read_node};
 ghost use Rattle.inputs.specs.ResponseLines.{number_after, lookup_form, kind_of, kt_of, head_of, target_of};
+ghost use Rattle.inputs.specs.ResponseLines.{kind_found};
 ghost use Rattle.inputs.specs.ResponseLines.{next_part_of, last_bytes_of, last_parts_of};
 ghost use Rattle.inputs.specs.ResponseLines.{KtStands, TargetStands, NextPartStands, LastBytesStand};
 ghost use Rattle.inputs.specs.ResponseLines.{LastPartsStand};
@@ -21,6 +22,7 @@ use lines::cursor::Cursor;
 use lines::layout::Word;
 use lines::part::Part;
 
+// What a response answers: a search for a version, or monitoring.
 #[derive(Clone, Copy, PartialEq, Eq)]
 pub enum Kind {
     Search,
@@ -33,6 +35,13 @@ pub struct Target {
     pub version: u32,
     pub opening: Part,
     pub value: Part,
+}
+
+// What a response found: of a search its target.
+#[derive(Clone, Copy)]
+pub enum Finding {
+    Search(Target),
+    Monitor,
 }
 
 // A first line: the kind, and the fields that encode identifier and label.
@@ -51,6 +60,18 @@ impl Kind {
         match self {
             Kind::Search => &Word::SEARCH,
             Kind::Monitor => &Word::MONITOR,
+        }
+    }
+}
+
+impl Finding {
+    // The kind of the response.
+    pub fn kind(self) -> Kind
+        ensures { result ≡ kind_found self }
+    {
+        match self {
+            Finding::Search(_) => Kind::Search,
+            Finding::Monitor => Kind::Monitor,
         }
     }
 }
@@ -213,9 +234,9 @@ fn next_part(l: &[u8], c: Cursor, wanted: usize) -> Option<(Part, Cursor)>
     Some((part, next))
 }
 
-// The field at a cursor as a byte string with which the line ends, by that string's length and the
+// The field at a cursor as a byte string with which a line ends, by that string's length and the
 // part that the field fills; whoever asks says which lengths fit.
-fn last_bytes(l: &[u8], c: Cursor) -> Option<(usize, Part)>
+pub(crate) fn last_bytes(l: &[u8], c: Cursor) -> Option<(usize, Part)>
     ensures read { (fits : ℕ → Bool)
         → last_bytes_of l.now fits result
         ≡ read_fields (bytes fits ∷ []) (fields_from l.now c.at) }

@@ -28,7 +28,7 @@ pub struct KeptLog {
 
 // The pairs of the monitoring map: their positions and their versions, with zeros after them, and
 // their number. No heap: the room is fixed (project rule).
-// Two arrays and no array of pairs is no plainer: tree::next_asked takes the positions as a slice.
+// An array of pairs is no plainer: tree::search_tree::next_asked takes the positions as a slice.
 #[derive(Clone, Copy)]
 pub struct MonitoringMap {
     pub positions: [u64; State::PAIRS],
@@ -210,7 +210,7 @@ fn timestamp_fits(size: u64, timestamp: u64) -> bool
 }
 
 // Whether bytes are zero from an offset on.
-// The map's numbers have the chain again: for a type parameter `zeros_from`, of numbers, has no meaning.
+// The map's numbers have the chain again: the definition zeros_from is of numbers, and says nothing of a type parameter.
 fn zeros_from(s: &[u8], from: usize) -> bool
     ensures { result ≡ zeros_from from s.now }
 {

@@ -15,6 +15,7 @@ ghost use Rattle.inputs.specs.StateReader.{label_read, size_read, pair_of, pair_
 ghost use Rattle.inputs.specs.StateReader.{KeepsFrom, PairsFrom, ReadAs, if_valid};
 
 use crate::refusal::Refusal;
+use crate::response_lines::last_bytes;
 use crate::state::{KeptLog, Label, MonitoringMap, Refused, State};
 use crate::text_line::{after_word, line_from, read_from};
 use lines::cursor::Cursor;
@@ -36,6 +37,7 @@ struct SizeLine {
 
 // The `keep` lines that follow each other: their number, the offset after them, and the first of
 // their values, as many as a block takes.
+// No Option where they are too many: state_from_lines tests the number in any case, and the loop needs no exit.
 #[derive(Clone, Copy)]
 struct Keeps {
     count: usize,
@@ -45,6 +47,7 @@ struct Keeps {
 
 // The `pair` lines that follow each other: their number with the first of their pairs, as many as a
 // state takes, and the offset after them.
+// No Option where they are too many: state_from_lines tests the number in any case, and the loop needs no exit.
 #[derive(Clone, Copy)]
 struct Pairs {
     map: MonitoringMap,
@@ -70,6 +73,7 @@ pub fn state_in(text: &[u8]) -> State
     match read_state(text) {
         Ok(state) => state,
         Err(refused) => {
+            // A state that stands for none, and no Option: judge takes a State, refuses it in its turn and hands it back (clause answer).
             let mut state = refused.state;
             state.label.length = State::LABEL + 1;
             state
@@ -140,15 +144,12 @@ fn last_label(l: &[u8], c: Cursor) -> Option<Label>
     ensures { option_of result ≡ map label_read
         (read_fields (up_to label_limit ∷ []) (fields_from l.now c.at)) }
 {
-    let (length, next) = c.bytes(l)?;
+    let (length, field) = last_bytes(l, c)?;
     if State::LABEL < length {
         return None;
     }
-    if next.at <= l.len() {
-        return None;
-    }
     let mut bytes = [0u8; State::LABEL];
-    put_decoded(&mut bytes, 0, c.field(l));
+    put_decoded(&mut bytes, 0, field.of(l));
     Some(Label { bytes, length })
 }
 

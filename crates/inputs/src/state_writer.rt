@@ -25,6 +25,7 @@ const VALUE: usize = 32;
 
 // Writes the text of a state to the first bytes lent and answers its length. Of a state that is not
 // valid, or with fewer than State::TEXT bytes lent, it answers 0 and writes nothing.
+// 0 for no text: clause answer is the text's length.
 pub fn write_state(state: State, lent: &mut [u8]) -> usize
     ensures answer { result ≡ length (get_or (text_for state lent.old) []) }
     ensures bytes { lent.new

@@ -26,13 +26,7 @@ pub fn outputs_rise(outputs: &[u8]) -> bool
     if rest.len() != 0 {
         return false;
     }
-    // By index: `windows(2)` is no plainer, since its pieces have no length in their type.
-    for i in 1..records.len() {
-        if version_of(&records[i]) <= version_of(&records[i - 1]) {
-            return false;
-        }
-    }
-    true
+    records.is_sorted_by(|a, b| version_of(a) < version_of(b))
 }
 
 // The output of a version. Of bytes that are no outputs it is that of some record of the version,
@@ -42,9 +36,9 @@ pub fn find_output(outputs: &[u8], version: u32) -> Option<FoundOutput>
     ensures any { IsOfSomeRecord outputs.now version result }
 {
     let (records, _) = outputs.as_chunks::<RECORD>();
-    let Ok(index) = records.binary_search_by_key(&version, |record| version_of(record)) else {
-        return None;
-    };
+    let index = records
+        .binary_search_by_key(&version, |record| version_of(record))
+        .ok()?;
     Some(FoundOutput {
         index,
         output: output_of(&records[index]),

@@ -142,7 +142,8 @@ pub extern "C" fn kt_monitor(
     )
 }
 
-// Checks a response to a call of a kind: what kt_search and kt_monitor share.
+// Checks a response to a call of a kind: what kt_search and kt_monitor share. No struct of its
+// parameters: C gives them one by one.
 fn answered(
     asked: Option<Kind>,
     response: &[u8],

@@ -16,6 +16,7 @@ impl Failure {
     // Says on standard error what failed and why, as the system puts it, without the error's
     // number.
     pub(crate) fn tell(self, rt: &impl Eprint) {
+        // A buffer, ended by a zero byte: there is no heap.
         let mut text = [0u8; 256];
         let _ = write!(Cursor::new(&mut text[..]), "{}\0", self.error);
         let reason = str::from_utf8(&text).unwrap_or("");

@@ -98,3 +98,11 @@ pub all_shared : (o p : Bytes) (n : ℕ) → AreBytes o → AreBytes p → 8 * l
 all_shared o p n x y l k e =
     bits_equal o p x y (omega arith)
     (sym (take_all n (bits o) (omega (arith, length_bits o))) ∙ e ∙ take_all n (bits p) (omega (arith, length_bits p)))
+
+-- Two lists that agree at each place before the first n share those.
+pub shared_up : (x y : List ℕ) (n : ℕ) → n ≤ length x → n ≤ length y
+    → ((k : ℕ) → k < n → get_or x k 0 ≡ get_or y k 0) → take n x ≡ take n y
+shared_up x y zero h k e = refl
+shared_up x y (suc n) h k e =
+    let below : take n x ≡ take n y = shared_up x y n (omega arith) (omega arith) (λ i l. e i (omega arith)) in
+    rw (sym (add-one n)) (one_more x y n (omega arith) (omega arith) below (e n (omega arith)))

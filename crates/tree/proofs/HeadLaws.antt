@@ -9,7 +9,7 @@ use native.Mathlib.Omega.{arith}
 use lib.Count.{ones}
 use lib.Dec.{leb, ltb}
 use lib.ListN.{replicate}
-use borrow.Author.Tests.{lt-ltb, le-ltb, le-leb, lt-leb, ltb-true, leb-true}
+use borrow.Author.Tests.{lt-ltb, le-ltb, le-leb, lt-leb, ltb-true, leb-true, ne_eqb}
 use Rattle.lists.specs.Lists.{Bytes, all, every, rising}
 use Rattle.lists.proofs.ChoiceLaws.{and_holds, choose_true, choose_false}
 use Rattle.hash.specs.Bytes.{padded}
@@ -19,43 +19,61 @@ use Rattle.tree.specs.declared.walk_cursor.WalkCursor.{WalkCursor}
 use Rattle.tree.specs.declared.log_tree.Walked.{Walked}
 use Rattle.tree.specs.LogTree.{LogEntry, Known, walk_of, zeros}
 use Rattle.tree.specs.LogText.{shown_in}
-use Rattle.tree.specs.LogHead.{level_limit, block_length, positions, is_walkable, log_head, nodes_asked}
+use Rattle.tree.specs.LogHead.{level_limit, block_length, positions, has_size, is_walkable, log_head, nodes_asked}
 use Rattle.tree.specs.LogWalk.{range, rising_below, cursor_at, cursor_from, Ready, Tail, end_on, walked_by}
 use Rattle.tree.specs.LogWalk.{walked_on, Filled, values_from}
 use Rattle.tree.proofs.CursorLaws.{below_zero, cursor_from_lem}
+use Rattle.tree.proofs.DigitLaws.{by_order}
 use Rattle.tree.proofs.DecisionLaws.{ones_limit}
 use Rattle.tree.proofs.WalkLaws.{known}
 use Rattle.tree.proofs.TailLaws.{tail_all}
 
 -- ---- whether there is a walk
 
+-- The three tests of a size as bounds.
+has-size : (n m : ℕ) → has_size n m ≡ (ltb 0 n && (leb n (2 ^ level_limit) && leb m n))
+has-size n m = by_order 0 n some none
+  where
+    limit : ℕ
+    limit = 2 ^ level_limit
+
+    kept : 0 < n → n ≤ limit → has_size n m ≡ (ltb 0 n && (leb n limit && leb m n))
+    kept p h =
+        by_order n m
+        (λ u. rw (ne_eqb n 0 (λ e. absurd (omega arith)), lt-ltb 0 n p, le-ltb limit n h, le-leb n limit h, lt-ltb n m u, lt-leb m n u) refl)
+        (λ u. rw (ne_eqb n 0 (λ e. absurd (omega arith)), lt-ltb 0 n p, le-ltb limit n h, le-leb n limit h, le-ltb n m u, le-leb m n u) refl)
+
+    some : 0 < n → has_size n m ≡ (ltb 0 n && (leb n limit && leb m n))
+    some p = by_order limit n (λ h. rw (ne_eqb n 0 (λ e. absurd (omega arith)), lt-ltb 0 n p, lt-ltb limit n h, lt-leb n limit h) refl) (kept p)
+
+    none : n ≤ 0 → has_size n m ≡ (ltb 0 n && (leb n limit && leb m n))
+    none h = let e : n ≡ 0 = omega arith in rw e refl
+
 module _ (n : ℕ) (k : Known) where
   walkable-is : is_walkable n k ≡ (ltb 0 n && (leb n (2 ^ level_limit) && (leb k.size n && (rising (positions k.entries) && (all (λ (p : ℕ). ltb p n) (positions k.entries) && true)))))
   unfolding is_walkable every
   walkable-is = refl
 
-  -- not over no entries
-  pub walkable-none : n ≡ 0 → false ≡ is_walkable n k
-  walkable-none e = sym (walkable-is ∙ rw (le-ltb 0 n (omega arith)) refl)
+  walkable-sized : (has_size n k.size && rising_below n (positions k.entries)) ≡ is_walkable n k
+  walkable-sized =
+      sym (walkable-is ∙ joined (ltb 0 n) (leb n (2 ^ level_limit)) (leb k.size n) (rising (positions k.entries)) (all (λ (q : ℕ). ltb q n) (positions k.entries))
+      ∙ ap (λ (b : Bool). b && rising_below n (positions k.entries)) (sym (has-size n k.size)))
+    where
+      joined : (a b c d e : Bool) → (a && (b && (c && (d && (e && true))))) ≡ ((a && (b && c)) && (d && e))
+      joined true true true true true = refl
+      joined true true true true false = refl
+      joined true true true false e = refl
+      joined true true false d e = refl
+      joined true false c d e = refl
+      joined false b c d e = refl
 
-  -- nor over too many
-  pub walkable-many : 0 < n → 2 ^ level_limit < n → false ≡ is_walkable n k
-  walkable-many p h = sym (walkable-is ∙ rw (lt-ltb 0 n p, lt-leb n (2 ^ level_limit) h) refl)
-
-  -- nor over fewer than were kept
-  pub walkable-fewer : 0 < n → n ≤ 2 ^ level_limit → n < k.size → false ≡ is_walkable n k
-  walkable-fewer p h u = sym (walkable-is ∙ rw (lt-ltb 0 n p, le-leb n (2 ^ level_limit) h, lt-leb k.size n u) refl)
+  -- not over entries that are no log's
+  pub walkable-none : has_size n k.size ≡ false → false ≡ is_walkable n k
+  walkable-none h = ap (λ (b : Bool). b && rising_below n (positions k.entries)) (sym h) ∙ walkable-sized
 
   -- otherwise the shown positions decide
-  pub walkable-rest : 0 < n → n ≤ 2 ^ level_limit → k.size ≤ n → rising_below n (positions k.entries) ≡ is_walkable n k
-  walkable-rest p h u =
-      sym (walkable-is ∙ rw (lt-ltb 0 n p, le-leb n (2 ^ level_limit) h, le-leb k.size n u)
-      (last (rising (positions k.entries)) (all (λ (q : ℕ). ltb q n) (positions k.entries))))
-    where
-      last : (a b : Bool) → (a && (b && true)) ≡ (a && b)
-      last true true = refl
-      last true false = refl
-      last false b = refl
+  pub walkable-rest : has_size n k.size ≡ true → rising_below n (positions k.entries) ≡ is_walkable n k
+  walkable-rest h = ap (λ (b : Bool). b && rising_below n (positions k.entries)) (sym h) ∙ walkable-sized
 
   -- what is then known
   pub walkable-facts : is_walkable n k ≡ true → (0 < n) × (n ≤ 2 ^ level_limit) × (k.size ≤ n) × (rising (positions k.entries) ≡ true)

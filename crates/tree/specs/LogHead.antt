@@ -1,6 +1,6 @@
 -- What the walk over a log of n entries yields (paper 01, Trees): the root, the values of the full
 -- subtrees, whether the kept values were met, the number of nodes.
-use Rattle.std.specs.Prelude.{Bool, false, ℕ, ◌*◌, ◌^◌, leb, ltb, replicate}
+use Rattle.std.specs.Prelude.{Bool, false, not, ◌||◌, ℕ, ◌*◌, ◌^◌, eqb, leb, ltb, replicate}
 use mathlib.Core.List.{List, [], ◌∷◌, map, flatten}
 use Rattle.std.specs.Int.Count.{ones}
 use Rattle.lists.specs.Choice.{choose}
@@ -28,6 +28,10 @@ known_in text m block = record { size = m; values = runs (ones m) digest_length 
 
 abbrev pub positions : List LogEntry → List ℕ
 positions es = map (λ (e : LogEntry). e.position) es
+
+-- a log has entries and not too many, no fewer than m
+abbrev pub has_size : ℕ → ℕ → Bool
+has_size n m = not (eqb n 0 || ltb (2 ^ level_limit) n || ltb n m)
 
 -- there is a walk: the log has entries and not too many, no fewer than m, and the shown ones rise
 -- and are in it

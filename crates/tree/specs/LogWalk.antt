@@ -1,6 +1,6 @@
 -- The words in which the private functions of the walk over the log tree say what they ask and
--- yield (src/log_tree.rt, src/log_spine.rt, src/walk_cursor.rt): where the walk stands, which step it takes, what it has worked out. No
--- public contract cites them.
+-- yield (src/log_tree.rt, src/log_spine.rt, src/walk_cursor.rt): where the walk stands, which step
+-- it takes, what it has worked out. No public contract cites them.
 use Rattle.std.specs.Prelude.{◌≡◌, ◌⊎◌, Bool, true, false, ◌&&◌, ℕ, suc, ◌+◌, ◌-◌, ◌*◌, ◌^◌, ◌≤◌, ◌<◌, ltb, length, get_or, drop, Option}
 use Rattle.std.specs.Prelude.{slice_get, unwrap_or}
 use mathlib.Core.List.{List, [], ◌∷◌, ◌++◌, flatten}

@@ -4,7 +4,8 @@ ghost use Rattle.hash.specs.Bytes.{padded};
 ghost use Rattle.tree.specs.Ladder.{halve, ladder, ladder_within, ladder_capacity};
 
 // The versions in their order with zeros after them, and how many they are.
-// Beside Frontier: a generic struct holds no array of a type parameter, and there is no heap.
+// An array with a count: there is no heap.
+// Beside Frontier: a struct over `[T; N]` would owe T's size below 2^63 at a use; clauses name `versions`, `positions`.
 #[derive(Clone, Copy)]
 pub struct Ladder {
     pub versions: [u32; Ladder::CAPACITY],

@@ -2,7 +2,7 @@
 ghost use Rattle.std.specs.Prelude.{◌≡◌, [], length};
 ghost use Rattle.tree.specs.LogText.{shown_in, nodes_in};
 ghost use Rattle.tree.specs.LogHead.{block_length, positions, known_in, is_walkable, head_with, log_head};
-ghost use Rattle.tree.specs.LogHead.{nodes_asked};
+ghost use Rattle.tree.specs.LogHead.{has_size, nodes_asked};
 ghost use Rattle.tree.specs.LogWalk.{rising_below};
 
 use crate::known_log::KnownLog;
@@ -54,21 +54,19 @@ fn rising_below(text: &[u8], tree_size: u64) -> bool
     true
 }
 
-// Whether there is a walk over so many entries: the log is not empty, nor too large, nor smaller
-// than the kept one, and the shown entries rise and are in it.
+// Whether the size of a log is neither 0 nor too large, nor below the kept one.
+pub fn has_size(tree_size: u64, kept_size: u64) -> bool
+    ensures { result ≡ has_size tree_size kept_size }
+{
+    0 < tree_size && tree_size <= LogHead::LARGEST_SIZE && kept_size <= tree_size
+}
+
+// Whether there is a walk over so many entries: the log has that size, and the shown entries rise
+// and are in it.
 fn walkable(text: &[u8], tree_size: u64, kept_size: u64) -> bool
     ensures { result ≡ is_walkable tree_size (known_in text.now kept_size []) }
 {
-    if tree_size == 0 {
-        return false;
-    }
-    if LogHead::LARGEST_SIZE < tree_size {
-        return false;
-    }
-    if tree_size < kept_size {
-        return false;
-    }
-    rising_below(text, tree_size)
+    has_size(tree_size, kept_size) && rising_below(text, tree_size)
 }
 
 // The head of a log of tree_size entries, of which a text shows some: kept are the values of the
@@ -106,6 +104,7 @@ pub fn log_head(
 }
 
 // The number of nodes that the walk takes; 0 where there is no walk.
+// 0 for none, as the definition nodes_asked has it, which the clause names.
 pub fn nodes_asked(text: &[u8], tree_size: u64, kept_size: u64) -> u64
     ensures { result ≡ nodes_asked tree_size (known_in text.now kept_size []) }
 {

@@ -41,6 +41,7 @@ fn edge_at(kept_size: u64, tree_size: u64, start: u64, width: u64, shown: bool) 
 }
 
 // Puts a value into a block of values.
+// A block is bytes and no array of values: the clauses of log_head name its bytes.
 fn put_value(block: &mut [u8; LogHead::BLOCK], i: usize, value: [u8; 32])
     requires { i < level_limit }
     ensures { (length value ≡ digest_length)

@@ -16,6 +16,7 @@ use lines::line::{line_end, span};
 use lines::number::read_number;
 
 // The value whose digits stand at an offset, or zeros.
+// Zeros for none, as value_in has it, which the clause names.
 pub fn value_at(s: &[u8], at: usize) -> [u8; 32]
     ensures { result ≡ value_in (take value_digits (drop at s.now)) }
 {
@@ -82,6 +83,7 @@ pub(crate) fn entry_from(text: &[u8], start: usize) -> usize
 
 // The value whose digits stand at an offset of line i, where a text is lines of one length; zeros
 // where there are not so many lines.
+// Zeros for none, as node_at and sibling_at have it.
 fn value_in_line(text: &[u8], line_length: usize, offset: usize, i: usize) -> [u8; 32]
     requires { offset < line_length }
     ensures some { i < length text.now / line_length
@@ -96,6 +98,7 @@ fn value_in_line(text: &[u8], line_length: usize, offset: usize, i: usize) -> [u
 }
 
 // The value of a node line, or zeros where there are not so many.
+// Zeros for none, as the definition value of LogTree has it.
 pub(crate) fn node_at(nodes: &[u8], i: usize) -> [u8; 32]
     ensures { result ≡ get_or (nodes_in nodes.now) i zeros }
 {
@@ -103,6 +106,7 @@ pub(crate) fn node_at(nodes: &[u8], i: usize) -> [u8; 32]
 }
 
 // A sibling, or zeros where there are not so many.
+// Zeros for none: lookup_root asks only for siblings that are there; an Option gives it a case that never applies.
 pub(crate) fn sibling_at(siblings: &[u8], i: usize) -> [u8; 32]
     ensures { result ≡ get_or (values_in siblings.now) i zeros }
 {
@@ -110,6 +114,7 @@ pub(crate) fn sibling_at(siblings: &[u8], i: usize) -> [u8; 32]
 }
 
 // A value of a block of values.
+// A block is bytes and no array of values: the clauses of log_head name its bytes.
 pub(crate) fn stored_at(block: &[u8; LogHead::BLOCK], i: usize) -> [u8; 32]
     requires { i < level_limit }
     ensures { result ≡ take 32 (drop (32 * i) block.now) }
@@ -121,6 +126,7 @@ pub(crate) fn stored_at(block: &[u8; LogHead::BLOCK], i: usize) -> [u8; 32]
 }
 
 // The number of 64 bits between an offset and the next tab, or 0.
+// 0 for none, as number_in has it, which the clause names.
 fn number_at(text: &[u8], at: usize) -> u64
     ensures { result ≡ number_in (before tab (drop at text.now)) }
 {

@@ -61,6 +61,7 @@ fn source_at(kept_size: u64, start: u64, width: u64, shown: bool) -> Source
 
 // What the walk over a subtree yields: its value, where the walk then stands, and whether the kept
 // values were met.
+// No Option by met: the value goes on up also where a kept one differs, and log_head tells the root.
 #[derive(Clone, Copy)]
 pub struct Walked {
     pub value: [u8; 32],
@@ -130,7 +131,8 @@ impl KnownLog<'_> {
     pub(crate) fn shown_entry(&self, start: u64, cursor: &WalkCursor) -> Walked
         requires { Ready self.now.text.now self.now.kept_size start cursor.now × (start < 2 ^ level_limit)
             × (position_of cursor.now.position < start + 1) }
-        ensures { result ≡ walked_by self.now.text.now (known_by self.now) [] (start + 1) cursor.now.node (shown start) }
+        ensures { result ≡ walked_by self.now.text.now (known_by self.now) []
+            (start + 1) cursor.now.node (shown start) }
     {
         let value = leaf_at(self.text, cursor.at + Layout::ENTRY);
         let met = self.is_met(start, 1, value);

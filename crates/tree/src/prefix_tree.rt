@@ -1,5 +1,5 @@
 // The prefix tree: where a lookup leads (001, 11.2).
-ghost use Rattle.std.specs.Prelude.{◌≡◌, min, ◌<◌, ◌≤◌, length, get_or, take};
+ghost use Rattle.std.specs.Prelude.{◌≡◌, min, ◌<◌, length, get_or, take, MatchOption};
 ghost use Rattle.hash.specs.Sha256.{sha256};
 ghost use Rattle.tree.specs.LogText.{values_in};
 ghost use Rattle.tree.specs.PrefixTree.{bits, parent_over, terminal_value, lookup_root, terminal_fits};
@@ -85,17 +85,12 @@ pub fn lookup_root(output: [u8; 32], terminal: Terminal, siblings: &[u8]) -> [u8
     value
 }
 
-// The number of first bits that two outputs share.
-fn shared_bits(a: [u8; 32], b: [u8; 32]) -> usize
-    ensures { (result ≤ output_bits) × (take result (bits a) ≡ take result (bits b))
-        × (result < output_bits → get_or (bits a) result 0 ≡ get_or (bits b) result 0 → ⊥) × (result ≡ output_bits → a ≡ b) }
+// The number of first bits that two different outputs share.
+fn shared_bits(a: [u8; 32], b: [u8; 32]) -> Option<usize>
+    ensures { MatchOption result (a ≡ b) (λ n. (take n (bits a) ≡ take n (bits b))
+        × (get_or (bits a) n 0 ≡ get_or (bits b) n 0 → ⊥)) }
 {
-    for n in 0..OUTPUT_BITS {
-        if bit_at(a, n) != bit_at(b, n) {
-            return n;
-        }
-    }
-    OUTPUT_BITS
+    (0..OUTPUT_BITS).position(|n| bit_at(a, n) != bit_at(b, n))
 }
 
 // Whether what stands at the place fits a lookup of so many siblings (001, 11.2): another leaf has
@@ -105,8 +100,7 @@ pub fn terminal_fits(output: [u8; 32], terminal: Terminal, depth: usize) -> bool
 {
     match terminal {
         Terminal::OtherLeaf { output: other, .. } => {
-            let shared = shared_bits(output, other);
-            shared < OUTPUT_BITS && depth <= shared
+            shared_bits(output, other).is_some_and(|shared| depth <= shared)
         }
         Terminal::SearchedLeaf { .. } | Terminal::Empty => true,
     }

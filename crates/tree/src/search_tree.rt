@@ -43,9 +43,9 @@ impl Frontier {
         let length = tree_size.count_ones() as usize;
         let mut positions = [0u64; Frontier::CAPACITY];
         let mut from: u64 = 0;
-        for i in 0..length {
+        for slot in positions[..length].iter_mut() {
             let position = next_on_frontier(tree_size, from);
-            positions[i] = position;
+            *slot = position;
             from = position + 1;
         }
         Frontier { positions, length }
@@ -61,6 +61,7 @@ pub fn is_right_ancestor(tree_size: u64, p: u64, x: u64) -> bool
 
 // The first entry from x on that is on the right path of p in a log of tree_size entries; tree_size
 // where none is left.
+// tree_size for none, as next_from has it here and below: the least of several is taken as it stands.
 pub fn next_right_ancestor(tree_size: u64, p: u64, x: u64) -> u64
     ensures { result ≡ Tree.next_from tree_size (Tree.right_ancestors tree_size p) x }
 {

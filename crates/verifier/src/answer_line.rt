@@ -1,6 +1,7 @@
 // The line that the program prints (paper 01, Sixteen numbers): `no` and the number of a refusal;
 // or `yes`, the version found or `-`, the size of the log and the number of pairs in the new map.
 // Each writer answers the offset after what it wrote.
+// Pieces one after the other: with `write!` a cursor would be asked for the offset, no plainer.
 ghost use Rattle.std.specs.Prelude.{[], ◌∷◌, ◌+◌, ◌≤◌, length};
 ghost use Rattle.lines.specs.Number.{ascii, decimal};
 ghost use Rattle.lines.specs.Line.{line as line_of};

@@ -29,6 +29,7 @@ pub struct Outcome {
 }
 
 // How many bytes were written of the value, if there is one, and of the new state's text.
+// Lengths beside lent arrays: there is no heap, and slices would keep all three lent, no plainer.
 #[derive(Clone, Copy)]
 pub struct Written {
     pub value: Option<usize>,
@@ -56,6 +57,7 @@ impl FileLimit {
 // The outcome of the program on its six files. What is handed over of a file may end one byte past
 // its limit, which shows that it is too long; `unread` says that some file could not be read. The
 // line, the value and the new state's text are written to the first bytes lent for them.
+// One flag and six slices: a struct of Options is no plainer, clauses would take its references apart.
 pub fn check_files(
     unread: bool,
     request: &[u8],

@@ -14,6 +14,7 @@ use lines::writing::put_decoded;
 #[derive(Clone, Copy)]
 pub(crate) struct Request {
     pub(crate) asked: Option<Kind>,
+    // An array with its length beside: there is no heap.
     pub(crate) identifier: [u8; Request::IDENTIFIER],
     pub(crate) length: usize,
     pub(crate) clock: u64,

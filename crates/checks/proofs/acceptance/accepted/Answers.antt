@@ -20,12 +20,14 @@ pub returns-in_err-found : goal.returns-in_err-found
 returns-in_err-found c =
     let e : c.from_residual.result ≡ Err c.in_err-found.field-0.0 = search rules in
     let p = c.in_err-found.ensures in
-    let it = output-full _ _ _ _ _ (valid_struct c.args.state.now c.requires.sized c.requires.valid) _ _ c.of.ensures _ p.bytes _ p.found in
+    let it =
+    output-full _ _ _ _ _ (valid_struct c.args.state.now c.requires.sized c.requires.valid) _ _ p.bytes _ p.found in
     rw e (record { answer = it.0; bytes = it.1 })
 
 pub returns : goal.returns
 returns c =
     let p = c.in_ok-found.ensures in
     let it =
-    both-fit _ _ _ _ _ (valid_struct c.args.state.now c.requires.sized c.requires.valid) _ _ c.of.ensures _ p.bytes _ c.in-Some.ensures _ p.found in
+    both-fit _ _ _ _ _ (valid_struct c.args.state.now c.requires.sized c.requires.valid) _ _ p.bytes
+    _ c.in-Some.ensures _ p.found in
     record { answer = it.0; bytes = it.1 }

@@ -10,17 +10,17 @@ pub returns-in-Some : goal.returns-in-Some
 unfolding found_by
 returns-in-Some c =
     let p = c.in-Some.ensures in
-    let it = search-put _ _ _ _ c.in-Search.is (some c.in-Some.length) _ p.offset p.bytes _ refl in
+    let it = search-put _ _ _ _ c.in-Search.is _ c.of.ensures (some c.in-Some.length) _ p.offset p.bytes _ refl in
     record { found = it.0; bytes = it.1 }
 
 pub returns-in-None : goal.returns-in-None
 unfolding found_by
 returns-in-None c =
     let p = c.in-None.ensures in
-    let it = search-put _ _ _ _ c.in-Search.is none _ p.offset p.bytes _ refl in
+    let it = search-put _ _ _ _ c.in-Search.is _ c.of.ensures none _ p.offset p.bytes _ refl in
     record { found = it.0; bytes = it.1 }
 
 pub returns-in-Monitor : goal.returns-in-Monitor
 returns-in-Monitor c =
-    let it = nothing_put _ _ _ _ c.in-Monitor.is in
+    let it = nothing_put _ _ _ c.in-Monitor.is in
     record { found = it.0; bytes = it.1 }

@@ -15,5 +15,5 @@ pub returns : goal.returns
 returns c label =
     let a = c.args in
     monitoring-judged a.text.now a.call label _ _ c.of-2.ensures c.of.ensures
-    _ c.entries_judged-results.ensures c.requires.kind refl _
+    _ c.entries_judged-results.ensures c.requires.finding refl _
     (c.first_refusal.ensures ∙ ap (judged_by _) c.then_some.ensures)

@@ -27,7 +27,7 @@ pub returns-in_err-timestamps : goal.returns-in_err-timestamps
 returns-in_err-timestamps c =
     rw c.from_residual.ensures
     (λ call i m.
-    monitoring-not i c.requires.kind _ _ m c.requires.possible.pairs.alike refl c.of.ensures
+    monitoring-not i c.requires.finding _ _ m c.requires.possible.pairs.alike refl c.of.ensures
     c.args.commitments.now _ c.in_err-timestamps.ensures.asked refl)
 
 pub monitoring_steps-requires-clause-short : goal.monitoring_steps-requires-clause-short
@@ -41,7 +41,7 @@ returns-in_err-outputs c =
     let (is_marked, is_counted) = c.in_ok-timestamps.ensures.marks in
     rw c.from_residual-in_err-outputs.ensures
     (λ call i m.
-    monitoring-unasked i c.requires.kind _ _ m c.requires.possible.pairs.alike c.of-2.ensures c.of.ensures
+    monitoring-unasked i c.requires.finding _ _ m c.requires.possible.pairs.alike c.of-2.ensures c.of.ensures
     c.args.commitments.now _
     c.in_ok-timestamps.ensures.asked _ refl
     (ap (λ (ms : List ℕ). counted ms vs) (first_marks vs c.entries_asked.new.marks _ is_marked) ∙ is_counted refl)
@@ -52,7 +52,7 @@ returns c =
     let vs = c.args.versions.now in
     let (is_marked, is_counted) = c.in_ok-timestamps.ensures.marks in
     λ call i m.
-    monitoring-shape i c.requires.kind _ _ m c.requires.possible.pairs.alike c.of-2.ensures c.of.ensures _ _
+    monitoring-shape i c.requires.finding _ _ m c.requires.possible.pairs.alike c.of-2.ensures c.of.ensures _ _
     c.in_ok-timestamps.ensures.asked _ refl
     (ap (λ (ms : List ℕ). counted ms vs) (first_marks vs c.entries_asked.new.marks _ is_marked) ∙ is_counted refl)
     (record { outputs = c.in_ok-outputs.outputs; timestamps = c.in_ok-timestamps.timestamps })

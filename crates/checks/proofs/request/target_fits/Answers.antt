@@ -7,4 +7,4 @@ pub returns-in-Search : goal.returns-in-Search
 returns-in-Search c = search-fits _ _ _ c.in-Search.is _ c.version_fits.ensures
 
 pub returns-in-Monitor : goal.returns-in-Monitor
-returns-in-Monitor c = monitor-fits _ _ _ c.in-Monitor.is
+returns-in-Monitor c = monitor-fits _ _ c.in-Monitor.is

@@ -9,21 +9,21 @@ returns-then-not-is_requested c =
     let o = c.is_requested.ensures in
     first-foreign _ _ c.args.call _ _ _ (λ d p q i l. sym c.if-not-is_requested.true ∙ o d p q i l)
 
-pub returns-then-not-size_fits : goal.returns-then-not-size_fits
-returns-then-not-size_fits c =
+pub returns-then-not-has_size : goal.returns-then-not-has_size
+returns-then-not-has_size c =
     let o = c.is_requested.ensures in
-    first-size _ _ (c.args.call) _ _ _ (λ d p q i l. sym c.if-not-is_requested.false ∙ o d p q i l) (sym c.if-not-size_fits.true ∙ c.size_fits.ensures)
+    first-size _ _ (c.args.call) _ _ _ (λ d p q i l. sym c.if-not-is_requested.false ∙ o d p q i l) (sym c.if-not-has_size.true ∙ c.has_size.ensures)
 
 pub returns-then-not-target_fits : goal.returns-then-not-target_fits
 returns-then-not-target_fits c =
     let o = c.is_requested.ensures in
     let t = c.target_fits.ensures in
-    first-version _ _ (c.args.call) _ _ _ (λ d p q i l. sym c.if-not-is_requested.false ∙ o d p q i l) (sym c.if-not-size_fits.false ∙ c.size_fits.ensures)
+    first-version _ _ (c.args.call) _ _ _ (λ d p q i l. sym c.if-not-is_requested.false ∙ o d p q i l) (sym c.if-not-has_size.false ∙ c.has_size.ensures)
     (λ d g m. sym c.if-not-target_fits.true ∙ t d g m)
 
 pub returns : goal.returns
 returns c =
     let o = c.is_requested.ensures in
     let t = c.target_fits.ensures in
-    first_none _ _ (c.args.call) _ _ _ (λ d p q i l. sym c.if-not-is_requested.false ∙ o d p q i l) (sym c.if-not-size_fits.false ∙ c.size_fits.ensures)
+    first_none _ _ (c.args.call) _ _ _ (λ d p q i l. sym c.if-not-is_requested.false ∙ o d p q i l) (sym c.if-not-has_size.false ∙ c.has_size.ensures)
     (λ d g m. sym c.if-not-target_fits.false ∙ t d g m)

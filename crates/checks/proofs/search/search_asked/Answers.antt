@@ -24,11 +24,11 @@ entries_asked-requires-clause-pairs c = (no_pairs, refl)
 
 pub returns-in_err-timestamps : goal.returns-in_err-timestamps
 returns-in_err-timestamps c =
-    let wanted : take c.of-whole.result.length c.of-whole.result.versions ≡ ladder c.args.call.response.target.version =
-    let v0 = target_version _ _ _ c.requires.kind c.requires.possible.triable.target in
-    (filled_front _ _ _ _ c.of-whole.ensures).0 ∙ within_some c.args.call.response.target.version (omega (arith, v0)) in
+    let wanted : take c.of-whole.result.length c.of-whole.result.versions ≡ ladder c.args.target.version =
+    let v0 = target_version _ _ _ c.requires.finding c.requires.possible.triable.target in
+    (filled_front _ _ _ _ c.of-whole.ensures).0 ∙ within_some c.args.target.version (omega (arith, v0)) in
     rw c.from_residual.ensures
-    (λ call i m. search-not i c.requires.kind refl c.of.ensures c.args.commitments.now _ wanted
+    (λ call i m. search-not i _ c.requires.finding refl c.of.ensures c.args.commitments.now _ wanted
     c.in_err-timestamps.ensures.asked refl)
 
 pub slice_bounds-ladder-end-2 : goal.slice_bounds-ladder-end-2
@@ -44,25 +44,25 @@ search_steps-requires-clause-short c =
 
 pub search_steps-requires-clause-ladder : goal.search_steps-requires-clause-ladder
 search_steps-requires-clause-ladder c =
-    let v0 = target_version _ _ _ c.requires.kind c.requires.possible.triable.target in
-    (filled_front _ _ _ _ c.of-whole.ensures).0 ∙ within_some c.args.call.response.target.version (omega (arith, v0))
+    let v0 = target_version _ _ _ c.requires.finding c.requires.possible.triable.target in
+    (filled_front _ _ _ _ c.of-whole.ensures).0 ∙ within_some c.args.target.version (omega (arith, v0))
 
 pub returns-in_err-outputs : goal.returns-in_err-outputs
 returns-in_err-outputs c =
-    let wanted : take c.of-whole.result.length c.of-whole.result.versions ≡ ladder c.args.call.response.target.version =
-    let v0 = target_version _ _ _ c.requires.kind c.requires.possible.triable.target in
-    (filled_front _ _ _ _ c.of-whole.ensures).0 ∙ within_some c.args.call.response.target.version (omega (arith, v0)) in
+    let wanted : take c.of-whole.result.length c.of-whole.result.versions ≡ ladder c.args.target.version =
+    let v0 = target_version _ _ _ c.requires.finding c.requires.possible.triable.target in
+    (filled_front _ _ _ _ c.of-whole.ensures).0 ∙ within_some c.args.target.version (omega (arith, v0)) in
     rw c.from_residual-in_err-outputs.ensures
     (λ call i m.
-    search-unasked i c.requires.kind c.of-2.ensures c.of.ensures c.args.commitments.now _ wanted
+    search-unasked i _ c.requires.finding c.of-2.ensures c.of.ensures c.args.commitments.now _ wanted
     c.in_ok-timestamps.ensures.asked refl c.in_err-outputs.ensures)
 
 pub returns : goal.returns
 returns c =
-    let wanted : take c.of-whole.result.length c.of-whole.result.versions ≡ ladder c.args.call.response.target.version =
-    let v0 = target_version _ _ _ c.requires.kind c.requires.possible.triable.target in
-    (filled_front _ _ _ _ c.of-whole.ensures).0 ∙ within_some c.args.call.response.target.version (omega (arith, v0)) in
+    let wanted : take c.of-whole.result.length c.of-whole.result.versions ≡ ladder c.args.target.version =
+    let v0 = target_version _ _ _ c.requires.finding c.requires.possible.triable.target in
+    (filled_front _ _ _ _ c.of-whole.ensures).0 ∙ within_some c.args.target.version (omega (arith, v0)) in
     λ call i m.
-    search-shape i c.requires.kind c.of-2.ensures c.of.ensures _ _ wanted c.in_ok-timestamps.ensures.asked refl
+    search-shape i _ c.requires.finding c.of-2.ensures c.of.ensures _ _ wanted c.in_ok-timestamps.ensures.asked refl
     (record { outputs = c.in_ok-outputs.outputs; timestamps = c.in_ok-timestamps.timestamps })
     c.in_ok-outputs.ensures c.in_ok-timestamps.ensures.timestamps

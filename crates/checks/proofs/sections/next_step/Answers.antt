@@ -28,15 +28,17 @@ returns-in_err-value c =
 pub overflow_cast-result : goal.overflow_cast-result
 overflow_cast-result c = let b = number_within version_bound _ _ _ _ (sym c.in_ok-value.ensures) in search rules
 
-pub overflow_add-result : goal.overflow_add-result
-overflow_add-result c =
+pub overflow_add-committed : goal.overflow_add-committed
+overflow_add-committed c =
     let h = step-next _ _ c.requires.lines _ _ (sym c.in_ok-stop.ensures) _ _ (sym c.in_ok-value.ensures) in
-    omega (arith, h.8)
+    omega (arith, h.1)
 
-pub overflow_add-result-2 : goal.overflow_add-result-2
-overflow_add-result-2 c =
+pub overflow_add-at : goal.overflow_add-at
+overflow_add-at c =
     let h = step-next _ _ c.requires.lines _ _ (sym c.in_ok-stop.ensures) _ _ (sym c.in_ok-value.ensures) in
-    omega (arith, h.8)
+    omega (arith, h.1)
 
 pub returns : goal.returns
-returns c = step-next _ _ c.requires.lines _ _ (sym c.in_ok-stop.ensures) _ _ (sym c.in_ok-value.ensures)
+returns c =
+    rw c.then_some.ensures
+    (step-next _ _ c.requires.lines _ _ (sym c.in_ok-stop.ensures) _ _ (sym c.in_ok-value.ensures)).0

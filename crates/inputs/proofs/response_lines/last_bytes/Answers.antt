@@ -6,7 +6,7 @@ use borrow.Author.Tests.{lt-ltb, le-ltb}
 use Rattle.lists.specs.Choice.{provided}
 use Rattle.lines.specs.Field.{bytes}
 use Rattle.lines.proofs.FormLaws.{bytes-none, field_off}
-use Rattle.inputs.proofs.ResponseLineLaws.{part-stands, last-field}
+use Rattle.inputs.proofs.ResponseLineLaws.{part-stands, part-length, last-field}
 use Rattle.inputs.proofs.response_lines.last_bytes.Goals as goal
 
 pub returns-in_err-length-clause-read : goal.returns-in_err-length-clause-read
@@ -26,4 +26,6 @@ returns-clause-read c fits =
     sym (last-field _ _ _ _ e fits ∙ rw (lt-ltb _ _ c.if-next-l.false) refl)
 
 pub returns-clause-stands : goal.returns-clause-stands
-returns-clause-stands c = (part-stands _ _ _ _ (sym c.in_ok-length.ensures)).1
+returns-clause-stands c =
+    let e = sym c.in_ok-length.ensures in
+    ((part-stands _ _ _ _ e).1, part-length _ _ _ _ e)

@@ -4,10 +4,6 @@ use Rattle.rules.specs.Calls.{kt_monitor}
 use Rattle.checks.specs.Calls.{asked_kind}
 use Rattle.kt.proofs.exports.kt_monitor.Goals as goal
 
-pub returns-clause-answer : goal.returns-clause-answer
+pub returns : goal.returns
 unfolding kt_monitor asked_kind
-returns-clause-answer c = c.answered.ensures.answer
-
-pub returns-clause-state : goal.returns-clause-state
-unfolding kt_monitor asked_kind
-returns-clause-state c = c.answered.ensures.state
+returns c = record { answer = c.answered.ensures.answer; state = c.answered.ensures.state }

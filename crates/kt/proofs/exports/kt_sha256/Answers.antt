@@ -15,4 +15,6 @@ copy_from_slice-requires c =
     ∙ sym (ap length c.digest.ensures ∙ length_digest c.args.message.now)
 
 pub returns : goal.returns
-returns c = digest_copied c.args.message.now c.args.digest.now c.digest.result c.copy_from_slice.new.self (omega arith) c.digest.ensures c.copy_from_slice.ensures.after
+returns c =
+    digest_copied c.args.message.now c.args.digest.now c.digest.result c.copy_from_slice.new.self (omega arith)
+    c.digest.ensures c.copy_from_slice.ensures.after

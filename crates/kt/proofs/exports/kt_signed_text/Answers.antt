@@ -4,50 +4,35 @@ use Rattle.checks.specs.Calls.{asked_kind, arguments_of, length_in}
 use Rattle.kt.proofs.SignedTextExportLaws.{signed-text-over, signed-text-answered}
 use Rattle.kt.proofs.exports.kt_signed_text.Goals as goal
 
-pub returns-then-state-gt-TEXT-clause-answer : goal.returns-then-state-gt-TEXT-clause-answer
-returns-then-state-gt-TEXT-clause-answer c =
+pub returns-then-state-gt-TEXT : goal.returns-then-state-gt-TEXT
+returns-then-state-gt-TEXT c =
     let a = c.args in
     let given = arguments_of a.response.now a.configuration.now a.identifier.now a.clock a.vrf_outputs.now in
-    c.number.ensures ∙ (signed-text-over a.kind a.state.now given a.buffer.now a.offset (omega arith)).0
+    let it = signed-text-over a.kind a.state.now given a.buffer.now a.offset (omega arith) in
+    record { answer = c.number.ensures ∙ it.0; bytes = it.1 }
 
-pub returns-then-state-gt-TEXT-clause-bytes : goal.returns-then-state-gt-TEXT-clause-bytes
-returns-then-state-gt-TEXT-clause-bytes c =
-    let a = c.args in
-    let given = arguments_of a.response.now a.configuration.now a.identifier.now a.clock a.vrf_outputs.now in
-    (signed-text-over a.kind a.state.now given a.buffer.now a.offset (omega arith)).1
-
-pub returns-in-Ok-clause-answer : goal.returns-in-Ok-clause-answer
+pub returns-in-Ok : goal.returns-in-Ok
 unfolding length_in
-returns-in-Ok-clause-answer c =
+returns-in-Ok c =
     let a = c.args in
     let t = c.signed_text in
     let given = arguments_of a.response.now a.configuration.now a.identifier.now a.clock a.vrf_outputs.now in
-    (signed-text-answered a.kind a.state.now given a.buffer.now a.offset (omega arith) c.state_in-held.result c.state_in-held.ensures
-    (asked_kind c.kind_numbered.result) c.kind_numbered.ensures _ t.new.buffer (ap length_in (sym c.in-Ok.is) ∙ t.ensures.answer, t.ensures.bytes)).0
+    let it =
+    signed-text-answered a.kind a.state.now given a.buffer.now a.offset (omega arith)
+    c.state_in-held.result c.state_in-held.ensures (asked_kind c.kind_numbered.result)
+    c.kind_numbered.ensures _ t.new.buffer
+    (ap length_in (sym c.in-Ok.is) ∙ t.ensures.answer, t.ensures.bytes) in
+    record { answer = it.0; bytes = it.1 }
 
-pub returns-in-Ok-clause-bytes : goal.returns-in-Ok-clause-bytes
+pub returns-in-Err : goal.returns-in-Err
 unfolding length_in
-returns-in-Ok-clause-bytes c =
+returns-in-Err c =
     let a = c.args in
     let t = c.signed_text in
     let given = arguments_of a.response.now a.configuration.now a.identifier.now a.clock a.vrf_outputs.now in
-    (signed-text-answered a.kind a.state.now given a.buffer.now a.offset (omega arith) c.state_in-held.result c.state_in-held.ensures
-    (asked_kind c.kind_numbered.result) c.kind_numbered.ensures _ t.new.buffer (ap length_in (sym c.in-Ok.is) ∙ t.ensures.answer, t.ensures.bytes)).1
-
-pub returns-in-Err-clause-answer : goal.returns-in-Err-clause-answer
-unfolding length_in
-returns-in-Err-clause-answer c =
-    let a = c.args in
-    let t = c.signed_text in
-    let given = arguments_of a.response.now a.configuration.now a.identifier.now a.clock a.vrf_outputs.now in
-    (signed-text-answered a.kind a.state.now given a.buffer.now a.offset (omega arith) c.state_in-held.result c.state_in-held.ensures
-    (asked_kind c.kind_numbered.result) c.kind_numbered.ensures _ t.new.buffer (c.number-in-Err.ensures ∙ ap length_in (sym c.in-Err.is) ∙ t.ensures.answer, t.ensures.bytes)).0
-
-pub returns-in-Err-clause-bytes : goal.returns-in-Err-clause-bytes
-unfolding length_in
-returns-in-Err-clause-bytes c =
-    let a = c.args in
-    let t = c.signed_text in
-    let given = arguments_of a.response.now a.configuration.now a.identifier.now a.clock a.vrf_outputs.now in
-    (signed-text-answered a.kind a.state.now given a.buffer.now a.offset (omega arith) c.state_in-held.result c.state_in-held.ensures
-    (asked_kind c.kind_numbered.result) c.kind_numbered.ensures _ t.new.buffer (c.number-in-Err.ensures ∙ ap length_in (sym c.in-Err.is) ∙ t.ensures.answer, t.ensures.bytes)).1
+    let it =
+    signed-text-answered a.kind a.state.now given a.buffer.now a.offset (omega arith)
+    c.state_in-held.result c.state_in-held.ensures (asked_kind c.kind_numbered.result)
+    c.kind_numbered.ensures _ t.new.buffer
+    (c.number-in-Err.ensures ∙ ap length_in (sym c.in-Err.is) ∙ t.ensures.answer, t.ensures.bytes) in
+    record { answer = it.0; bytes = it.1 }

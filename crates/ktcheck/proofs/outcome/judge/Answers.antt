@@ -23,7 +23,3 @@ shared_ref_as_front-value g c =
     let h = (value-counted _ _ e.outcome _ _ _ c.in-Ok.is _ c.in-Some.is e.value).0 in
     let l : length c.check_files-outcome.new.value ≡ 1024 = search rules in
     omega (arith, h, l)
-
-pub slice_bounds-value-end : goal.slice_bounds-value-end
-slice_bounds-value-end g c =
-    let e = c.check_files-outcome.ensures in (value-counted _ _ e.outcome _ _ _ c.in-Ok.is _ c.in-Some.is e.value).1

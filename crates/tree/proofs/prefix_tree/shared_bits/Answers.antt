@@ -1,32 +1,20 @@
--- `tree::prefix_tree::shared_bits` meets its contract: up to n the bits agree.
-use mathlib.Core.Path.{◌≡◌, sym, ◌∙◌}
-use native.Mathlib.Omega.{arith}
+-- `tree::prefix_tree::shared_bits` meets its contract: what is found is where the bits part.
+use mathlib.Core.Path.{refl}
+use borrow.Author.Rules.{rules}
+use lib.ListN.{get_or}
+use Rattle.std.specs.Prelude.{◌≡◌}
+use Rattle.std.proofs.lemmas.Iterator.{YieldsList-from_range, IsFirst-from_position}
 use Rattle.tree.specs.PrefixTree.{bits}
-use Rattle.tree.specs.Lookups.{output_bits}
-use Rattle.tree.proofs.BitLaws.{length_bits, one_more, all_shared}
-use Rattle.tree.proofs.TerminalLaws.{bytes_held}
+use Rattle.tree.proofs.TerminalLaws.{bytes_held, parting_found}
 use Rattle.tree.proofs.prefix_tree.shared_bits.Goals as goal
-
-pub loop-n-preserved : goal.loop-n-preserved
-loop-n-preserved c =
-    let l = c.loop-n in
-    let a = length_bits c.args.a in
-    let b = length_bits c.args.b in
-    one_more (bits c.args.a) (bits c.args.b) l.n (omega (arith, c.well_formed.0.1.0.1)) (omega (arith, c.well_formed.1.0.1.0.1)) l.invariant
-    (sym c.bit_at.ensures ∙ c.if-bit_at.false ∙ c.bit_at-in-loop-n.ensures)
 
 pub returns : goal.returns
 returns c =
     let held = c.well_formed in
-    let e : c.loop-n.n ≡ output_bits = omega arith in
-    let i = rw e at c.loop-n.invariant in (
-      omega arith,
-      i,
-      λ h. absurd (omega arith),
-      λ _.
-          all_shared c.args.a c.args.b output_bits (bytes_held c.args.a held.0.0 held.0.1.1)
-          (bytes_held c.args.b held.1.0.0 held.1.0.1.1)
-          (omega (arith, held.0.1.0.1))
-          (omega (arith, held.1.0.1.0.1))
-          i,
-    )
+    let a = c.args.a in
+    let b = c.args.b in
+    parting_found a b (bytes_held a held.0.0 held.0.1.1) (bytes_held b held.1.0.0 held.1.0.1.1)
+    held.0.1.0.1 held.1.0.1.0.1 c.position.result
+    (IsFirst-from_position _ _ c.position.result (λ n. get_or (bits a) n 0 ≡ get_or (bits b) n 0 → ⊥)
+    (λ n. get_or (bits a) n 0 ≡ get_or (bits b) n 0)
+    c.position.ensures.ran (YieldsList-from_range 0 256 256 refl refl) (λ x q k. search rules) (λ x q k. search rules))

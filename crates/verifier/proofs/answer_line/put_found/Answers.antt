@@ -23,9 +23,14 @@ unfolding ascii
 put_counts-requires c =
     let a = c.args in
     let room : 0 + length (word ++ decimal a.version ++ counts_text a.tree_size a.pairs) ≤ length a.out.now =
-    omega (arith, c.put_bytes-arg-1.given.0, found_fits a.version a.tree_size a.pairs (omega arith) (omega arith) (omega arith)) in
+    omega (
+      arith,
+      c.put_bytes-arg-1.given.0,
+      found_fits a.version a.tree_size a.pairs (omega arith) (omega arith) (omega arith),
+    ) in
     let front : Wrote a.out.now 0 (word ++ decimal a.version) c.unwrap_or-end.result c.put_decimal.new.out =
-    both_put word (decimal a.version) _ _ (room_first (word ++ decimal a.version) (counts_text a.tree_size a.pairs) _ _ room)
+    both_put word (decimal a.version) _ _
+    (room_first (word ++ decimal a.version) (counts_text a.tree_size a.pairs) _ _ room)
     (c.put_bytes.ensures.offset, c.put_bytes.ensures.bytes) (c.unwrap_or-at.ensures ∙ unwrapped c.put_bytes.result 0)
     (c.put_decimal.ensures.offset, c.put_decimal.ensures.bytes)
     (c.unwrap_or-end.ensures ∙ unwrapped c.put_decimal.result c.unwrap_or-at.result) in
@@ -36,10 +41,16 @@ unfolding ascii
 returns c =
     let a = c.args in
     let room : 0 + length (word ++ decimal a.version ++ counts_text a.tree_size a.pairs) ≤ length a.out.now =
-    omega (arith, c.put_bytes-arg-1.given.0, found_fits a.version a.tree_size a.pairs (omega arith) (omega arith) (omega arith)) in
+    omega (
+      arith,
+      c.put_bytes-arg-1.given.0,
+      found_fits a.version a.tree_size a.pairs (omega arith) (omega arith) (omega arith),
+    ) in
     let front : Wrote a.out.now 0 (word ++ decimal a.version) c.unwrap_or-end.result c.put_decimal.new.out =
-    both_put word (decimal a.version) _ _ (room_first (word ++ decimal a.version) (counts_text a.tree_size a.pairs) _ _ room)
+    both_put word (decimal a.version) _ _
+    (room_first (word ++ decimal a.version) (counts_text a.tree_size a.pairs) _ _ room)
     (c.put_bytes.ensures.offset, c.put_bytes.ensures.bytes) (c.unwrap_or-at.ensures ∙ unwrapped c.put_bytes.result 0)
     (c.put_decimal.ensures.offset, c.put_decimal.ensures.bytes)
     (c.unwrap_or-end.ensures ∙ unwrapped c.put_decimal.result c.unwrap_or-at.result) in
-    rw (found_pieces a.version a.tree_size a.pairs) (wrote_then (counts_text a.tree_size a.pairs) front c.put_counts.ensures)
+    rw (found_pieces a.version a.tree_size a.pairs)
+    (wrote_then (counts_text a.tree_size a.pairs) front c.put_counts.ensures)

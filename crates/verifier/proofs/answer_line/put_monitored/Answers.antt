@@ -25,7 +25,8 @@ put_counts-requires c =
     let room : 0 + length (word ++ counts_text a.tree_size a.pairs) ≤ length a.out.now =
     omega (arith, c.put_bytes-arg-1.given.0, monitored_fits a.tree_size a.pairs (omega arith) (omega arith)) in
     let front : Wrote a.out.now 0 word c.unwrap_or-end.result c.put_bytes.new.out =
-    wrote_put word _ (room_first word (counts_text a.tree_size a.pairs) _ _ room) (c.put_bytes.ensures.offset, c.put_bytes.ensures.bytes)
+    wrote_put word _ (room_first word (counts_text a.tree_size a.pairs) _ _ room)
+    (c.put_bytes.ensures.offset, c.put_bytes.ensures.bytes)
     (c.unwrap_or-end.ensures ∙ unwrapped c.put_bytes.result 0) in
     room-then (counts_text a.tree_size a.pairs) front room
 
@@ -36,6 +37,7 @@ returns c =
     let room : 0 + length (word ++ counts_text a.tree_size a.pairs) ≤ length a.out.now =
     omega (arith, c.put_bytes-arg-1.given.0, monitored_fits a.tree_size a.pairs (omega arith) (omega arith)) in
     let front : Wrote a.out.now 0 word c.unwrap_or-end.result c.put_bytes.new.out =
-    wrote_put word _ (room_first word (counts_text a.tree_size a.pairs) _ _ room) (c.put_bytes.ensures.offset, c.put_bytes.ensures.bytes)
+    wrote_put word _ (room_first word (counts_text a.tree_size a.pairs) _ _ room)
+    (c.put_bytes.ensures.offset, c.put_bytes.ensures.bytes)
     (c.unwrap_or-end.ensures ∙ unwrapped c.put_bytes.result 0) in
     rw (monitored_pieces a.tree_size a.pairs) (wrote_then (counts_text a.tree_size a.pairs) front c.put_counts.ensures)

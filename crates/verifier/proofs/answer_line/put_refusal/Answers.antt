@@ -22,8 +22,11 @@ returns c =
     let n = c.args.number in
     let room : 0 + length (word ++ decimal n ++ (newline ∷ [])) ≤ length c.args.out.now =
     omega (arith, c.put_bytes-arg-1.given.0, refusal_fits n (omega arith)) in
-    let w = both_put word (decimal n) _ _ (room_first (word ++ decimal n) (newline ∷ []) _ _ room) (c.put_bytes.ensures.offset, c.put_bytes.ensures.bytes)
-    (c.unwrap_or-at.ensures ∙ unwrapped c.put_bytes.result 0) (c.put_decimal.ensures.offset, c.put_decimal.ensures.bytes)
+    let w = both_put word (decimal n) _ _ (room_first (word ++ decimal n) (newline ∷ []) _ _ room)
+    (c.put_bytes.ensures.offset, c.put_bytes.ensures.bytes)
+    (c.unwrap_or-at.ensures ∙ unwrapped c.put_bytes.result 0)
+    (c.put_decimal.ensures.offset, c.put_decimal.ensures.bytes)
     (c.unwrap_or-end.ensures ∙ unwrapped c.put_decimal.result c.unwrap_or-at.result) in
-    rw (refusal_pieces n) (then-put (newline ∷ []) w _ room (c.put_bytes-2.ensures.offset, c.put_bytes-2.ensures.bytes)
+    rw (refusal_pieces n) (then-put (newline ∷ []) w _ room
+    (c.put_bytes-2.ensures.offset, c.put_bytes-2.ensures.bytes)
     (c.unwrap_or.ensures ∙ unwrapped c.put_bytes-2.result c.unwrap_or-end.result))

@@ -12,15 +12,27 @@ returns-then-request-gt-REQUEST c = rw (lt-leb _ _ c.if-request-gt-REQUEST.true)
 
 pub returns-then-response-gt-RESPONSE : goal.returns-then-response-gt-RESPONSE
 unfolding every
-returns-then-response-gt-RESPONSE c = rw (le-leb _ _ c.if-request-gt-REQUEST.false, lt-leb _ _ c.if-response-gt-RESPONSE.true) refl
+returns-then-response-gt-RESPONSE c =
+    rw (le-leb _ _ c.if-request-gt-REQUEST.false, lt-leb _ _ c.if-response-gt-RESPONSE.true) refl
 
 pub returns-then-configuration-gt-CONFIGURATION : goal.returns-then-configuration-gt-CONFIGURATION
 unfolding every
-returns-then-configuration-gt-CONFIGURATION c = rw (le-leb _ _ c.if-request-gt-REQUEST.false, le-leb _ _ c.if-response-gt-RESPONSE.false, lt-leb _ _ c.if-configuration-gt-CONFIGURATION.true) refl
+returns-then-configuration-gt-CONFIGURATION c =
+    rw (
+      le-leb _ _ c.if-request-gt-REQUEST.false,
+      le-leb _ _ c.if-response-gt-RESPONSE.false,
+      lt-leb _ _ c.if-configuration-gt-CONFIGURATION.true,
+    ) refl
 
 pub returns-then-state-gt-TEXT : goal.returns-then-state-gt-TEXT
 unfolding every
-returns-then-state-gt-TEXT c = rw (le-leb _ _ c.if-request-gt-REQUEST.false, le-leb _ _ c.if-response-gt-RESPONSE.false, le-leb _ _ c.if-configuration-gt-CONFIGURATION.false, lt-leb _ _ c.if-state-gt-TEXT.true) refl
+returns-then-state-gt-TEXT c =
+    rw (
+      le-leb _ _ c.if-request-gt-REQUEST.false,
+      le-leb _ _ c.if-response-gt-RESPONSE.false,
+      le-leb _ _ c.if-configuration-gt-CONFIGURATION.false,
+      lt-leb _ _ c.if-state-gt-TEXT.true,
+    ) refl
 
 pub returns-then-outputs-gt-VRF_OUTPUTS : goal.returns-then-outputs-gt-VRF_OUTPUTS
 unfolding every

@@ -1,22 +1,11 @@
 -- `verifier::files::judged` meets its contract: the call asked for is judged with the request's own
 -- identifier, the line and the new state's text are written.
-use mathlib.Core.Path.{◌≡◌, sym}
-use Prim.Native.Nat.{◌≤◌}
 use native.Mathlib.Omega.{arith}
-use lib.ListN.{length}
-use lib.Seq.{length-take-le}
 use Rattle.rules.specs.Program.{requested}
 use Rattle.checks.specs.Calls.{arguments_of}
-use Rattle.verifier.specs.Request.{identifier_room, request_in}
+use Rattle.verifier.specs.Request.{request_in}
 use Rattle.verifier.proofs.FilesLaws.{call-refused, call-accepted}
-use borrow.Author.Rules.{rules}
 use Rattle.verifier.proofs.files.judged.Goals as goal
-
-pub slice_bounds-judge-end : goal.slice_bounds-judge-end
-slice_bounds-judge-end c =
-    let within : c.args.request.length ≤ length c.args.request.identifier =
-    let e : length c.args.request.identifier ≡ identifier_room = search rules in omega (arith, c.requires) in
-    sym (length-take-le _ _ within)
 
 pub returns-in-Err : goal.returns-in-Err
 unfolding arguments_of requested request_in
@@ -30,4 +19,5 @@ returns-in-Ok c =
     let w = c.write_state.ensures in
     let r = c.judge.ensures in
     rw c.length_found.ensures
-    (call-accepted _ _ _ _ _ (omega arith) _ _ r.answer r.bytes _ c.in-Ok.is _ _ _ _ _ _ c.put_accepted.ensures (omega arith) w.answer w.bytes)
+    (call-accepted _ _ _ _ _ (omega arith) _ _ r.answer r.bytes _ c.in-Ok.is _ _ _ _ _ _
+    c.put_accepted.ensures (omega arith) w.answer w.bytes)

@@ -37,4 +37,5 @@ pub returns-clause-request : goal.returns-clause-request
 unfolding ascii
 returns-clause-request c =
     request-monitor _ _ _ (line_here _ _ _ _ (read_is c.line.ensures c.in_ok-stop.was)) c.if-next-text.false
-    (next_is c.word.ensures c.in_default.is) _ _ (next_is c.word-2.ensures c.in_ok-next.was) c.with_fields-2.ensures.request
+    (next_is c.word.ensures c.in_default.is) _ _ (next_is c.word-2.ensures c.in_ok-next.was)
+    c.with_fields-2.ensures.request

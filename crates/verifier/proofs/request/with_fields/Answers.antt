@@ -9,16 +9,19 @@ use Rattle.verifier.proofs.request.with_fields.Goals as goal
 
 pub returns-in_err-length-clause-request : goal.returns-in_err-length-clause-request
 returns-in_err-length-clause-request c =
-    subst (IsFields _ _ _) (sym c.from_residual.ensures) (fields-no-identifier _ _ _ (read_is c.bytes.ensures c.in_err-length.was))
+    subst (IsFields _ _ _) (sym c.from_residual.ensures)
+    (fields-no-identifier _ _ _ (read_is c.bytes.ensures c.in_err-length.was))
 
 pub returns-in_err-clock-clause-request : goal.returns-in_err-clock-clause-request
 returns-in_err-clock-clause-request c =
     subst (IsFields _ _ _) (sym c.from_residual-in_err-clock.ensures)
-    (fields-no-clock _ _ _ _ _ (read_is c.bytes.ensures c.in_ok-length.was) (read_is c.number.ensures c.in_err-clock.was))
+    (fields-no-clock _ _ _ _ _ (read_is c.bytes.ensures c.in_ok-length.was)
+    (read_is c.number.ensures c.in_err-clock.was))
 
 pub returns-then-next-line-clause-request : goal.returns-then-next-line-clause-request
 returns-then-next-line-clause-request c =
-    fields-more _ _ _ _ _ (read_is c.bytes.ensures c.in_ok-length.was) _ _ (read_is c.number.ensures c.in_ok-clock.was) (omega arith)
+    fields-more _ _ _ _ _ (read_is c.bytes.ensures c.in_ok-length.was) _ _
+    (read_is c.number.ensures c.in_ok-clock.was) (omega arith)
 
 pub returns-clause-request : goal.returns-clause-request
 returns-clause-request c =

@@ -1,33 +1,37 @@
 -- `tree::search_tree::Frontier::of` meets its contract: what is stored so far are the first entries
 -- of the frontier, and those from `from` on are left.
-use mathlib.Core.Path.{sym}
-use Prim.Native.Nat.{◌<◌}
+use mathlib.Core.Path.{sym, subst}
+use mathlib.Core.List.{List}
+use Prim.Native.Nat.{ℕ, ◌<◌}
 use native.Mathlib.Omega.{arith}
+use lib.Count.{ones, ones-le}
 use lib.ListN.{length}
-use Rattle.tree.specs.SearchTree.{frontier}
-use Rattle.tree.proofs.FillLaws.{filling_whole}
+use Rattle.std.proofs.lemmas.List.{take-replicate}
+use Rattle.tree.specs.SearchTree.{frontier, frontier_capacity}
 use Rattle.tree.proofs.FrontierLaws.{frontier_length}
-use Rattle.tree.proofs.FrontierFillLaws.{storing_start, storing-more, storing-next}
+use Rattle.tree.proofs.FrontierFillLaws.{Storing, storing_start, storing_length, storing_whole, storing-more, storing-next}
 use Rattle.tree.proofs.search_tree.Frontier.of.Goals as goal
-
-pub loop-i-init : goal.loop-i-init
-loop-i-init c = (storing_start c.args.tree_size, omega arith)
 
 pub overflow_add-from : goal.overflow_add-from
 overflow_add-from c =
     let n = c.args.tree_size in
-    let turn = c.loop-i in
-    let w : turn.i < length (frontier n) = omega (arith, frontier_length n) in
-    omega (arith, c.next_on_frontier-position.ensures, storing-more n turn.positions turn.from turn.i turn.invariant.0 w, c.ranges.tree_size.fits)
+    let turn = c.loop-slot in
+    let w : turn.slot-index < length (frontier n) = omega (arith, storing_length n turn.from turn.slot-index turn.slot-items turn.invariant, frontier_length n) in
+    omega (arith, c.next_on_frontier-position.ensures, storing-more n turn.slot-items turn.from turn.slot-index turn.invariant w, c.ranges.tree_size.fits)
 
-pub loop-i-preserved : goal.loop-i-preserved
-loop-i-preserved c =
+pub loop-slot-preserved : goal.loop-slot-preserved
+loop-slot-preserved c =
     let n = c.args.tree_size in
-    let turn = c.loop-i in
-    let w : turn.i < length (frontier n) = omega (arith, frontier_length n) in
-    (rw c.next_on_frontier-position.ensures (storing-next n turn.positions turn.from turn.i turn.invariant.0 w c.ranges.tree_size.fits), omega arith)
+    let turn = c.loop-slot in
+    let w : turn.slot-index < length (frontier n) = omega (arith, storing_length n turn.from turn.slot-index turn.slot-items turn.invariant, frontier_length n) in
+    rw c.next_on_frontier-position.ensures (storing-next n turn.slot-items turn.from turn.slot-index turn.invariant w)
+
+pub loop-slot-init : goal.loop-slot-init
+loop-slot-init c =
+    let n = c.args.tree_size in
+    subst (λ (l : List ℕ). Storing n l 0 0) (sym (take-replicate (ones n) frontier_capacity 0 (ones-le 64 n c.ranges.tree_size.fits))) (storing_start n)
 
 pub returns : goal.returns
 returns c =
     let n = c.args.tree_size in
-    (filling_whole c.loop-i.invariant.0 (omega (arith, frontier_length n)), sym (frontier_length n))
+    (storing_whole n c.loop-slot.from c.loop-slot.slot-index c.loop-slot.slot-items c.ranges.tree_size.fits c.loop-slot.invariant (omega arith), sym (frontier_length n))
