@@ -25,20 +25,25 @@ Storing n positions x count = Filling (ones n) (frontier n) positions count (lis
 
 -- At first all are left.
 pub storing_start : (n : ℕ) → Storing n (replicate (ones n) 0) 0 0
-storing_start n = filling_same (sym (from_all 0 (frontier n) (λ a m. omega arith))) (filling_start (ones n) (frontier n))
+storing_start n =
+    filling_same (sym (from_all 0 (frontier n) (λ a m. omega arith))) (filling_start (ones n) (frontier n))
 
 -- The places stay as many.
 pub storing_length : (n x count : ℕ) (positions : List ℕ) → Storing n positions x count → length positions ≡ ones n
 storing_length n x count positions s =
-    ap length s.stored ∙ length_padded (ones n) (take count (frontier n)) (omega (arith, length-take-le count (frontier n) s.within, s.within, frontier_length n))
+    ap length s.stored
+    ∙ length_padded (ones n) (take count (frontier n))
+    (omega (arith, length-take-le count (frontier n) s.within, s.within, frontier_length n))
 
 -- Once all are stored, the zeros of an array stand after them.
-pub storing_whole : (n x count : ℕ) (positions : List ℕ) → n < 2 ^ 64 → Storing n positions x count → length positions ≤ count
+pub storing_whole : (n x count : ℕ) (positions : List ℕ) → n < 2 ^ 64 → Storing n positions x count
+    → length positions ≤ count
     → positions ++ drop (ones n) (replicate frontier_capacity 0) ≡ padded frontier_capacity (frontier n)
 unfolding padded
 storing_whole n x count positions h s f =
     let l : length positions ≡ ones n = storing_length n x count positions s in
-    let e : positions ≡ frontier n = filling_whole s (omega (arith, frontier_length n)) ∙ padded_full (ones n) (frontier n) (frontier_length n) in
+    let e : positions ≡ frontier n =
+    filling_whole s (omega (arith, frontier_length n)) ∙ padded_full (ones n) (frontier n) (frontier_length n) in
     rw (e, drop-replicate {X = ℕ} (ones n) frontier_capacity 0, frontier_length n) refl
 
 module _ (n : ℕ) (positions : List ℕ) (x count : ℕ) (s : Storing n positions x count) (w : count < length (frontier n)) where
@@ -53,5 +58,8 @@ module _ (n : ℕ) (positions : List ℕ) (x count : ℕ) (s : Storing n positio
           absurd (omega (arith, (filling_end (filling_same e s)).1))
 
   -- It is stored, and those after it are left.
-  pub storing-next : Storing n (set positions count (next_from n (frontier n) x)) (next_from n (frontier n) x + 1) (count + 1)
-  storing-next = filling_next (omega (arith, frontier_length n)) (filling_same (from_next n x (frontier n) (frontier_rising n) storing-more) s)
+  pub storing-next : Storing n (set positions count (next_from n (frontier n) x)) (next_from n (frontier n) x + 1)
+      (count + 1)
+  storing-next =
+      filling_next (omega (arith, frontier_length n))
+      (filling_same (from_next n x (frontier n) (frontier_rising n) storing-more) s)

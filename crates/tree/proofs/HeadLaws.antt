@@ -40,11 +40,16 @@ has-size n m = by_order 0 n some none
     kept : 0 < n → n ≤ limit → has_size n m ≡ (ltb 0 n && (leb n limit && leb m n))
     kept p h =
         by_order n m
-        (λ u. rw (ne_eqb n 0 (λ e. absurd (omega arith)), lt-ltb 0 n p, le-ltb limit n h, le-leb n limit h, lt-ltb n m u, lt-leb m n u) refl)
-        (λ u. rw (ne_eqb n 0 (λ e. absurd (omega arith)), lt-ltb 0 n p, le-ltb limit n h, le-leb n limit h, le-ltb n m u, le-leb m n u) refl)
+        (λ u. rw (ne_eqb n 0 (λ e. absurd (omega arith)), lt-ltb 0 n p, le-ltb limit n h, le-leb n limit h, lt-ltb n m u, lt-leb m n u)
+        refl)
+        (λ u. rw (ne_eqb n 0 (λ e. absurd (omega arith)), lt-ltb 0 n p, le-ltb limit n h, le-leb n limit h, le-ltb n m u, le-leb m n u)
+        refl)
 
     some : 0 < n → has_size n m ≡ (ltb 0 n && (leb n limit && leb m n))
-    some p = by_order limit n (λ h. rw (ne_eqb n 0 (λ e. absurd (omega arith)), lt-ltb 0 n p, lt-ltb limit n h, lt-leb n limit h) refl) (kept p)
+    some p =
+        by_order limit n
+        (λ h. rw (ne_eqb n 0 (λ e. absurd (omega arith)), lt-ltb 0 n p, lt-ltb limit n h, lt-leb n limit h) refl)
+        (kept p)
 
     none : n ≤ 0 → has_size n m ≡ (ltb 0 n && (leb n limit && leb m n))
     none h = let e : n ≡ 0 = omega arith in rw e refl
@@ -56,7 +61,9 @@ module _ (n : ℕ) (k : Known) where
 
   walkable-sized : (has_size n k.size && rising_below n (positions k.entries)) ≡ is_walkable n k
   walkable-sized =
-      sym (walkable-is ∙ joined (ltb 0 n) (leb n (2 ^ level_limit)) (leb k.size n) (rising (positions k.entries)) (all (λ (q : ℕ). ltb q n) (positions k.entries))
+      sym (walkable-is
+      ∙ joined (ltb 0 n) (leb n (2 ^ level_limit)) (leb k.size n) (rising (positions k.entries))
+      (all (λ (q : ℕ). ltb q n) (positions k.entries))
       ∙ ap (λ (b : Bool). b && rising_below n (positions k.entries)) (sym (has-size n k.size)))
     where
       joined : (a b c d e : Bool) → (a && (b && (c && (d && (e && true))))) ≡ ((a && (b && c)) && (d && e))
