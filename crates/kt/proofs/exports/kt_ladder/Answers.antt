@@ -41,9 +41,12 @@ loop-i-preserved c =
     ∙ filled_at ladder_capacity i ladder c.of-ladder.result.versions c.of-ladder.ensures.0 h in
     let w =
     c.put_version.ensures ∙ ap (λ (v : ℕ). sets c.loop-i.versions (version_length * i) (big_endian version_length v)) x
-    ∙ written_next ladder a.versions.now c.loop-i.versions i h room c.loop-i.invariant.3 in
-    (omega arith, c.loop-i.invariant.1,
-    ap length w ∙ length_written ladder a.versions.now (i + 1) (omega arith) (omega arith), w)
+    ∙ written_next ladder a.versions.now c.loop-i.versions i h room c.loop-i.invariant.3 in (
+      omega arith,
+      c.loop-i.invariant.1,
+      ap length w ∙ length_written ladder a.versions.now (i + 1) (omega arith) (omega arith),
+      w,
+    )
 
 pub returns : goal.returns
 returns c =
