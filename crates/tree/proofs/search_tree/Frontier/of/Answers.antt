@@ -19,8 +19,12 @@ overflow_add-from c =
     let turn = c.loop-slot in
     let w : turn.slot-index < length (frontier n) =
     omega (arith, storing_length n turn.from turn.slot-index turn.slot-items turn.invariant, frontier_length n) in
-    omega (arith, c.next_on_frontier-position.ensures,
-    storing-more n turn.slot-items turn.from turn.slot-index turn.invariant w, c.ranges.tree_size.fits)
+    omega (
+      arith,
+      c.next_on_frontier-position.ensures,
+      storing-more n turn.slot-items turn.from turn.slot-index turn.invariant w,
+      c.ranges.tree_size.fits,
+    )
 
 pub loop-slot-preserved : goal.loop-slot-preserved
 loop-slot-preserved c =
@@ -38,6 +42,8 @@ loop-slot-init c =
 
 pub returns : goal.returns
 returns c =
-    let n = c.args.tree_size in
-    (storing_whole n c.loop-slot.from c.loop-slot.slot-index c.loop-slot.slot-items
-    c.ranges.tree_size.fits c.loop-slot.invariant (omega arith), sym (frontier_length n))
+    let n = c.args.tree_size in (
+      storing_whole n c.loop-slot.from c.loop-slot.slot-index c.loop-slot.slot-items
+          c.ranges.tree_size.fits c.loop-slot.invariant (omega arith),
+      sym (frontier_length n),
+    )
