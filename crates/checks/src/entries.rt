@@ -32,6 +32,7 @@ struct LookupsShown {
 // ladder in each; monitoring the versions of the pair that counts there, whose mark becomes 0.
 // A kind and no closure: monitoring's marks are written in each step, and a closure's clauses would have to say so.
 // Pairs are no struct: monitoring's steps take versions alone, and marks, written to, could not go along.
+// A loop: which entry is asked next, and whether one is, shows only in it.
 pub(crate) fn entries_asked(
     kind: Kind,
     entries: &[u8],

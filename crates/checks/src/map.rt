@@ -10,6 +10,7 @@ use tree::search_tree::last_right_ancestor;
 // The map with a version at a position, over a version that stands there; none where there is no
 // room for one pair more.
 // By hand and no `binary_search`: both arrays would be rotated, and one pass finds the place and moves both.
+// IsMap is no fact of the type, here and below: a state may hold a map that breaks it.
 pub(crate) fn with_pair(map: MonitoringMap, position: u64, version: u32) -> Option<MonitoringMap>
     requires { IsMap map }
     ensures { HoldsIfRoom (put_version position version (pairs_in map)) result }

@@ -60,7 +60,8 @@ pub(crate) fn monitoring_asked(
 
 // Whether there is an output of each version of the steps, if these are those of monitoring: the
 // versions looked up for the pairs that count, which are those with mark 0. The offsets of the
-// commitments go into the table lent, by the records of their versions' outputs.
+// commitments go into the table lent, by the records of their versions' outputs. A loop: how many steps are
+// wanted shows only in it.
 fn monitoring_steps(
     steps: &[u8],
     versions: &[u32],

@@ -36,7 +36,7 @@ struct SizeLine {
 }
 
 // The `keep` lines that follow each other: their number, the offset after them, and the first of
-// their values, as many as a block takes.
+// their values, as many as a block takes. No heap: the room is fixed (project rule).
 // No Option where they are too many: state_from_lines tests the number in any case, and the loop needs no exit.
 #[derive(Clone, Copy)]
 struct Keeps {

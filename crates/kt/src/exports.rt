@@ -207,7 +207,8 @@ fn length_found(found: Option<Found>) -> usize
 
 // Checks a response to a search (kind 0) or to monitoring (kind 1), without the signed text: writes
 // that text into the bytes lent from an offset on and answers its length, or answers the number of
-// the refusal and writes nothing. The state is given by its text, and stays.
+// the refusal and writes nothing. The state is given by its text, and stays. The kind is a number, as C
+// gives it.
 #[unsafe(no_mangle)]
 pub extern "C" fn kt_signed_text(
     kind: u32,

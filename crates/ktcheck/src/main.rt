@@ -33,7 +33,8 @@ fn main(rt: HostRuntime) {
     );
 }
 
-// Reads the other three, and judges all six.
+// Reads the other three, and judges all six, with one flag for all that could not be read, as check_files
+// takes it.
 fn read_rest(
     rt: &(impl Files + Print + Eprint),
     unread: bool,

@@ -7,7 +7,7 @@ use std::rt::Files;
 use verifier::files::{Outcome, check_files};
 
 // Judges the six files, of which one or more may be unread, and reports what comes of them.
-// No struct of them: check_files takes them one by one.
+// No struct of them, and one flag: check_files takes them so, one by one.
 pub(crate) fn judge(
     rt: &(impl Files + Print + Eprint),
     unread: bool,

@@ -42,7 +42,8 @@ pub fn line_end(s: &[u8], at: usize) -> usize
     span(s, skipped(s, far, NARROW), b'\n')
 }
 
-// An offset with the same next newline, after as many steps of so many bytes as have none.
+// An offset with the same next newline, after as many steps of so many bytes as have none. A loop over
+// offsets: where it ends shows only in it.
 fn skipped(s: &[u8], at: usize, step: usize) -> usize
     requires { 0 < step }
     ensures value { result + length (before newline (drop result s.now))

@@ -52,7 +52,7 @@ struct Climb {
     high: u32,
 }
 
-// The climb of a ladder: 0, 1, 3, 7 and so on.
+// The climb of a ladder: 0, 1, 3, 7 and so on. How many there are shows only in the loop.
 fn climbed(version: u32) -> Climb
     requires { version < 2 ^ 32 - 1 }
     ensures stored { result.ladder.versions ≡ padded ladder_capacity (take result.ladder.length (ladder version)) }
@@ -74,7 +74,8 @@ fn climbed(version: u32) -> Climb
     Climb { ladder, low, high }
 }
 
-// The whole ladder, from its climb: halving between `low` and `high` until they are neighbours.
+// The whole ladder, from its climb: halving between `low` and `high` until they are neighbours, which shows
+// only in the loop.
 fn halved(version: u32, climb: Climb) -> Ladder
     requires version_bound { version < 2 ^ 32 - 1 }
     requires stored { climb.ladder.versions ≡ padded ladder_capacity (take climb.ladder.length (ladder version)) }

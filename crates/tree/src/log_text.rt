@@ -67,7 +67,8 @@ pub(crate) fn next_line(text: &[u8], at: usize) -> usize
 }
 
 // Where the first entry line from a line's start on begins, or the text's end where there is none.
-// The end and no Option: the walk's cursor and the loops over entry lines go on from an offset.
+// The end and no Option: the walk's cursor and the loops over entry lines go on from an offset. A loop over
+// offsets: an iterator over entry lines would need a contract of its own, no plainer.
 pub(crate) fn entry_from(text: &[u8], start: usize) -> usize
     ensures { result ≡ get_or (entry_offsets text.now start) 0 (length text.now) }
 {
