@@ -86,7 +86,9 @@ pub(crate) fn try_1_to_14(
     Ok(Passed { call, checked })
 }
 
-// Tries 6 to 13 on a call that was read.
+// Tries 6 to 13 on a call that was read. Not inlined: its table of commitments is off the stack before the
+// walk (14) begins.
+#[inline(never)]
 fn try_6_to_13(
     asked: Option<Kind>,
     text: &[u8],
