@@ -10,6 +10,7 @@ use Prim.Native.Nat.{ℕ, zero, suc, ◌+◌, ◌-◌, ◌*◌, ◌^◌, ◌/◌
 use native.Mathlib.Omega.{arith}
 use lib.Dec.{eqb, ltb}
 use lib.ListN.{length, take, drop, get_or, length-map, length-drop, get_or-map}
+use lib.Seq.{drop-drop}
 use borrow.Author.Tests.{eq-eqb, ne_eqb, eqb-true, lt-ltb, le-ltb, ltb-true, ltb-false}
 use Rattle.lists.specs.Choice.{is_some}
 use Rattle.lists.specs.Lists.{Bytes, select, first, rising, runs}
@@ -18,23 +19,17 @@ use Rattle.lists.proofs.ListLaws.{at_member, member_at, first_here, first_later,
 use Rattle.lists.proofs.ListLaws.{select_here, select_later, select_fewer}
 use Rattle.lists.proofs.RisingLaws.{rising_at, rising_two, short_rises, rising_first, rising_tail}
 use Rattle.lines.proofs.OffsetLaws.{at_cons}
+use Rattle.rules.specs.Limits.{vrf_output_length}
 use Rattle.rules.specs.Encoding.{uint, bytes_after}
 use Rattle.rules.specs.VrfOutputs.{VrfOutput, record_length, read_record, read_records, read_outputs, has_output}
 use Rattle.rules.specs.VrfOutputs.{output_of}
 use Rattle.tree.proofs.DigitLaws.{by_order}
-use Rattle.tree.proofs.RunLaws.{length_runs, mapped-run, runs-at}
+use Rattle.tree.proofs.RunLaws.{length_runs, mapped-run, runs-at, drop-take}
 use Rattle.inputs.specs.VrfOutputs.{record_at, found_output, record_of, records_below, IsRecordOf}
 use Rattle.inputs.specs.VrfOutputs.{IsOfSomeRecord}
 use Rattle.std.specs.Prelude.{Some, None, is_some as is_given, Option as CodeOption}
-use Rattle.std.specs.Prelude.{Result, Ok, Err, MatchOption}
-use Rattle.std.specs.Result.{result_ok}
 use Rattle.std.specs.List.{IsAllAdjacentAnswer}
 use Rattle.std.specs.Simd.{first_chunks}
-use Rattle.std.specs.List.Sorted.{IsSearchInRange, IsBinarySearchResult, IsNonDecreasingBy}
-use Rattle.std.specs.Ordering.{nat_cmp, ordering_index}
-use Rattle.std.proofs.lemmas.Cmp.{ranked}
-use Rattle.std.proofs.lemmas.List.Sorted.{IsNonDecreasingBy-from_default}
-use Rattle.std.proofs.lemmas.Bool.Decides.{nat_tests}
 use Rattle.inputs.specs.declared.vrf_outputs.FoundOutput.{FoundOutput}
 
 -- ---- the records
@@ -83,6 +78,14 @@ version_bytes [] h = absurd (omega arith)
 version_bytes (a ∷ []) h = absurd (omega arith)
 version_bytes (a ∷ b ∷ []) h = absurd (omega arith)
 version_bytes (a ∷ b ∷ c ∷ []) h = absurd (omega arith)
+
+-- the output of a record is the bytes after them
+pub output_bytes : (s : Bytes) (i : ℕ)
+    → (record_at s i).output ≡ take vrf_output_length (drop (record_length * i + 4) s)
+unfolding record_at read_record
+output_bytes s i =
+    drop-take 4 vrf_output_length (drop (record_length * i) s)
+    ∙ ap (take vrf_output_length) (drop-drop 4 (record_length * i) s)
 
 -- it is among the records
 record_listed : (s : Bytes) (i : ℕ) → i < length s / record_length → Memᴰ (record_at s i) (read_records s)
@@ -248,7 +251,7 @@ fewer_below xs u v h e =
     select_fewer (smaller u) (smaller v) xs a (λ x t. lt-ltb x.version v (omega (arith, ltb-true x.version u t))) m
     (le-ltb a.version u (omega arith)) (lt-ltb a.version v (omega arith))
 
--- ---- the search for a version
+-- ---- the search by halving
 
 -- where versions rise, a record before another has a smaller one
 version_rises : (s : Bytes) (i j : ℕ) → rising (versions s) ≡ true → i < j → j < length s / record_length
@@ -261,39 +264,47 @@ version_rises s i j r h l =
       version_at_lem s j l,
     )
 
+-- and one of a smaller version stands before the other
+version_before : (s : Bytes) (i j : ℕ) → rising (versions s) ≡ true → i < length s / record_length
+    → (record_at s i).version < (record_at s j).version → i < j
+version_before s i j r h l = by_order i j (λ p. p) (λ p. absurd (not_after p))
+  where
+    not_after : j ≤ i → ⊥
+    not_after p =
+        by_order j i (λ q. omega (arith, version_rises s j i r q h)) (λ q. let e : i ≡ j = omega arith in
+        omega (arith, ap (λ (n : ℕ). (record_at s n).version) e))
+
+-- where versions rise, a record of version v has a number from low on and below high
+abbrev pub Between : Bytes → ℕ → ℕ → ℕ → Type 0
+Between s v low high =
+    rising (versions s) ≡ true → (i : ℕ) → i < length s / record_length → (record_at s i).version ≡ v
+    → (low ≤ i) × (i < high)
+
+-- at first it may have any number
+pub between_all : (s : Bytes) (v : ℕ) → Between s v 0 (length s / record_length)
+between_all s v r i h e = (omega arith, h)
+
+-- it stands after a record of a smaller version
+pub between_above : (s : Bytes) (v low high m : ℕ) → m < length s / record_length → (record_at s m).version < v
+    → Between s v low high → Between s v (m + 1) high
+between_above s v low high m h l b r i k e = (omega (arith, version_before s m i r h (omega arith)), (b r i k e).1)
+
+-- and before one of a greater version
+pub between_below : (s : Bytes) (v low high m : ℕ) → v < (record_at s m).version → Between s v low high
+    → Between s v low m
+between_below s v low high m l b r i k e = ((b r i k e).0, version_before s i m r k (omega arith))
+
 -- where versions rise, none is the version
 abbrev pub NoneIs : Bytes → ℕ → Type 0
 NoneIs s v = rising (versions s) ≡ true → (i : ℕ) → i < length s / record_length → (record_at s i).version ≡ v → ⊥
 
+-- as where no number is left
+pub none_between : (s : Bytes) (v low high : ℕ) → Between s v low high → high ≤ low → NoneIs s v
+none_between s v low high b l r i h e = let p = b r i h e in omega arith
+
 -- the version in a chunk
 abbrev pub chunk_version : Bytes → ℕ
 chunk_version t = (read_record t).version
-
-module _ (s : Bytes) (v : ℕ) (cs : List Bytes) (e : cs
-    ≡ first_chunks record_length (length s / record_length) s) (n : length cs ≡ length s / record_length) where
-  -- where versions rise, so do the comparisons with one
-  comparisons_rise : rising (versions s) ≡ true
-      → IsNonDecreasingBy (λ (t : Bytes). ordering_index (nat_cmp (chunk_version t) v)) cs
-  comparisons_rise r =
-      IsNonDecreasingBy-from_default (λ (t : Bytes). ordering_index (nat_cmp (chunk_version t) v)) cs [] (λ i j le l.
-      let here = ap version_in (chunk_at s cs i [] e (omega arith)) in
-      let there = ap version_in (chunk_at s cs j [] e (omega arith)) in
-      let grows : chunk_version (get_or cs i []) ≤ chunk_version (get_or cs j []) =
-      by_order i j (λ p. omega (arith, version_rises s i j r p (omega arith))) (λ q. let z : i ≡ j = omega arith in
-      omega (arith, ap (λ (k : ℕ). chunk_version (get_or cs k [])) z)) in
-      grind (arith, nat_tests))
-
-  -- a search by the version ends at a record of it, or where versions rise there is none
-  pub searched : (r : Result ℕ ℕ) → IsSearchInRange r (length cs)
-      → IsBinarySearchResult (λ (t : Bytes). nat_cmp (chunk_version t) v) cs r
-      → MatchOption (result_ok r) (NoneIs s v) (λ i. (i < length s / record_length) × ((record_at s i).version ≡ v))
-  searched (Ok i) l equal =
-      (omega arith, sym (ap version_in (chunk_at s cs i [] e (omega arith))) ∙ ranked _ v _ (sym (equal [])))
-  searched (Err k) l parted = λ r i h q.
-      let here = ap version_in (chunk_at s cs i [] e h) in
-      let p = parted (comparisons_rise r) in
-      by_order i k (λ b. let a = ranked _ v _ (sym (p.0 i [] (omega arith) b)) in omega arith) (λ b. let a =
-      ranked _ v _ (sym (p.1 i [] b (omega arith))) in omega arith)
 
 -- ---- the versions of chunks, two at a time
 

@@ -29,20 +29,33 @@ pub fn outputs_rise(outputs: &[u8]) -> bool
     records.is_sorted_by(|a, b| version_of(a) < version_of(b))
 }
 
-// The output of a version. Of bytes that are no outputs it is that of some record of the version,
-// or none.
+// The output of a version, found by halving. Of bytes that are no outputs it is that of some record
+// of the version, or none.
+// By hand: `binary_search_by_key` goes on past a record of the version, and so names another one
+// where versions do not rise.
 pub fn find_output(outputs: &[u8], version: u32) -> Option<FoundOutput>
     ensures rising { IsRecordOf outputs.now version result }
     ensures any { IsOfSomeRecord outputs.now version result }
 {
     let (records, _) = outputs.as_chunks::<RECORD>();
-    let index = records
-        .binary_search_by_key(&version, |record| version_of(record))
-        .ok()?;
-    Some(FoundOutput {
-        index,
-        output: output_of(&records[index]),
-    })
+    let mut low: usize = 0;
+    let mut high: usize = records.len();
+    while low < high {
+        let middle = low + (high - low) / 2;
+        let there = version_of(&records[middle]);
+        if there == version {
+            return Some(FoundOutput {
+                index: middle,
+                output: output_of(&records[middle]),
+            });
+        }
+        if there < version {
+            low = middle + 1;
+        } else {
+            high = middle;
+        }
+    }
+    None
 }
 
 // The version of a record.
