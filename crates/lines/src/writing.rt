@@ -20,7 +20,7 @@ pub fn put_bytes(out: &mut [u8], at: usize, s: &[u8]) -> Option<usize>
     ensures bytes { out.new ≡ put_at out.old at s.now }
 {
     let end = end_within(out.len(), at, s.len())?;
-    out[at..end].copy_from_slice(s);
+    store_bytes(out, at, s);
     Some(end)
 }
 
@@ -76,6 +76,18 @@ fn end_within(room: usize, at: usize, count: usize) -> Option<usize>
         return None;
     }
     Some(end)
+}
+
+// Bytes as they are, where they fit. By hand: with `copy_from_slice` the C library would need
+// `memmove` from outside.
+#[tactic(auto, using(crate::proofs::WritingLaws::store_rules))]
+fn store_bytes(out: &mut [u8], at: usize, s: &[u8])
+    requires { at + length s.now ≤ length out.old }
+    ensures { out.new ≡ written out.old at s.now }
+{
+    for (i, b) in s.iter().enumerate() {
+        out[at + i] = *b;
+    }
 }
 
 // The hex digits of bytes, where they fit. By index: no clause of `as_chunks_mut` says what the slice ends as.
