@@ -46,11 +46,15 @@ fn sentence(refusal: Refusal) -> &'static str {
     }
 }
 
-// Says how far the lines of a response reach.
+// Says how far the lines of a response reach, piece by piece: where one cannot be written, the others
+// still are.
 fn tell_lines(rt: &impl Eprint, response: &[u8]) {
     let lines = ended_lines(response);
-    let _ = eprintln!(rt;
-        "Whole lines in it: {}, up to byte {}. Bytes after them: {}.",
-        lines.count, lines.offset, lines.left
-    );
+    let _ = rt.eprint("Whole lines in it: ");
+    let _ = rt.eprint(lines.count);
+    let _ = rt.eprint(", up to byte ");
+    let _ = rt.eprint(lines.offset);
+    let _ = rt.eprint(". Bytes after them: ");
+    let _ = rt.eprint(lines.left);
+    let _ = rt.eprint(".\n");
 }

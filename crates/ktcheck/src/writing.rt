@@ -5,66 +5,57 @@ use std::io::{Cursor, Error, Write};
 use std::rt::Files;
 use std::{fs, io, str};
 
-// What failed, a file or standard output, and why.
+// What failed, a file or standard output, and why; and the file that is left then and has to go.
 #[derive(Drop)]
 pub(crate) struct Failure {
     what: &'static str,
     error: Error,
+    left: Option<&'static str>,
 }
 
 impl Failure {
     // Says on standard error what failed and why, as the system puts it, without the error's
-    // number.
-    pub(crate) fn tell(self, rt: &impl Eprint) {
+    // number; then removes what is left.
+    pub(crate) fn tell(self, rt: &(impl Files + Eprint)) {
         // A buffer, ended by a zero byte: there is no heap.
         let mut text = [0u8; 256];
         let _ = write!(Cursor::new(&mut text[..]), "{}\0", self.error);
         let reason = str::from_utf8(&text).unwrap_or("");
         let reason = before(before(reason, "\0"), " (os error ");
         let _ = eprintln!(rt; "{}: {reason}", self.what);
+        if let Some(left) = self.left {
+            let _ = fs::remove_file(rt, left);
+        }
     }
 }
 
-// Names what failed.
-fn name_failure(done: io::Result<()>, what: &'static str) -> Result<(), Failure> {
-    done.map_err(|error| Failure { what, error })
+// Names what failed, and what is left then.
+fn name_failure<T>(
+    done: io::Result<T>,
+    what: &'static str,
+    left: Option<&'static str>,
+) -> Result<T, Failure> {
+    done.map_err(|error| Failure { what, error, left })
 }
 
-// Writes a file under another name and, once it is on the disk, gives it its own.
+// Writes a file under another name and, once it is on the disk, gives it its own. What is not whole,
+// or cannot have its name, is left to be removed.
 pub(crate) fn write_file(
     rt: &impl Files,
     name: &'static str,
     part: &'static str,
     bytes: &[u8],
 ) -> Result<(), Failure> {
-    name_failure(write_part(rt, part, bytes), part)?;
-    name_failure(move_part(rt, part, name), name)?;
-    name_failure(sync_folder(rt), ".")
-}
-
-// Writes a file under that other name; what is not whole is removed.
-fn write_part(rt: &impl Files, part: &str, bytes: &[u8]) -> io::Result<()> {
-    let file = fs::create(rt, part)?;
-    let put = put_on_disk(file, bytes);
-    if put.is_err() {
-        let _ = fs::remove_file(rt, part);
-    }
-    put
+    let file = name_failure(fs::create(rt, part), part, None)?;
+    name_failure(put_on_disk(file, bytes), part, Some(part))?;
+    name_failure(fs::rename(rt, part, name), name, Some(part))?;
+    name_failure(sync_folder(rt), ".", None)
 }
 
 // Writes an open file, waits until it is on the disk, and closes it.
 fn put_on_disk<F: Write + OpenFile + Drop>(mut file: F, bytes: &[u8]) -> io::Result<()> {
     file.write_all(bytes)?;
     file.sync_all()
-}
-
-// Gives a written file its own name; one that cannot have it is removed.
-fn move_part(rt: &impl Files, part: &str, name: &str) -> io::Result<()> {
-    let moved = fs::rename(rt, part, name);
-    if moved.is_err() {
-        let _ = fs::remove_file(rt, part);
-    }
-    moved
 }
 
 // Waits until the folder's names are on the disk.
@@ -74,7 +65,7 @@ fn sync_folder(rt: &impl Files) -> io::Result<()> {
 
 // Prints the line.
 pub(crate) fn print(rt: &impl Print, line: &[u8]) -> Result<(), Failure> {
-    name_failure(rt.write_all(line), "standard output")
+    name_failure(rt.write_all(line), "standard output", None)
 }
 
 // What stands before a text's first such part; all of it where it has none.
