@@ -1,18 +1,19 @@
 -- Laws of an array that a list fills from its front, with zeros in the unused room
 -- (specs/State.antt).
-use mathlib.Core.Path.{◌≡◌, refl, ◌∙◌, ap, ap₂}
-use mathlib.Core.Bool.{Bool, true, ◌&&◌}
+use mathlib.Core.Path.{◌≡◌, refl, sym, ◌∙◌, ap, ap₂}
+use mathlib.Core.Bool.{Bool, true, ◌&&◌, and-true, and_assoc}
 use mathlib.Core.List.{List, [], ◌∷◌, ◌++◌, flatten, Memᴰ}
-use Prim.Native.Nat.{ℕ, zero, suc, ◌+◌, ◌*◌, ◌-◌, ◌≤◌}
+use Prim.Native.Nat.{ℕ, zero, suc, ◌+◌, ◌*◌, ◌-◌, ◌≤◌, ◌<◌}
 use native.Mathlib.Omega.{arith}
 use lib.Dec.{eqb}
-use lib.ListN.{length, take, drop, replicate, length-drop, take-append-drop}
+use lib.ListN.{length, take, drop, get_or, replicate, length-drop, take-append-drop}
 use lib.Seq.{drop_at, length-take-le, take-add}
 use Rattle.std.proofs.lemmas.List.{drop-replicate}
 use borrow.Author.Tests.{eq-eqb, eqb-true}
 use Rattle.std.specs.List.{list_all}
 use Rattle.lists.specs.Lists.{Bytes, all, runs}
 use Rattle.lists.proofs.ListLaws.{all_cons, at_all}
+use Rattle.lines.proofs.OffsetLaws.{at_cons, at_end}
 use Rattle.hash.specs.Bytes.{padded}
 use Rattle.tree.proofs.RunLaws.{runs-joined, runs-sized}
 use Rattle.inputs.specs.State.{zeros_from}
@@ -29,6 +30,18 @@ all_listed f (x ∷ s) = ap (λ (b : Bool). f x && b) (all_listed f s)
 pub zeros_tested : (k : ℕ) (s : List ℕ) (r : Bool) → r ≡ list_all (λ (x : ℕ). eqb x 0) (drop k s) → r ≡ zeros_from k s
 unfolding zeros_from
 zeros_tested k s r e = e ∙ all_listed (λ (x : ℕ). eqb x 0) (drop k s)
+
+-- where all are looked at: what was met, and those from an offset on, decide together
+module _ (s : List ℕ) (i : ℕ) (met : Bool) where
+  -- one more is met
+  pub zeros_more : i < length s → ((met && eqb (get_or s i 0) 0) && zeros_from (i + 1) s) ≡ (met && zeros_from i s)
+  unfolding zeros_from all
+  zeros_more h = rw (at_cons s i h) (and_assoc met (eqb (get_or s i 0) 0) (all (λ (x : ℕ). eqb x 0) (drop (i + 1) s)))
+
+  -- past the end, what was met decides
+  pub zeros_past : length s ≤ i → met ≡ (met && zeros_from i s)
+  unfolding zeros_from all
+  zeros_past h = rw (at_end s i h) (sym (and-true met))
 
 -- zeros are zero
 zeros_zero : (n : ℕ) → all (λ (x : ℕ). eqb x 0) (replicate n 0) ≡ true

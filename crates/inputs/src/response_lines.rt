@@ -210,7 +210,9 @@ fn ends_with_siblings(l: &[u8], c: Cursor) -> bool
     last_bytes(l, c).is_some_and(|(length, _)| length % HASH == 0 && length <= SIBLINGS * HASH)
 }
 
-// The number that follows the word with which a line begins.
+// The number that follows the word with which a line begins. Inlined, so that the word is known:
+// many short lines are read by it.
+#[inline(always)]
 fn number_after(l: &[u8], word: &[u8], bound: u64) -> Option<(u64, Cursor)>
     ensures { read_of result ≡ number_after word.now bound l.now }
 {

@@ -210,9 +210,15 @@ fn timestamp_fits(size: u64, timestamp: u64) -> bool
 }
 
 // Whether bytes are zero from an offset on.
-// The map's numbers have the chain again: the definition zeros_from is of numbers, and says nothing of a type parameter.
+// The map's numbers have a test of their own: the definition zeros_from is of numbers, and says nothing of a type parameter.
+// By hand, and all are looked at: a loop with one way out is compiled to steps of sixteen bytes,
+// and `all` is not.
 fn zeros_from(s: &[u8], from: usize) -> bool
     ensures { result ≡ zeros_from from s.now }
 {
-    s.iter().skip(from).all(|x| *x == 0)
+    let mut zeros = true;
+    for x in &s[from.min(s.len())..] {
+        zeros &= *x == 0;
+    }
+    zeros
 }
