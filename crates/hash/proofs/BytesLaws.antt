@@ -1,9 +1,9 @@
 -- Laws of numbers as bytes and of lists filled up with zeros (specs/Bytes.antt). A buffer that
 -- starts all zero and is filled from its front is a `padded` list at each step.
-use Rattle.std.proofs.Common.{◌≡◌, ℕ, zero, suc, ◌+◌, ◌-◌, ◌*◌, ◌/◌, ◌%◌, ◌<◌, ◌≤◌, List, [], ◌∷◌, ◌++◌, length, get_or, take, drop, set, replicate, sym, refl, ap, ◌∙◌, append_assoc, append-nil, le_of_eq, arith, length-append, length-drop, length-take, length-take-le, take_all, take_at, drop_at, Bor, add-one, take-suc, ◌^◌}
+use Rattle.std.proofs.Common.{◌≡◌, ℕ, zero, suc, ◌+◌, ◌-◌, ◌*◌, ◌/◌, ◌%◌, ◌<◌, ◌≤◌, List, [], ◌∷◌, ◌++◌, map, length, get_or, take, drop, set, replicate, sym, refl, ap, ◌∙◌, append_assoc, append-nil, le_of_eq, arith, length-append, length-drop, length-take, length-take-le, take_all, take_at, drop_at, Bor, add-one, take-suc, ◌^◌}
 use Rattle.std.specs.Simd.{first_chunks}
 use Rattle.std.proofs.lemmas.List.{get_or-take, get_or-drop}
-use lib.ListN.{length-replicate, replicate-append-replicate}
+use lib.ListN.{length-replicate, length-map, replicate-append-replicate}
 use lib.Seq.{paste, drop-append-add, set_at, take-length}
 use Rattle.std.proofs.lemmas.Slice.{put_mid-paste}
 use Rattle.std.proofs.lemmas.List.Concat.{flat_map-append}
@@ -123,6 +123,10 @@ pub padded_copy : (n at end : ℕ) (s t d : List ℕ) → d ≡ padded n s → l
 padded_copy n at end s t d hd hs he h =
     put_mid-paste at (end - at) d t t (length t) refl (omega arith) refl
     ∙ padded_paste n at s t d (paste d at t (length t)) hd hs (omega arith) refl
+
+-- a struct's array field has the length that its type says
+pub field_length : (b : List ℕ) (n : ℕ) → length (map (λ x. x) b) ≡ n → length b ≡ n
+field_length b n e = sym (length-map b (λ (x : ℕ). x)) ∙ e
 
 -- ---- parts copied one after the other
 

@@ -3,7 +3,7 @@
 use mathlib.Core.Path.{◌≡◌, refl, sym, ◌∙◌, ap, ap₂}
 use mathlib.Core.Bool.{Bool, true, false, and-false}
 use mathlib.Core.List.{List, [], ◌∷◌}
-use Prim.Native.Nat.{ℕ, ◌+◌, ◌≤◌, ◌<◌}
+use Prim.Native.Nat.{ℕ, zero, suc, ◌+◌, ◌≤◌, ◌<◌}
 use native.Mathlib.Numerals.{add-one}
 use native.Mathlib.Omega.{arith}
 use lib.Dec.{leb}
@@ -106,6 +106,15 @@ pub map_none : (ps vs : List ℕ) → length ps ≡ 0 → map_of ps vs ≡ []
 unfolding map_of
 map_none [] vs e = refl
 map_none (p ∷ ps) vs e = absurd (omega arith)
+
+-- a pair has the position and the version of its index
+pub map_at : (ps vs : List ℕ) (i : ℕ) (d : MapEntry) → i < length ps → i < length vs
+    → get_or (map_of ps vs) i d ≡ record { position = get_or ps i 0; version = get_or vs i 0 }
+unfolding map_of
+map_at [] vs i d h l = absurd (omega arith)
+map_at (p ∷ ps) [] i d h l = absurd (omega arith)
+map_at (p ∷ ps) (v ∷ vs) zero d h l = refl
+map_at (p ∷ ps) (v ∷ vs) (suc i) d h l = map_at ps vs i d (omega arith) (omega arith)
 
 -- the pairs from an index on are the one there and those after it
 pub pairs_from_lem : (ps vs : List ℕ) (i : ℕ) → i < length ps → i < length vs

@@ -41,6 +41,11 @@ pub never_holds : (t : Bool) → (t ≡ true → ⊥) → t ≡ false
 never_holds true h = absurd (h refl)
 never_holds false h = refl
 
+-- a test that cannot fail holds
+pub never_fails : (t : Bool) → (t ≡ false → ⊥) → t ≡ true
+never_fails true h = refl
+never_fails false h = absurd (h refl)
+
 -- ---- choices
 
 -- where the test holds, the first is chosen

@@ -1,8 +1,10 @@
 -- Two lists of numbers compared element by element (specs/Lists.antt).
 use mathlib.Core.Path.{◌≡◌, refl, sym, ap, ◌∙◌}
-use mathlib.Core.Bool.{Bool, true, false, ◌&&◌, and-true, and_assoc}
+use mathlib.Core.Bool.{Bool, true, false, ◌&&◌, false≢true, and-true, and_assoc}
 use mathlib.Core.List.{List, [], ◌∷◌}
 use Prim.Native.Nat.{ℕ, ◌+◌, ◌≤◌, ◌<◌}
+use native.Mathlib.Decide.{dec_lt}
+use native.Mathlib.Omega.{arith}
 use lib.Dec.{eqb, eqb-zero-suc, eqb-suc-suc}
 use lib.ListN.{length, get_or, drop, drop_of_length-le}
 use lib.Seq.{drop-cons, drop-drop}
@@ -34,6 +36,14 @@ pub begins_end : (x : ℕ) (xs ys : List ℕ) (i : ℕ) → length ys ≤ i → 
 unfolding begins
 begins_end x xs ys i h = ap (begins (x ∷ xs)) (drop_of_length-le ys h)
 
+-- what begins with something at an offset goes on there
+pub begins_within : (x : ℕ) (ys : List ℕ) (i : ℕ) → begins (x ∷ []) (drop i ys) ≡ true → i < length ys
+begins_within x ys i e = go (dec_lt i (length ys))
+  where
+    go : Dec (i < length ys) → i < length ys
+    go (yes h) = h
+    go (no h) = absurd (false≢true (sym (begins_end x [] ys i (omega arith)) ∙ e))
+
 -- a list begins with a number and others where it begins with the number, and without its first
 -- element with the others
 begins_first : (x : ℕ) (xs ys : List ℕ) → begins (x ∷ xs) ys ≡ (begins (x ∷ []) ys && begins xs (drop 1 ys))
@@ -46,6 +56,18 @@ pub begins_next : (x : ℕ) (xs ys : List ℕ) (i : ℕ)
     → begins (x ∷ xs) (drop i ys) ≡ (begins (x ∷ []) (drop i ys) && begins xs (drop (i + 1) ys))
 begins_next x xs ys i =
     begins_first x xs (drop i ys) ∙ ap (λ (l : List ℕ). begins (x ∷ []) (drop i ys) && begins xs l) (drop-drop 1 i ys)
+
+-- a list is the same as one that begins with its first element, and without it is the same as the
+-- others
+same_first : (x : ℕ) (xs ys : List ℕ) → same (x ∷ xs) ys ≡ (begins (x ∷ []) ys && same xs (drop 1 ys))
+unfolding same begins
+same_first x xs [] = refl
+same_first x xs (y ∷ ys) = ap (λ (b : Bool). b && same xs ys) (sym (and-true (eqb x y)))
+
+-- two lists are the same where the second begins with the first element of the first one, and the
+-- rest is the same
+pub same_next : (x : ℕ) (xs ys : List ℕ) (i : ℕ) → same (x ∷ xs) (drop i ys) ≡ (begins (x ∷ []) (drop i ys) && same xs (drop (i + 1) ys))
+same_next x xs ys i = same_first x xs (drop i ys) ∙ ap (λ (l : List ℕ). begins (x ∷ []) (drop i ys) && same xs l) (drop-drop 1 i ys)
 
 -- a list is the same as another where that begins with it and is as long
 pub begins_same : (xs ys : List ℕ) → (begins xs ys && eqb (length xs) (length ys)) ≡ same xs ys

@@ -1,7 +1,7 @@
 -- Laws of what the walk decides at a whole block (src/log_tree.rt): full or not, holding a full
 -- subtree or not, and where its kept value stands.
 use mathlib.Core.Path.{◌≡◌, refl, sym, ap, ap₂, ◌∙◌, subst}
-use mathlib.Core.Logic.{inr}
+use mathlib.Core.Logic.{inl, inr}
 use mathlib.Core.Bool.{Bool, true, false, ◌&&◌, ◌||◌}
 use Prim.Native.Nat.{ℕ, suc, ◌+◌, ◌*◌, ◌/◌, ◌%◌, ◌^◌, ◌≤◌, ◌<◌}
 use native.Mathlib.Nat.{pow-succ', mod-lt}
@@ -16,9 +16,9 @@ use Rattle.lists.specs.Lists.{Bytes, runs}
 use Rattle.lists.proofs.ChoiceLaws.{and_holds}
 use Rattle.hash.specs.Sha256.{digest_length}
 use Rattle.tree.specs.declared.log_tree.Source.{Source}
-use Rattle.tree.specs.declared.log_tree.Source.TheVariants.{Given, Parent}
+use Rattle.tree.specs.declared.log_tree.Source.TheVariants.{Retained, Given, Shown, Parent}
 use Rattle.tree.specs.LogTree.{Range, full_subtrees, is_full, holds_full, value_among, kept_value, zeros}
-use Rattle.tree.specs.LogHead.{known_in}
+use Rattle.tree.specs.LogHead.{level_limit, known_in}
 use Rattle.tree.specs.LogWalk.{range, Whole, Halves, even, uneven, SourceFacts}
 use Rattle.tree.proofs.DigitLaws.{halved}
 use Rattle.tree.proofs.RunLaws.{runs-at}
@@ -103,6 +103,21 @@ module _ (m s w : ℕ) (h : Whole s w) where
       ∙ sym (ap (value_among (full_subtrees m) (runs (ones m) digest_length b)) block-is
       ∙ value_among_lem m e h.number (runs (ones m) digest_length b) (ap (is_full m) (sym block-is) ∙ f))
 
+  -- ---- the step that it takes, the next shown entry being at a position
+
+  module _ (p : ℕ) where
+    -- a single entry that is shown is hashed
+    pub step-shown : p < s + w → w ≡ 1 → SourceFacts (ltb p (s + w)) m (range s w) Shown
+    step-shown b e = (lt-ltb p (s + w) b, e)
+
+    -- more entries of which one is shown split
+    pub step-parent : p < s + w → (w ≡ 1 → ⊥) → SourceFacts (ltb p (s + w)) m (range s w) Parent
+    step-parent b e = (omega (arith, whole_some h, e), inl (lt-ltb p (s + w) b))
+
+    -- with nothing shown a full subtree is retained
+    pub step-retained : s + w ≤ p → is_full m (range s w) ≡ true → SourceFacts (ltb p (s + w)) m (range s w) Retained
+    step-retained b f = (le-ltb p (s + w) b, f)
+
   -- ---- the step that it takes, something being shown in it or not
 
   -- those after the m entries are given
@@ -119,7 +134,16 @@ module _ (m s w : ℕ) (h : Whole s w) where
 
 -- ---- the halves of a parent
 
--- halves that are not equal are of no full subtree
+-- equal halves are those of a whole block
+pub halves_even : (m start half rest : ℕ) → Halves m start half rest → rest ≡ half → Whole start (half + rest)
+halves_even m start half rest (even e h) q = h
+halves_even m start half rest (uneven l f) q = absurd (omega arith)
+
+-- others are of no full subtree
 pub halves_uneven : (m start half rest : ℕ) → Halves m start half rest → (rest ≡ half → ⊥) → is_full m (range start (half + rest)) ≡ false
 halves_uneven m start half rest (even e h) q = absurd (q e)
 halves_uneven m start half rest (uneven l f) q = f
+
+-- either way they are no more than a log may have
+pub halves_small : (m start half rest : ℕ) → Halves m start half rest → rest ≡ half → half + rest ≤ 2 ^ level_limit
+halves_small m start half rest h q = let w = halves_even m start half rest h q in omega (arith, w.small)

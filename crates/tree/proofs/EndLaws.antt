@@ -39,7 +39,7 @@ module _ (text : Bytes) {m s w : ℕ} {c : WalkCursor} (h : Whole s w) (r : Read
   pub end-retained : SourceFacts (ltb (position_of c.position) (s + w)) m (range s w) Retained → c ≡ end_on text (known m [] (shown_in text)) c.node (range s w)
   end-retained f =
       walked-cursor text (known m [] (shown_in text)) [] (s + w) c.node (walk w m (positions (shown_in text)) (range s w)) (record { value = kept_value (known m [] (shown_in text)) (range s w); cursor = c; met = true })
-      (block-retained [] text [] h r (kept_value (known m [] (shown_in text)) (range s w)) f refl)
+      (block-retained [] text [] h r (shown_in text) (kept_value (known m [] (shown_in text)) (range s w)) f refl)
 
   -- after a given one it has passed one node more
   pub end-given : SourceFacts (ltb (position_of c.position) (s + w)) m (range s w) Given → past_node c ≡ end_on text (known m [] (shown_in text)) c.node (range s w)

@@ -78,6 +78,14 @@ module _ (n : ℕ) (k : Known) where
   pub walkable-none : has_size n k.size ≡ false → false ≡ is_walkable n k
   walkable-none h = ap (λ (b : Bool). b && rising_below n (positions k.entries)) (sym h) ∙ walkable-sized
 
+  -- nor over too many
+  pub walkable-many : 0 < n → 2 ^ level_limit < n → false ≡ is_walkable n k
+  walkable-many p h = sym (walkable-is ∙ rw (lt-ltb 0 n p, lt-leb n (2 ^ level_limit) h) refl)
+
+  -- nor over fewer than were kept
+  pub walkable-fewer : 0 < n → n ≤ 2 ^ level_limit → n < k.size → false ≡ is_walkable n k
+  walkable-fewer p h u = sym (walkable-is ∙ rw (lt-ltb 0 n p, le-leb n (2 ^ level_limit) h, lt-leb k.size n u) refl)
+
   -- otherwise the shown positions decide
   pub walkable-rest : has_size n k.size ≡ true → rising_below n (positions k.entries) ≡ is_walkable n k
   walkable-rest h = ap (λ (b : Bool). b && rising_below n (positions k.entries)) (sym h) ∙ walkable-sized

@@ -19,7 +19,11 @@ use Rattle.tree.proofs.AncestorLaws.{block_end}
 pub place_value : (k : ℕ) → k < 64 → (1 * 2 ^ k) % 2 ^ 64 ≡ 2 ^ k
 place_value k h = rw (one-mul, mod-eq_of_lt (pow-lt h))
 
--- At the place that the leading zeros leave for its highest digit stands the power of a number.
+-- The leading zeros of a number from 1 on leave a place for its highest digit.
+pub leading_within : (x : ℕ) → 0 < x → x < 2 ^ 64 → count_leading_zeros 64 x ≤ 63
+leading_within x l h = let (j, e, _, _) = leading_top 64 x l h in omega arith
+
+-- At that place stands the power of the number.
 pub power_shift : (x : ℕ) → 0 < x → x < 2 ^ 64 → (1 * 2 ^ (63 - count_leading_zeros 64 x)) % 2 ^ 64 ≡ power x
 power_shift x l h =
     let (j, e, a, b) = leading_top 64 x l h in

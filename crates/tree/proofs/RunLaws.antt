@@ -2,10 +2,11 @@
 use mathlib.Core.Path.{◌≡◌, refl, sym, ◌∙◌, ap}
 use mathlib.Core.List.{List, [], ◌∷◌, ◌++◌, map, flat_map, flatten, append_assoc, map-id, Memᴰ}
 use Prim.Native.Nat.{ℕ, zero, suc, ◌+◌, ◌*◌, ◌≤◌, ◌<◌}
+use native.Mathlib.Numerals.{add-one}
 use native.Mathlib.Omega.{arith}
-use lib.ListN.{length, take, drop, get_or, length-append, length-drop, length-map, get_or-map}
+use lib.ListN.{length, take, drop, get_or, set, length-append, length-drop, length-map, get_or-map}
 use lib.ListN.{get_or-eq_default}
-use lib.Seq.{take-nil, take_at, drop_at, drop-drop, length-take-le}
+use lib.Seq.{take-nil, take-suc, take-suc-set, take_at, drop_at, drop-drop, get_or-drop, length-take-le}
 use Rattle.lists.specs.Lists.{runs}
 use Rattle.lists.proofs.MemberLaws.{each_nil, each-cons}
 use Rattle.hash.specs.Bytes.{AreBytes}
@@ -98,3 +99,10 @@ unfolding runs
 runs_bytes zero k s h = each_nil AreBytes
 runs_bytes (suc n) k s h =
     each-cons AreBytes (take k s) (runs n k (drop k s)) (bytes_take k s h) (runs_bytes n k (drop k s) (bytes_drop k s h))
+
+-- one element more of a run that is copied
+pub copied_step : (r s : List ℕ) (n k : ℕ) → k < length r → n + k < length s → take k r ≡ take k (drop n s)
+    → take (k + 1) (set r k (get_or s (n + k) 0)) ≡ take (k + 1) (drop n s)
+copied_step r s n k h l e =
+    let j : k < length (drop n s) = omega (arith, length-drop n s) in
+    rw (add-one k, take-suc-set r k (get_or s (n + k) 0) h, take-suc (drop n s) k 0 j, get_or-drop n s k 0, e) refl

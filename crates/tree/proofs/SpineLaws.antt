@@ -9,21 +9,23 @@ use native.Mathlib.Omega.{arith}
 use lib.Dec.{ltb}
 use lib.ListN.{length, drop, length-append}
 use lib.Seq.{drop-drop}
+use borrow.Author.Tests.{lt-ltb}
 use Rattle.lists.specs.Lists.{Bytes}
 use Rattle.hash.specs.Bytes.{padded}
 use Rattle.hash.specs.Sha256.{digest_length}
 use Rattle.tree.specs.declared.walk_cursor.WalkCursor.{WalkCursor}
+use Rattle.tree.specs.declared.log_tree.Source.TheVariants.{Shown}
 use Rattle.tree.specs.declared.log_tree.Walked.{Walked}
 use Rattle.tree.specs.SearchTree.{power}
-use Rattle.tree.specs.LogTree.{is_shown, is_full, Walk, given, parent, walk, node_count, width_of}
+use Rattle.tree.specs.LogTree.{LogEntry, is_shown, is_full, Walk, given, parent, walk, node_count, width_of}
 use Rattle.tree.specs.LogTree.{Known, value, full_values}
 use Rattle.tree.specs.LogText.{shown_in}
 use Rattle.tree.specs.LogHead.{block_length, positions}
-use Rattle.tree.specs.LogWalk.{range, position_of, cursor_before, past_node, Ready, Tail, walk_on, end_on}
-use Rattle.tree.specs.LogWalk.{walked_by, walked_on, node_next, parent_by, compared_by, Filled, values_from}
+use Rattle.tree.specs.LogWalk.{range, position_of, cursor_before, past_node, Ready, SourceFacts, Tail, walk_on}
+use Rattle.tree.specs.LogWalk.{end_on, walked_by, walked_on, node_next, parent_by, compared_by, Filled, values_from}
 use Rattle.tree.proofs.WalkCaseLaws.{walks_over, walks_width}
 use Rattle.tree.proofs.WalkValueLaws.{full_values_one, full_values_both}
-use Rattle.tree.proofs.WalkedLaws.{walked-cursor, walked-given, walked-parent}
+use Rattle.tree.proofs.WalkedLaws.{compared_entries, walked-cursor, walked-given, walked-parent}
 use Rattle.tree.proofs.DecisionLaws.{whole_some}
 use Rattle.tree.proofs.WalkLaws.{known, next-shown, next_stays, over_cases, ready_behind}
 use Rattle.tree.proofs.EndLaws.{ends_joined}
@@ -87,6 +89,11 @@ filled_then count a b c t u l f g s e h =
 
 -- ---- what the walk yields
 
+-- where the last entries are a single one, which is shown, the walk takes that step
+pub spine_entry : (m n s w position : ℕ) → s + w ≡ n → w ≡ 1 → position < n
+    → SourceFacts (ltb position (s + w)) m (range s w) Shown
+spine_entry m n s w position e o p = (lt-ltb position (s + w) (omega arith), o)
+
 module _ (vs : List Bytes) (text : Bytes) (ns : List Bytes) {m n s w : ℕ} {c : WalkCursor} (t : Tail n s) (z : w ≡ power (n - s)) (r : Ready text m s c) (h : m ≤ n) where
   -- whether something is shown in the last entries
   tail-shown : is_shown (positions (shown_in text)) (range s (n - s)) ≡ ltb (position_of c.position) n
@@ -126,11 +133,12 @@ module _ (vs : List Bytes) (text : Bytes) (ns : List Bytes) {m n s w : ℕ} {c :
     spine-split q = cut-split t z l m (positions (shown_in text)) h (⊎_elim (λ b. inl (tail-shown ∙ b)) inr q)
 
     -- what they yield, from what the full subtree yields with which they begin and those after it
-    pub spine-cut : (i j x : Walked) → (ltb (position_of c.position) n ≡ true) ⊎ (s < m) → i ≡ walked_on text (known m vs (shown_in text)) ns c.node (range s w)
+    pub spine-cut : (fs : List LogEntry) (i j x : Walked) → (ltb (position_of c.position) n ≡ true) ⊎ (s < m)
+        → i ≡ walked_on text (known m vs (shown_in text)) ns c.node (range s w)
         → j ≡ walked_on text (known m vs (shown_in text)) ns i.cursor.node (range (s + w) (n - (s + w)))
-        → x ≡ compared_by (known m vs (shown_in text)) (range s (w + (n - (s + w)))) (parent_by w i (n - (s + w)) j)
+        → x ≡ compared_by (known m vs fs) (range s (w + (n - (s + w)))) (parent_by w i (n - (s + w)) j)
         → x ≡ walked_on text (known m vs (shown_in text)) ns c.node (range s (n - s))
-    spine-cut i j x q ei ej ex =
+    spine-cut fs i j x q ei ej ex =
         let k : Known = known m vs (shown_in text) in
         let a : Walk = walk_on k (range s w) in
         let b : Walk = walk_on k (range (s + w) (n - (s + w))) in
@@ -139,7 +147,7 @@ module _ (vs : List Bytes) (text : Bytes) (ns : List Bytes) {m n s w : ℕ} {c :
         let f : width_of a ≡ w = walks_width (over_cases m (positions (shown_in text)) s (w) half-some) in
         let g : width_of b ≡ n - (s + w) = walks_width (over_cases m (positions (shown_in text)) (s + w) (n - (s + w)) (omega arith)) in
         let o : w + (n - (s + w)) ≡ n - s = omega arith in
-        ex
+        ex ∙ compared_entries m vs fs (shown_in text) (range s (w + (n - (s + w)))) (parent_by w i (n - (s + w)) j)
         ∙ ap (λ (y : ℕ). compared_by k (range s y) (parent_by w i (n - (s + w)) j)) o
         ∙ ap₂ (λ (y z : ℕ). compared_by k (range s (n - s)) (parent_by y i z j)) (sym f) (sym g)
         ∙ walked-parent text k ns (s + (n - s)) c.node (range s (n - s)) a b (s + w) i j ei (ej ∙ ap₂ (λ (y z : ℕ). walked_by text k ns y z b) e d)
@@ -153,6 +161,14 @@ module _ (vs : List Bytes) (text : Bytes) (ns : List Bytes) {m n s w : ℕ} {c :
 -- ---- where it ends
 
 module _ (text : Bytes) {m n s w : ℕ} {c : WalkCursor} (t : Tail n s) (z : w ≡ power (n - s)) (r : Ready text m s c) (h : m ≤ n) where
+  -- where they are that full subtree it ends after it
+  pub spine-end-block : (a : WalkCursor) → s + w ≡ n
+      → a ≡ end_on text (known m [] (shown_in text)) c.node (range s w)
+      → a ≡ end_on text (known m [] (shown_in text)) c.node (range s (n - s))
+  spine-end-block a e ea =
+      let d : w ≡ n - s = omega arith in
+      ea ∙ ap (λ (j : ℕ). end_on text (known m [] (shown_in text)) c.node (range s j)) d
+
   -- where they are the next node it has passed one node more
   pub spine-end-node : s + w < n → ltb (position_of c.position) n ≡ false → m ≤ s → past_node c ≡ end_on text (known m [] (shown_in text)) c.node (range s (n - s))
   unfolding node_next

@@ -4,12 +4,12 @@ use mathlib.Core.Path.{◌≡◌, refl, sym, ap, ap₂, ◌∙◌}
 use mathlib.Core.Logic.{◌⊎◌, inl, inr, ⊎_elim}
 use mathlib.Core.Bool.{Bool, true, false}
 use mathlib.Core.List.{List, []}
-use Prim.Native.Nat.{ℕ, zero, suc, ◌+◌, ◌-◌, ◌*◌, ◌/◌, ◌^◌, ◌≤◌, ◌<◌}
+use Prim.Native.Nat.{ℕ, zero, suc, ◌+◌, ◌-◌, ◌*◌, ◌/◌, ◌%◌, ◌^◌, ◌≤◌, ◌<◌}
 use native.Mathlib.Nat.{mul-one}
 use native.Mathlib.Omega.{arith}
 use lib.Dec.{ltb}
 use lib.ListN.{length, get_or, drop}
-use borrow.Author.Tests.{ltb-true, ltb-false}
+use borrow.Author.Tests.{eq-eqb, ne_eqb, ltb-true, ltb-false}
 use Rattle.std.proofs.lemmas.Option.{unwrap_or-slice_get}
 use Rattle.lists.specs.Lists.{Bytes}
 use Rattle.hash.specs.Sha256.{sha256}
@@ -33,8 +33,8 @@ use Rattle.tree.proofs.RunLaws.{get_d_any}
 use Rattle.tree.proofs.EntryLineLaws.{offset-within}
 use Rattle.tree.proofs.CursorLaws.{is_shown_lem, below_quiet, below_one, string_at_lem, entry_at}
 use Rattle.tree.proofs.CursorLaws.{length_positions, cursor_next}
-use Rattle.tree.proofs.DecisionLaws.{whole_some}
-use Rattle.tree.proofs.WalkedLaws.{walked-cursor}
+use Rattle.tree.proofs.DecisionLaws.{whole_some, full-taken, full_left}
+use Rattle.tree.proofs.WalkedLaws.{kept_entries, compared_entries, walked-cursor}
 use Rattle.tree.proofs.WalkedLaws.{walked-retained, walked-given, walked-shown, walked-parent}
 
 -- what is known, by its parts
@@ -67,6 +67,20 @@ module _ {t : Bytes} {m s : ℕ} {c : WalkCursor} (r : Ready t m s c) where
 -- a single entry is a block
 pub whole_one : (s : ℕ) → s < 2 ^ level_limit → Whole s 1
 whole_one s h = record { level = 0; number = s; start_is = sym (mul-one s); width_is = refl; small = omega arith }
+
+module _ (m s : ℕ) (b : s < 2 ^ level_limit) where
+  -- it is full where it is the last one of an odd number
+  pub entry-full : s + 1 ≡ m → s % 2 ≡ 0 → is_full m (range s 1) ≡ true
+  entry-full e z = sym (full-taken m s 1 (whole_one s b) (omega arith)) ∙ eq-eqb (s / 1 % 2) 0 (omega arith)
+
+  -- not where it is the last one of an even number
+  pub entry-even : s + 1 ≡ m → (s % 2 ≡ 0 → ⊥) → is_full m (range s 1) ≡ false
+  entry-even e z =
+      sym (full-taken m s 1 (whole_one s b) (omega arith)) ∙ ne_eqb (s / 1 % 2) 0 (λ y. z (omega arith))
+
+  -- nor where it is not the last one
+  pub entry-inner : (s + 1 ≡ m → ⊥) → is_full m (range s 1) ≡ false
+  entry-inner e = sym (full_left m s 1 (whole_one s b) (λ y. e (omega arith)))
 
 module _ (t : Bytes) {m s : ℕ} {c : WalkCursor} (r : Ready t m s c) (b : s < 2 ^ level_limit) (h : position_of c.position < s + 1) where
   passed : (below (positions (shown_in t)) (s + 1) ≡ below (positions (shown_in t)) s + 1) × (below (positions (shown_in t)) s < length (positions (shown_in t)))
@@ -200,11 +214,14 @@ module _ (vs : List Bytes) (text : Bytes) (ns : List Bytes) {m s w : ℕ} {c : W
   block-shown = next-shown r w (omega (arith, h.small))
 
   -- a retained one
-  pub block-retained : (v : Bytes) → SourceFacts (ltb (position_of c.position) (s + w)) m (range s w) Retained → v ≡ kept_value (known m vs (shown_in text)) (range s w)
+  pub block-retained : (fs : List LogEntry) (v : Bytes)
+      → SourceFacts (ltb (position_of c.position) (s + w)) m (range s w) Retained
+      → v ≡ kept_value (known m vs fs) (range s w)
       → record { value = v; cursor = c; met = true } ≡ walked_on text (known m vs (shown_in text)) ns c.node (range s w)
-  block-retained v f e =
+  block-retained fs v f e =
       let x : walk w m (positions (shown_in text)) (range s w) ≡ retained (range s w) = first_step ∙ walk_retained (w - 1) m (positions (shown_in text)) (range s w) (block-shown ∙ f.0) f.1 in
-      walked-retained text (known m vs (shown_in text)) ns (s + w) c.node (range s w) c v (next_stays r w f.0) e
+      walked-retained text (known m vs (shown_in text)) ns (s + w) c.node (range s w) c v (next_stays r w f.0)
+      (e ∙ kept_entries m vs fs (shown_in text) (range s w))
       ∙ ap (walked_by text (known m vs (shown_in text)) ns (s + w) c.node) (sym x)
 
   -- a given one
@@ -232,11 +249,12 @@ module _ (vs : List Bytes) (text : Bytes) (ns : List Bytes) {m s w : ℕ} {c : W
       (walked-cursor text (known m vs (shown_in text)) ns (s + w / 2) c.node (walk (w / 2) m (positions (shown_in text)) (range s (w / 2))) i e)
 
   -- one that splits, from what its halves yield
-  pub block-parent : (i j z : Walked) → SourceFacts (ltb (position_of c.position) (s + w)) m (range s w) Parent
+  pub block-parent : (fs : List LogEntry) (i j z : Walked)
+      → SourceFacts (ltb (position_of c.position) (s + w)) m (range s w) Parent
       → i ≡ walked_on text (known m vs (shown_in text)) ns c.node (range s (w / 2)) → j ≡ walked_on text (known m vs (shown_in text)) ns i.cursor.node (range (s + w / 2) (w / 2))
-      → z ≡ compared_by (known m vs (shown_in text)) (range s (w / 2 + w / 2)) (parent_by (w / 2) i (w / 2) j)
+      → z ≡ compared_by (known m vs fs) (range s (w / 2 + w / 2)) (parent_by (w / 2) i (w / 2) j)
       → z ≡ walked_on text (known m vs (shown_in text)) ns c.node (range s w)
-  block-parent i j z f ei ej ez =
+  block-parent fs i j z f ei ej ez =
       let k : Known = known m vs (shown_in text) in
       let g : 1 < w = f.0 in
       let p : 0 < w / 2 = whole_some (whole-left h g) in
@@ -247,7 +265,7 @@ module _ (vs : List Bytes) (text : Bytes) (ns : List Bytes) {m s w : ℕ} {c : W
       let u : width_of a ≡ w / 2 = walks_width (over_cases m (positions (shown_in text)) s (w / 2) p) in
       let v : width_of b ≡ w / 2 = walks_width (over_cases m (positions (shown_in text)) (s + w / 2) (w / 2) p) in
       let x : walk w m (positions (shown_in text)) (range s w) ≡ parent (range s w) a b = split-whole h g m (positions (shown_in text)) (⊎_elim (λ q. inl (block-shown ∙ q)) inr f.1) in
-      ez
+      ez ∙ compared_entries m vs fs (shown_in text) (range s (w / 2 + w / 2)) (parent_by (w / 2) i (w / 2) j)
       ∙ ap (λ (d : ℕ). compared_by k (range s d) (parent_by (w / 2) i (w / 2) j)) (sym (half_twice h g))
       ∙ ap₂ (λ (d e : ℕ). compared_by k (range s w) (parent_by d i e j)) (sym u) (sym v)
       ∙ walked-parent text k ns (s + w) c.node (range s w) a b (s + w / 2) i j ei (ej ∙ ap₂ (λ (d e : ℕ). walked_by text k ns d e b) t n)

@@ -11,12 +11,26 @@ use Rattle.lists.specs.Lists.{Bytes, same}
 use Rattle.hash.specs.Sha256.{sha256}
 use Rattle.tree.specs.declared.walk_cursor.WalkCursor.{WalkCursor}
 use Rattle.tree.specs.declared.log_tree.Walked.{Walked}
-use Rattle.tree.specs.LogTree.{hash_content, log_parent_string, Range, is_full, Walk, retained}
+use Rattle.tree.specs.LogTree.{LogEntry, hash_content, log_parent_string, Range, is_full, Walk, retained}
 use Rattle.tree.specs.LogTree.{given, shown, parent, node_count, width_of, Known, zeros, kept_value, value}
 use Rattle.tree.specs.LogTree.{agrees, kept_values_met}
 use Rattle.tree.specs.LogWalk.{cursor_before, past_node, walked_by, node_next, parent_by, compared_by}
 
 -- ---- what is kept
+
+-- which entries are shown does not matter to the kept values
+pub kept_entries : (m : ℕ) (vs : List Bytes) (es fs : List LogEntry) (r : Range)
+    → kept_value (record { size = m; values = vs; entries = es }) r
+    ≡ kept_value (record { size = m; values = vs; entries = fs }) r
+unfolding kept_value
+kept_entries m vs es fs r = refl
+
+-- nor to the comparison with them
+pub agrees_entries : (m : ℕ) (vs : List Bytes) (es fs : List LogEntry) (r : Range) (v : Bytes)
+    → agrees (record { size = m; values = vs; entries = es }) r v
+    ≡ agrees (record { size = m; values = vs; entries = fs }) r v
+unfolding agrees kept_value
+agrees_entries m vs es fs r v = refl
 
 module _ (k : Known) (r : Range) (v : Bytes) where
   -- a value of a full subtree is compared
@@ -37,6 +51,13 @@ pub joined_made : (k : Known) (r : Range) (u w : ℕ) (x y : Walked) (a b : ℕ)
     → record { value = v; cursor = y.cursor; met = g && (x.met && y.met) } ≡ compared_by k r (parent_by u x w y)
 unfolding compared_by parent_by log_parent_string hash_content
 joined_made k r u w x y a b v g ea eb ev eg = rw (eg, ev, ea, eb) refl
+
+-- which entries are shown does not matter to it
+pub compared_entries : (m : ℕ) (vs : List Bytes) (es fs : List LogEntry) (r : Range) (x : Walked)
+    → compared_by (record { size = m; values = vs; entries = es }) r x
+    ≡ compared_by (record { size = m; values = vs; entries = fs }) r x
+unfolding compared_by agrees kept_value
+compared_entries m vs es fs r x = refl
 
 -- the next node
 pub node_made : (ns : List Bytes) (c x : WalkCursor) (v : Bytes) → v ≡ get_or ns c.node zeros → x ≡ past_node c → record { value = v; cursor = x; met = true } ≡ node_next ns c

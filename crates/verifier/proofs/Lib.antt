@@ -6,5 +6,6 @@ pub mod HeldLaws
 pub mod ReaderTakenLaws
 pub mod CursorAskedLaws
 pub mod ReaderMadeLaws
+pub mod ReaderPastLaws
 pub mod ReadOnLaws
 pub mod ReadOnExamples

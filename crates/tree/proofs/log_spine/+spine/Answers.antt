@@ -77,7 +77,9 @@ returns-in-Cut t c =
     let text = c.args.log.now.text.now in
     let ns = nodes_in c.args.log.now.nodes.now in
     let f = edge_told _ _ _ _ Cut c.in-Cut.is c.is_before.ensures c.edge_at.ensures in
-    let x = spine-cut _ text ns c.requires.tail.0 c.power-width.ensures c.requires.tail.1 c.requires.tail.2 f.0 _ _ _ f.1 c.subtree-left.ensures c.spine-right.ensures.value c.joined.ensures in
+    let x =
+    spine-cut _ text ns c.requires.tail.0 c.power-width.ensures c.requires.tail.1 c.requires.tail.2 f.0 _ _ _ _ f.1
+    c.subtree-left.ensures c.spine-right.ensures.value c.joined.ensures in
     let v = spine-values _ text ns c.requires.tail.0 c.power-width.ensures c.requires.tail.1 c.requires.tail.2 f.0 _ f.1 c.subtree-left.ensures in
     let p = c.put_value-in-Cut.ensures in
     record { value = x; filled = subst (Filled _ _ _) v (filled_then _ _ _ _ _ _ p.0 p.1 c.spine-right.ensures.filled) }

@@ -34,7 +34,8 @@ unfolding known_in
 returns-in-Retained t c =
     let text = c.args.log.now.text.now in
     let ns = nodes_in c.args.log.now.nodes.now in
-    block-retained _ text ns c.requires.0 c.requires.1 _ (step_told _ _ Retained c.in-Retained.is c.is_before.ensures c.source_at.ensures) c.kept_value-value.ensures
+    block-retained _ text ns c.requires.0 c.requires.1 _ _
+    (step_told _ _ Retained c.in-Retained.is c.is_before.ensures c.source_at.ensures) c.kept_value-value.ensures
 
 pub returns-in-Given : goal.returns-in-Given
 unfolding known_in
@@ -56,4 +57,5 @@ returns-in-Parent t c =
     let text = c.args.log.now.text.now in
     let ns = nodes_in c.args.log.now.nodes.now in
     let f = step_told _ _ Parent c.in-Parent.is c.is_before.ensures c.source_at.ensures in
-    block-parent _ text ns c.requires.0 c.requires.1 _ _ _ f c.subtree-left.ensures c.subtree-right.ensures c.joined.ensures
+    block-parent _ text ns c.requires.0 c.requires.1 _ _ _ _ f c.subtree-left.ensures c.subtree-right.ensures
+    c.joined.ensures

@@ -9,8 +9,8 @@ use lib.ListN.{length}
 use Rattle.std.proofs.lemmas.List.{take-replicate}
 use Rattle.tree.specs.SearchTree.{frontier, frontier_capacity}
 use Rattle.tree.proofs.FrontierLaws.{frontier_length}
-use Rattle.tree.proofs.FrontierFillLaws.{Storing, storing_start, storing_length, storing_whole}
-use Rattle.tree.proofs.FrontierFillLaws.{storing-more, storing-next}
+use Rattle.tree.proofs.FrontierFillLaws.{StoringOnes, storing_ones_start, storing_ones_length}
+use Rattle.tree.proofs.FrontierFillLaws.{storing_ones_whole, storing-ones-more, storing-ones-next}
 use Rattle.tree.proofs.search_tree.Frontier.of.Goals as goal
 
 pub overflow_add-from : goal.overflow_add-from
@@ -18,11 +18,11 @@ overflow_add-from c =
     let n = c.args.tree_size in
     let turn = c.loop-slot in
     let w : turn.slot-index < length (frontier n) =
-    omega (arith, storing_length n turn.from turn.slot-index turn.slot-items turn.invariant, frontier_length n) in
+    omega (arith, storing_ones_length n turn.from turn.slot-index turn.slot-items turn.invariant, frontier_length n) in
     omega (
       arith,
       c.next_on_frontier-position.ensures,
-      storing-more n turn.slot-items turn.from turn.slot-index turn.invariant w,
+      storing-ones-more n turn.slot-items turn.from turn.slot-index turn.invariant w,
       c.ranges.tree_size.fits,
     )
 
@@ -31,19 +31,20 @@ loop-slot-preserved c =
     let n = c.args.tree_size in
     let turn = c.loop-slot in
     let w : turn.slot-index < length (frontier n) =
-    omega (arith, storing_length n turn.from turn.slot-index turn.slot-items turn.invariant, frontier_length n) in
-    rw c.next_on_frontier-position.ensures (storing-next n turn.slot-items turn.from turn.slot-index turn.invariant w)
+    omega (arith, storing_ones_length n turn.from turn.slot-index turn.slot-items turn.invariant, frontier_length n) in
+    rw c.next_on_frontier-position.ensures
+    (storing-ones-next n turn.slot-items turn.from turn.slot-index turn.invariant w)
 
 pub loop-slot-init : goal.loop-slot-init
 loop-slot-init c =
     let n = c.args.tree_size in
-    subst (λ (l : List ℕ). Storing n l 0 0)
-    (sym (take-replicate (ones n) frontier_capacity 0 (ones-le 64 n c.ranges.tree_size.fits))) (storing_start n)
+    subst (λ (l : List ℕ). StoringOnes n l 0 0)
+    (sym (take-replicate (ones n) frontier_capacity 0 (ones-le 64 n c.ranges.tree_size.fits))) (storing_ones_start n)
 
 pub returns : goal.returns
 returns c =
     let n = c.args.tree_size in (
-      storing_whole n c.loop-slot.from c.loop-slot.slot-index c.loop-slot.slot-items
+      storing_ones_whole n c.loop-slot.from c.loop-slot.slot-index c.loop-slot.slot-items
           c.ranges.tree_size.fits c.loop-slot.invariant (omega arith),
       sym (frontier_length n),
     )
