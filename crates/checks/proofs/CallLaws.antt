@@ -1,6 +1,6 @@
 -- Laws of a whole call (specs/Calls.antt): what it is given is read, and then tried; and what comes
 -- back.
-use mathlib.Core.Path.{◌≡◌, refl}
+use mathlib.Core.Path.{◌≡◌, refl, sym, ap, ◌∙◌}
 use mathlib.Core.Option.{Option, some, Option-elim}
 use Prim.Native.Nat.{ℕ, ◌+◌}
 use lib.ListN.{length, take, drop}
@@ -14,11 +14,13 @@ use Rattle.rules.proofs.NextStateLaws.{state_valid}
 use Rattle.inputs.specs.declared.state.State.{State as StateBlock}
 use Rattle.inputs.specs.State.{state_of}
 use Rattle.inputs.proofs.StateBlockLaws.{block_state}
-use Rattle.std.specs.Prelude.{Ok, Err, Result, MatchResult, IsErrAnd}
+use Rattle.std.specs.Prelude.{Ok, Err, Some, Result, MatchResult, IsErrAnd}
 use Rattle.inputs.specs.declared.refusal.Refusal.{Refusal}
 use Rattle.inputs.specs.declared.state.Refused.{Refused}
 use Rattle.checks.specs.declared.call.Accepted.{Accepted}
-use Rattle.checks.specs.Calls.{block_after, answer_of, answer_in, answer_from}
+use Rattle.checks.specs.declared.call.Found.{Found}
+use Rattle.checks.proofs.AfterCallLaws.{accepted_state}
+use Rattle.checks.specs.Calls.{Answer, block_after, answer_of, answer_in, answer_from}
 
 -- ---- the answer
 
@@ -56,3 +58,33 @@ pub value_shown : (b : StateBlock) (output : Bytes) (j : Judgement) (v : Bytes) 
     → take (answer_of b j).length (output_after output j) ≡ v
 unfolding answer_of output_after written_first written Option-elim
 value_shown b output j v e = rw e (take_at v (drop (0 + length v) output) (length v) refl)
+
+-- ---- the same of what the code answers, which is joined to the answer by `answer_in`
+
+-- the state in an acceptance is the one answered
+accepted_after : (x : Accepted) → (answer_in (Ok x)).state ≡ x.state
+unfolding answer_in
+accepted_after x = accepted_state x.state x.found
+
+-- so the state in an acceptance stands for the state that the rules give
+pub accepted_stands : (kind : Option Kind) (b : StateBlock) (a : Arguments) (signed : Bytes) (room : ℕ) (x : Accepted)
+    → let j = judge_call kind (state_of b) a signed room in answer_in (Ok x) ≡ answer_of b j
+    → state_of x.state ≡ state_after (state_of b) j
+accepted_stands kind b a signed room x e =
+    ap state_of (sym (accepted_after x) ∙ ap (λ (y : Answer). y.state) e) ∙ answer_state kind b a signed room
+
+-- and so does the one in a refusal
+pub refused_stands : (kind : Option Kind) (b : StateBlock) (a : Arguments) (signed : Bytes) (room : ℕ) (x : Refused)
+    → let j = judge_call kind (state_of b) a signed room in answer_in (Err x) ≡ answer_of b j
+    → state_of x.state ≡ state_after (state_of b) j
+unfolding answer_in
+refused_stands kind b a signed room x e =
+    ap (λ (y : Answer). state_of y.state) e ∙ answer_state kind b a signed room
+
+-- the part of the output that an acceptance tells is the value
+pub found_shown : (b : StateBlock) (output : Bytes) (j : Judgement) (v : Bytes) (s : StateBlock) (f : Found)
+    → answer_in (Ok (record { state = s; found = Some f })) ≡ answer_of b j → value_of j ≡ some v
+    → take f.length (output_after output j) ≡ v
+unfolding answer_in
+found_shown b output j v s f e h =
+    ap (λ (y : Answer). take y.length (output_after output j)) e ∙ value_shown b output j v h
