@@ -1,7 +1,7 @@
 // What comes of the files: an acceptance is written and then printed, a refusal printed and
 // explained.
 use crate::refusals::explain;
-use crate::writing::{Failure, print, write_file};
+use crate::writing::{Told, print, write_file};
 use inputs::state::State;
 use std::rt::Files;
 use verifier::files::{Outcome, check_files};
@@ -41,14 +41,10 @@ pub(crate) fn judge(
                 Some(length) => Some(&value[..length]),
                 None => None,
             };
-            if let Err(failure) = accept(rt, line, value, &text[..written.text]) {
-                failure.tell(rt);
-            }
+            let _ = accept(rt, line, value, &text[..written.text]);
         }
         Err(refusal) => {
-            if let Err(failure) = print(rt, line) {
-                failure.tell(rt);
-            }
+            let _ = print(rt, line);
             explain(rt, refusal, response);
         }
     }
@@ -56,11 +52,11 @@ pub(crate) fn judge(
 
 // Writes the value, if there is one, and then the new state; prints the line once both are there.
 fn accept(
-    rt: &(impl Files + Print),
+    rt: &(impl Files + Print + Eprint),
     line: &[u8],
     value: Option<&[u8]>,
     text: &[u8],
-) -> Result<(), Failure> {
+) -> Result<(), Told> {
     if let Some(value) = value {
         write_file(rt, "value", "value.part", value)?;
     }
